@@ -1,0 +1,63 @@
+-- The stations that a test asks about, station by station.
+use Rattle.std.proofs.Common.{◌≡◌, ◌∙◌, ℕ, ◌+◌, ◌<◌, Bool, nat_lt, ◌&&◌, true, false, cond, ◌||◌, eqb, List, [], ◌∷◌, ◌++◌, length, map, take, get_or, refl, sym, ap, subst, arith}
+use Rattle.std.proofs.Common.{inl, inr, ltb-true}
+use Rattle.std.proofs.lemmas.Bool.{and_from, or_cases, or_left, or_right, lt-ltb, eq-eqb}
+use Rattle.std.proofs.lemmas.List.{append-nil, length-map}
+use Rattle.pack_defs.specs.declared.scenario.Scenario.{Scenario}
+use Rattle.pack_defs.specs.declared.station.Station.{Station}
+use Rattle.pack_defs.specs.Scenario.{facilities}
+use Rattle.auction_cmd.specs.declared.clock.Standing.{Standing}
+use Rattle.pack_defs.specs.Scenario.{StationsAscend}
+use Rattle.pack_defs.specs.Lists.{is_ascending, is_in}
+use Rattle.pack_defs.proofs.Words.{ascending-from, ascending-rest, below-later}
+use Rattle.auction_cmd.specs.Clock.{asked_by, stands_on_air, stations_by}
+use Rattle.auction_cmd.proofs.ClockLemmas.{facility_at, stations_by_more}
+
+next : (s : ℕ) (sc : Scenario) (v : List Standing) (i : ℕ) (x : Station) (y : Standing) (b : Bool) → i < length sc.stations → length v ≡ length sc.stations → b ≡ (stands_on_air (get_or v i y) || (eqb (get_or sc.stations i x).id s)) → asked_by s (take (i + 1) (facilities sc)) (take (i + 1) v) ≡ asked_by s (take i (facilities sc)) (take i v) ++ cond b ((get_or sc.stations i x).id ∷ []) []
+next s sc v i x y b h same is =
+    let fs : length (facilities sc) ≡ length sc.stations = length-map sc.stations (λ (x : Station). x.id) in
+    let here : i < length (facilities sc) = omega arith in
+    let there : i < length v = omega arith in
+    stations_by_more (λ f z. stands_on_air z || (eqb f s)) (facilities sc) v i y here there
+    ∙ rw (facility_at sc i x h, ← is) refl
+
+-- a station more that isn't asked about
+pub asked-passed : (s : ℕ) (sc : Scenario) (v : List Standing) (i : ℕ) (x : Station) (y : Standing) → i < length sc.stations → length v ≡ length sc.stations → false ≡ (stands_on_air (get_or v i y) || (eqb (get_or sc.stations i x).id s)) → asked_by s (take (i + 1) (facilities sc)) (take (i + 1) v) ≡ asked_by s (take i (facilities sc)) (take i v)
+asked-passed s sc v i x y h same is = next s sc v i x y false h same is ∙ append-nil _
+
+-- a station more that is
+pub asked-taken : (s : ℕ) (sc : Scenario) (v : List Standing) (i : ℕ) (x : Station) (y : Standing) → i < length sc.stations → length v ≡ length sc.stations → true ≡ (stands_on_air (get_or v i y) || (eqb (get_or sc.stations i x).id s)) → asked_by s (take (i + 1) (facilities sc)) (take (i + 1) v) ≡ asked_by s (take i (facilities sc)) (take i v) ++ (get_or sc.stations i x).id ∷ []
+asked-taken s sc v i x y h same is = next s sc v i x y true h same is
+
+-- a number below all of an ascending list may stand before it
+before : (f : ℕ) (xs : List ℕ) → ((y : ℕ) → is_in xs y ≡ true → f < y) → is_ascending xs ≡ true → is_ascending (f ∷ xs) ≡ true
+before f [] below a = refl
+before f (x ∷ xs) below a = and_from (nat_lt f x) (is_ascending (x ∷ xs)) (lt-ltb f x (below x (or_left (eqb x x) (is_in xs x) (eq-eqb x x refl)))) a
+
+-- the stations that pass are among all
+stations_by-in : (p : ℕ → Standing → Bool) (fs : List ℕ) (xs : List Standing) (y : ℕ) → is_in (stations_by p fs xs) y ≡ true → is_in fs y ≡ true
+stations_by-in p [] xs y h = h
+stations_by-in p (f ∷ fs) [] y h = cc
+stations_by-in p (f ∷ fs) (x ∷ xs) y h =
+    (elim (p f x) as (λ b. is_in (cond b (f ∷ stations_by p fs xs) (stations_by p fs xs)) y ≡ true → is_in (f ∷ fs) y ≡ true) [
+      | true ↦ λ k. elim (or_cases (eqb f y) (is_in (stations_by p fs xs) y) k) [
+        | inl here ↦ or_left (eqb f y) (is_in fs y) here
+        | inr there ↦ or_right (eqb f y) (is_in fs y) (stations_by-in p fs xs y there)
+      ]
+      | false ↦ λ k. or_right (eqb f y) (is_in fs y) (stations_by-in p fs xs y k)
+    ]) h
+
+-- and they ascend as all do
+stations_by-ascend : (p : ℕ → Standing → Bool) (fs : List ℕ) (xs : List Standing) → is_ascending fs ≡ true → is_ascending (stations_by p fs xs) ≡ true
+stations_by-ascend p [] xs a = refl
+stations_by-ascend p (f ∷ fs) [] a = refl
+stations_by-ascend p (f ∷ fs) (x ∷ xs) a =
+    let rest = stations_by-ascend p fs xs (ascending-rest f fs a) in
+    elim (p f x) as (λ b. is_ascending (cond b (f ∷ stations_by p fs xs) (stations_by p fs xs)) ≡ true) [
+      | true ↦ before f (stations_by p fs xs) (λ y there. below-later f fs y a (stations_by-in p fs xs y there)) rest
+      | false ↦ rest
+    ]
+
+-- the stations that a test asks about ascend
+pub asked-ascend : (s : ℕ) (sc : Scenario) (v : List Standing) → StationsAscend sc → is_ascending (asked_by s (facilities sc) v) ≡ true
+asked-ascend s sc v ascend = stations_by-ascend (λ f z. stands_on_air z || (eqb f s)) (facilities sc) v (ascending-from (facilities sc) ascend)

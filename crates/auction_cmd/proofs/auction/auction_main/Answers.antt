@@ -1,0 +1,18 @@
+use Rattle.std.proofs.Common.{◌≡◌, ◌∙◌, sym, ap, subst}
+use Rattle.std.specs.Prelude.{Option, Some, Err}
+use Rattle.auction_cmd.specs.Words.{RunNames, names_seen}
+use Rattle.auction_cmd.proofs.StopLemmas.{refused-only, read-surely}
+use Rattle.auction_cmd.proofs.auction.auction_main.Goals as goal
+
+some_same : (a b : RunNames) → Some a ≡ Some b → a ≡ b
+some_same a b e = cc
+
+pub returns-in-Err-clause-surely_read : goal.returns-in-Err-clause-surely_read
+returns-in-Err-clause-surely_read g c = λ files names told is steady there.
+    let same : names_seen c.in-Some.names ≡ names = some_same _ _ (rw c.in-Some.is at c.names_of.ensures ∙ is) in
+    read-surely _ files _ names c.in-Err.stop _ same (c.in-Err.ensures.told files told) c.explain.ensures.stopped steady there
+
+pub returns-in-Err-clause-refused : goal.returns-in-Err-clause-refused
+returns-in-Err-clause-refused g c = λ files names told is five.
+    let same : names_seen c.in-Some.names ≡ names = some_same _ _ (rw c.in-Some.is at c.names_of.ensures ∙ is) in
+    refused-only _ files _ names c.in-Err.stop _ _ _ _ _ same (c.in-Err.ensures.told files told) c.explain.ensures.stopped c.explain.ensures.refused five

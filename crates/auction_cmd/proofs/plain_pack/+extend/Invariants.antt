@@ -1,0 +1,14 @@
+use Rattle.std.proofs.Common.{length, ◌≡◌, true, take}
+use Rattle.pack_defs.specs.Packing.{is_apart}
+use Rattle.auction_cmd.specs.PlainPack.{NoneExtendsBy}
+use Rattle.auction_cmd.proofs.plain_pack.+extend.Given as goal
+
+abbrev pub decreases-extend : goal.decreases-extend
+decreases-extend l = length l.left.now
+
+abbrev pub invariant-loop-channel : goal.invariant-loop-channel
+invariant-loop-channel l = record {
+  chosen : l.chosen.items ≡ l.fn.chosen.items;
+  apart : is_apart l.book l.fn.chosen.items ≡ true;
+  none : NoneExtendsBy l.book l.fn.chosen.items l.station (take l.channel-index l.channel-items) l.others;
+}

@@ -1,0 +1,11 @@
+pub mod Auction
+pub mod Backed
+pub mod Clock
+pub mod Inputs
+pub mod Joined
+pub mod PlainPack
+pub mod PlainRule
+pub mod ResultText
+pub mod Says
+pub mod ScenarioOf
+pub mod Words

@@ -1,0 +1,202 @@
+//! Where each station stands while the clock runs.
+
+ghost use Rattle.std.specs.Prelude.{◌≡◌, ◌<◌, ◌≤◌, IfOk, length, slice_index, slice_index_or, slice_set};
+ghost use Rattle.pack_defs.specs.Scenario.{IsWithinLimits, facilities};
+ghost use Rattle.pack_defs.specs.Prices.{last_round, prices};
+ghost use Rattle.pack_defs.specs.ClockRule.{exits, opening_state};
+ghost use Rattle.auction_cmd.specs.Clock.{AreStandings, answered_standing, declines_offer, opening_standing, stands_active};
+
+use crate::offer_sched::{last_round, offer};
+use pack_defs::scenario::Scenario;
+use pack_defs::station::Station;
+use std::alloc::{AllocError as NoMemory, Global};
+use std::marker::Model;
+
+/// Where a station stands.
+#[derive(Clone, Copy, Debug, PartialEq, Eq)]
+pub enum Standing {
+    /// It is still asked.
+    Active,
+    /// It has been on air since this round; 0 is the start.
+    OnAir { round: u32 },
+    /// It was frozen in this round, and is paid this price, in cents.
+    Frozen { round: u32, price: u64 },
+}
+
+/// Where each station of a scenario stands, in the scenario's order.
+#[derive(Debug, Drop)]
+pub struct Clock {
+    standings: Vec<Standing>,
+}
+
+impl Model for Clock {
+    ghost use Rattle.std.specs.Prelude.{List};
+    ghost use Rattle.auction_cmd.specs.declared.clock.Standing.{Standing};
+
+    ghost Value = { List Standing };
+
+    ghost view = { λ c. c.standings.items };
+}
+
+// Whether the station would sooner stay on air than take this offer, in cents: it has no value, or one above it.
+fn declines(station: &Station, offer: u64) -> bool
+    ensures { result ≡ declines_offer offer station.now }
+{
+    match station.value {
+        Some(value) => offer < value,
+        None => true,
+    }
+}
+
+// Where a station stands once the clock opens at this price, in cents per unit of volume.
+fn opening(price: u32, station: &Station) -> Standing
+    ensures { result ≡ opening_standing price station.now }
+{
+    if declines(station, u64::from(price) * u64::from(station.volume)) {
+        return Standing::OnAir { round: 0 };
+    }
+    Standing::Active
+}
+
+// Whether the station at this place, where its test of this round fits, goes on air.
+fn exits(sc: &Scenario, schedule: &[u32], i: usize, round: u32) -> bool
+    requires limits { IsWithinLimits sc.now }
+    requires schedule { schedule.now ≡ prices sc.now }
+    requires place { i < length sc.now.stations }
+    requires round { round ≤ last_round sc.now }
+    ensures { result ≡ exits sc.now (record { round = round; station = slice_index (facilities sc.now) i }) }
+{
+    let station = &sc.stations.as_slice()[i];
+    round == last_round(sc) || declines(station, offer(schedule, station.volume, round))
+}
+
+impl Clock {
+    /// The clock before its first round: a station that declines the opening offer is on air since round 0, and every
+    /// other one is active. The only error is want of memory.
+    pub fn open(alloc: Global, sc: &Scenario) -> Result<Clock, NoMemory>
+        requires { IsWithinLimits sc.now }
+        ensures { IfOk result (λ clock. AreStandings sc.now (opening_state sc.now) clock) }
+    {
+        let stations = sc.stations.as_slice();
+        let mut standings = Vec::with_capacity(alloc, stations.len())?;
+        for station in stations {
+            standings.push(opening(sc.opening, station))?;
+        }
+        Ok(Clock { standings })
+    }
+
+    /// Where each station stands, in the scenario's order.
+    pub fn standings(&self) -> &[Standing]
+        ensures { result.now ≡ self.now }
+    {
+        &self.standings
+    }
+
+    /// Whether the station at this place is still asked.
+    pub fn is_active(&self, i: usize) -> bool
+        requires { i < length self.now }
+        ensures { result ≡ stands_active (slice_index_or self.now i Standing.Active) }
+    {
+        match self.standings[i] {
+            Standing::Active => true,
+            _ => false,
+        }
+    }
+
+    /// The station at this place goes on air in this round.
+    pub fn air(&mut self, i: usize, round: u32)
+        requires { i < length self.old }
+        ensures { self.new ≡ slice_set self.old i (Standing.OnAir round) }
+    {
+        self.standings[i] = Standing::OnAir { round };
+    }
+
+    /// The station at this place is frozen in this round, at this price, in cents.
+    pub fn freeze(&mut self, i: usize, round: u32, price: u64)
+        requires { i < length self.old }
+        ensures { self.new ≡ slice_set self.old i (Standing.Frozen round price) }
+    {
+        self.standings[i] = Standing::Frozen { round, price };
+    }
+
+    /// The active station at this place, once its test of this round is answered: one that fits goes on air in the last
+    /// round, or where it declines the round's offer; one that doesn't is frozen at the offer of one round before.
+    pub fn settle(&mut self, sc: &Scenario, schedule: &[u32], i: usize, round: u32, fits: bool)
+        requires limits { IsWithinLimits sc.now }
+        requires schedule { schedule.now ≡ prices sc.now }
+        requires place { i < length sc.now.stations }
+        requires stations { length self.old ≡ length sc.now.stations }
+        requires active { slice_index_or self.old i Standing.Active ≡ Standing.Active }
+        requires begun { 1 ≤ round }
+        requires round { round ≤ last_round sc.now }
+        ensures { self.new ≡ slice_set self.old i
+            (answered_standing sc.now (record { round = round; station = slice_index (facilities sc.now) i }) fits) }
+    {
+        if fits {
+            if exits(sc, schedule, i, round) {
+                self.air(i, round);
+            }
+            return;
+        }
+        let volume = sc.stations.as_slice()[i].volume;
+        self.freeze(i, round, offer(schedule, volume, round - 1));
+    }
+}
+
+#[cfg(test)]
+mod tests {
+    use super::*;
+    use crate::offer_sched::schedule;
+    use pack_defs::items::Items;
+    use pack_defs::worker::{Kind, Worker};
+    use std::test::Fail;
+
+    // A station of volume 2 that takes 60 cents, and one that takes none.
+    fn two_stations(alloc: Global) -> Result<Scenario, NoMemory>
+        ensures { IfOk result (λ sc. IsWithinLimits sc) }
+    {
+        let first = Station {
+            id: 3,
+            volume: 2,
+            value: Some(60),
+        };
+        let second = Station {
+            id: 8,
+            volume: 1,
+            value: None,
+        };
+        let worker = Worker {
+            kind: Kind::Cdcl,
+            budget: 9,
+            seed: 1,
+        };
+        Ok(Scenario {
+            version: 1,
+            top: 16,
+            opening: 100,
+            decrements: Items::from_vec(vec![in alloc; 70]?),
+            stations: Items::from_vec(vec![in alloc; first, second]?),
+            workers: Items::from_vec(vec![in alloc; worker]?),
+        })
+    }
+
+    // An offer equal to the value is taken, and a test that doesn't fit pays the offer of the round before.
+    #[test]
+    fn opens_and_settles(rt: HostRuntime) -> Result<(), Fail> {
+        let alloc = rt.alloc();
+        let sc = two_stations(alloc)?;
+        let prices = schedule(alloc, &sc)?;
+        let mut clock = Clock::open(alloc, &sc)?;
+        let opened = [Standing::Active, Standing::OnAir { round: 0 }];
+        assert_eq!(rt; clock.standings(), opened.as_slice());
+        clock.settle(&sc, &prices, 0, 1, true);
+        assert!(rt; clock.is_active(0));
+        clock.settle(&sc, &prices, 0, 2, false);
+        let frozen = Standing::Frozen {
+            round: 2,
+            price: 60,
+        };
+        assert_eq!(rt; clock.standings()[0], frozen);
+        Ok(())
+    }
+}

@@ -1,0 +1,15 @@
+//! The auction from files to result.
+#![tactic(auto)]
+
+pub mod auction;
+pub mod clock;
+pub mod inputs;
+pub mod join;
+pub mod offer_sched;
+pub mod plain_pack;
+pub mod plain_rule;
+pub mod record;
+pub mod result_text;
+mod says;
+pub mod scenario_json;
+pub mod words;

@@ -1,0 +1,59 @@
+//! Whether a set of stations fits, by a plain depth-first search without a budget.
+
+ghost use Rattle.std.specs.Prelude.{◌≡◌, ◌&&◌, not, true, IfOk, IsTrue, IsFalse, MatchOption, MatchBool};
+ghost use Rattle.std.specs.List.{list_all};
+ghost use Rattle.pack_defs.specs.Lists.{is_ascending};
+ghost use Rattle.pack_defs.specs.Book.{is_forbidden};
+ghost use Rattle.pack_defs.specs.Packing.{IsPacking, fits, is_apart};
+ghost use Rattle.auction_cmd.specs.PlainPack.{Extends, NoneExtends, stands_with};
+
+use pack_defs::book::Book;
+use pack_defs::channel_map::ChannelMap;
+use std::alloc::{AllocError as NoMemory, Global};
+
+/// A clean map of exactly these stations, or `None` where there is none. The only error is want of memory.
+pub fn fits(alloc: Global, book: &Book, set: &[u32]) -> Result<Option<ChannelMap>, NoMemory>
+    requires { IsTrue (is_ascending set.now) }
+    ensures { IfOk result (λ found. MatchOption found (IsFalse (fits book.now set.now)) (IsPacking book.now set.now)) }
+{
+    let mut chosen = Vec::new(alloc);
+    if !extend(book, set, &mut chosen)? {
+        return Ok(None);
+    }
+    Ok(Some(ChannelMap::of(alloc, &chosen)?))
+}
+
+// Gives each of the stations left a channel beside those chosen, or leaves the chosen ones where it can't.
+fn extend(book: &Book, left: &[u32], chosen: &mut Vec<(u32, u8)>) -> Result<bool, NoMemory>
+    requires { is_apart book.now chosen.old.items ≡ true }
+    ensures { IfOk result (λ found. MatchBool found
+        (Extends book.now chosen.old.items left.now chosen.new.items)
+        ((chosen.new.items ≡ chosen.old.items) × NoneExtends book.now chosen.old.items left.now)) }
+{
+    let Some((station, others)) = left.split_first() else {
+        return Ok(true);
+    };
+    for channel in book.domain(*station) {
+        if !stands(book, chosen, *station, *channel) {
+            continue;
+        }
+        chosen.push((*station, *channel))?;
+        if extend(book, others, chosen)? {
+            return Ok(true);
+        }
+        chosen.pop();
+    }
+    Ok(false)
+}
+
+// Whether the station on this channel stands beside those chosen.
+fn stands(book: &Book, chosen: &[(u32, u8)], station: u32, channel: u8) -> bool
+    ensures { result ≡ stands_with book.now chosen.now (station, channel) }
+{
+    for x in chosen {
+        if book.forbids(station, channel, x.0, x.1) {
+            return false;
+        }
+    }
+    !book.forbids(station, channel, station, channel)
+}

@@ -1,0 +1,225 @@
+//! The clock rule, carried out on one thread: each test is asked of a plain search.
+
+ghost use Rattle.std.specs.Prelude.{◌≡◌, ◌<◌, ◌≤◌, ◌||◌, ◌==◌, [], IfOk, IsTrue, length, ◌+◌, slice_index, slice_index_or};
+ghost use Rattle.pack_defs.specs.Scenario.{IsWithinLimits, facilities};
+ghost use Rattle.pack_defs.specs.Packing.{IsPacking};
+ghost use Rattle.pack_defs.specs.Prices.{last_round, prices, start_set};
+ghost use Rattle.pack_defs.specs.ClockRule.{clock_rule, clock_tests, on_air_set};
+ghost use Rattle.auction_cmd.specs.Backed.{IsBacked, shows_room};
+ghost use Rattle.auction_cmd.specs.Clock.{asked_by, stands_on_air};
+ghost use Rattle.auction_cmd.specs.PlainRule.{AnswersTest, IsCourse, map_after, paid, tests_before};
+
+use crate::clock::{Clock, Standing};
+use crate::offer_sched::{last_round, offer, schedule};
+use crate::plain_pack::fits;
+use crate::record::{Ending, Record, Shown, Step};
+use pack_defs::book::Book;
+use pack_defs::channel_map::ChannelMap;
+use pack_defs::items::Items;
+use pack_defs::scenario::Scenario;
+use pack_defs::station::Station;
+use std::alloc::{AllocError as NoMemory, Global};
+
+// Whether a test of `s` is about this station.
+fn is_asked(standing: &Standing, station: u32, s: u32) -> bool
+    ensures { result ≡ (stands_on_air standing.now || (station == s)) }
+{
+    match standing {
+        Standing::OnAir { .. } => true,
+        _ => station == s,
+    }
+}
+
+// The stations on air, and `s`, ascending.
+fn asked(alloc: Global, sc: &Scenario, clock: &Clock, s: u32) -> Result<Vec<u32>, NoMemory>
+    requires { length clock.now ≡ length sc.now.stations }
+    ensures { IfOk result (λ set. set.items ≡ asked_by s (facilities sc.now) clock.now) }
+{
+    let stations = sc.stations.as_slice();
+    let standings = clock.standings();
+    let mut set = Vec::new(alloc);
+    for i in 0..stations.len() {
+        if !is_asked(&standings[i], stations[i].id, s) {
+            continue;
+        }
+        set.push(stations[i].id)?;
+    }
+    Ok(set)
+}
+
+// Settles the test of station `s` beside those on air.
+fn ask(alloc: Global, sc: &Scenario, book: &Book, clock: &Clock, s: u32) -> Result<Shown, NoMemory>
+    requires limits { IsWithinLimits sc.now }
+    requires each { length clock.now ≡ length sc.now.stations }
+    ensures { IfOk result (AnswersTest book.now (asked_by s (facilities sc.now) clock.now) s) }
+{
+    if book.domain(s).is_empty() {
+        return Ok(Shown::NoChannel(s));
+    }
+    let set = asked(alloc, sc, clock, s)?;
+    match fits(alloc, book, &set)? {
+        Some(map) => Ok(Shown::Fits(map)),
+        None => Ok(Shown::Unfit),
+    }
+}
+
+// The auction between two tests: where each station stands, the map of those on air, the steps so far, and what the
+// frozen ones are paid together.
+#[derive(Drop)]
+struct Course {
+    clock: Clock,
+    map: ChannelMap,
+    steps: Vec<Step>,
+    total: u64,
+}
+
+// The map once a station stands so.
+fn moved(
+    alloc: Global,
+    map: ChannelMap,
+    standing: &Standing,
+    shown: &Shown,
+) -> Result<ChannelMap, NoMemory>
+    ensures { IfOk result (λ new. new ≡ map_after map standing.now shown.now) }
+{
+    match (standing, shown) {
+        (Standing::OnAir { .. }, Shown::Fits(delta)) => map.overlay(alloc, delta),
+        _ => Ok(map),
+    }
+}
+
+fn paid(standing: &Standing) -> u64
+    ensures { result ≡ paid standing.now }
+{
+    match standing {
+        Standing::Frozen { price, .. } => *price,
+        _ => 0,
+    }
+}
+
+// Whether the verdict says that the test's set fits.
+fn shows_room(shown: &Shown) -> bool
+    ensures { result ≡ shows_room shown.now }
+{
+    matches!(shown, Shown::Empty | Shown::Fits(_))
+}
+
+// The course after the test of the station at this place in this round; one that isn't active isn't asked.
+fn step(
+    alloc: Global,
+    sc: &Scenario,
+    book: &Book,
+    schedule: &[u32],
+    round: u32,
+    i: usize,
+    course: Course,
+) -> Result<Course, NoMemory>
+    requires limits { IsWithinLimits sc.now }
+    requires schedule { schedule.now ≡ prices sc.now }
+    requires begun { 1 ≤ round }
+    requires round { round ≤ last_round sc.now }
+    requires place { i < length sc.now.stations }
+    requires before { IsCourse sc.now book.now (tests_before sc.now round i) course }
+    ensures { IfOk result (IsCourse sc.now book.now (tests_before sc.now round (i + 1))) }
+{
+    if !course.clock.is_active(i) {
+        return Ok(course);
+    }
+    let station = sc.stations.as_slice()[i].id;
+    let shown = ask(alloc, sc, book, &course.clock, station)?;
+    let Course {
+        mut clock,
+        map,
+        mut steps,
+        total,
+    } = course;
+    clock.settle(sc, schedule, i, round, shows_room(&shown));
+    let standing = clock.standings()[i];
+    let map = moved(alloc, map, &standing, &shown)?;
+    steps.push(Step {
+        round,
+        station,
+        shown,
+    })?;
+    Ok(Course {
+        clock,
+        map,
+        steps,
+        total: total + paid(&standing),
+    })
+}
+
+// The course after a round's tests.
+fn round_of(
+    alloc: Global,
+    sc: &Scenario,
+    book: &Book,
+    schedule: &[u32],
+    round: u32,
+    course: Course,
+) -> Result<Course, NoMemory>
+    requires limits { IsWithinLimits sc.now }
+    requires schedule { schedule.now ≡ prices sc.now }
+    requires begun { 1 ≤ round }
+    requires round { round ≤ last_round sc.now }
+    requires before { IsCourse sc.now book.now (tests_before sc.now round 0) course }
+    ensures { IfOk result (IsCourse sc.now book.now (tests_before sc.now (round + 1) 0)) }
+{
+    let mut course = course;
+    for i in 0..sc.stations.as_slice().len() {
+        course = step(alloc, sc, book, schedule, round, i, course)?;
+    }
+    Ok(course)
+}
+
+// The course after every test.
+fn whole_course(alloc: Global, sc: &Scenario, book: &Book) -> Result<Course, NoMemory>
+    requires limits { IsWithinLimits sc.now }
+    requires start { start_set sc.now ≡ [] }
+    ensures { IfOk result (IsCourse sc.now book.now (clock_tests sc.now)) }
+{
+    let schedule = schedule(alloc, sc)?;
+    let mut course = Course {
+        clock: Clock::open(alloc, sc)?,
+        map: ChannelMap::of(alloc, &[])?,
+        steps: Vec::new(alloc),
+        total: 0,
+    };
+    for round in 1..last_round(sc) + 1 {
+        course = round_of(alloc, sc, book, &schedule, round, course)?;
+    }
+    Ok(course)
+}
+
+// A copy of the scenario.
+fn own_scenario(alloc: Global, sc: &Scenario) -> Result<Scenario, NoMemory>
+    ensures { IfOk result (λ copy. copy ≡ sc.now) }
+{
+    Ok(Scenario {
+        version: sc.version,
+        top: sc.top,
+        opening: sc.opening,
+        decrements: Items::from_vec(Vec::from_slice(alloc, sc.decrements.as_slice())?),
+        stations: Items::from_vec(Vec::from_slice(alloc, sc.stations.as_slice())?),
+        workers: Items::from_vec(Vec::from_slice(alloc, sc.workers.as_slice())?),
+    })
+}
+
+/// The record of the auction by the clock rule, each test asked of a plain search over the stations on air and the one
+/// that is tested. No station may be on air from the start. The only error is want of memory.
+pub fn plain_run(alloc: Global, sc: &Scenario, book: &Book) -> Result<Record, NoMemory>
+    requires limits { IsWithinLimits sc.now }
+    requires start { start_set sc.now ≡ [] }
+    ensures backed { IfOk result (IsBacked sc.now book.now) }
+    ensures clean { IfOk result (λ rec. IsPacking book.now (on_air_set sc.now (clock_rule sc.now book.now [])) rec.map) }
+{
+    let course = whole_course(alloc, sc, book)?;
+    Ok(Record {
+        scenario: own_scenario(alloc, sc)?,
+        ending: Ending::Done,
+        start: Shown::Empty,
+        steps: Items::from_vec(course.steps),
+        map: course.map,
+        total: course.total,
+    })
+}

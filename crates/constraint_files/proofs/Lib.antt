@@ -1,0 +1,11 @@
+pub mod Whole
+pub mod LineLemmas
+pub mod NumberLemmas
+pub mod DomainLemmas
+pub mod ReadsLemmas
+pub mod TableLemmas
+pub mod LookupLemmas
+pub mod OrderLemmas
+pub mod RowLemmas
+pub mod PairOrder
+pub mod PairsAscend

@@ -1,0 +1,50 @@
+-- The order of pairs in a tree is the order that the definitions give them.
+use Rattle.std.proofs.Common.{◌≡◌, ◌<◌, ◌&&◌, ◌||◌, ◌∷◌, [], ℕ, List, Bool, true, false, Ordering, refl, sym, arith, nat_cmp, eqb, ltb}
+use Rattle.std.specs.declared.cmp.Ordering.TheVariants.{Less, Equal, Greater}
+use Rattle.std.specs.Ordering.{ordering_then}
+use Rattle.std.specs.BTreeSet.{insert_key}
+use Rattle.std.proofs.lemmas.Bool.{eq-eqb, le-ltb, lt-ltb, ne_eqb}
+use Rattle.std.proofs.lemmas.Cmp.{by_ranked, ranked}
+use Rattle.pack_defs.specs.Book.{comes_before}
+use Rattle.pack_defs.specs.declared.pair.Pair.{Pair}
+use Rattle.constraint_files.specs.Rows.{with_pair}
+
+-- what an answer of a comparison says of "the second before the first" and "the first before the second"
+abbrev Ranks : Bool → Bool → Ordering → Type 0
+Ranks after before Less = (after ≡ false) × (before ≡ true)
+Ranks after before Equal = (after ≡ false) × (before ≡ false)
+Ranks after before Greater = after ≡ true
+
+by-numbers : (x y : ℕ) → Ranks (ltb y x) (ltb x y) (nat_cmp x y)
+by-numbers x y = by_ranked (x < y) (x ≡ y) (y < x) (nat_cmp x y) (ranked x y (nat_cmp x y) refl)
+    (λ is less. rw is (le-ltb y x (omega arith), lt-ltb x y less))
+    (λ is same. rw is (le-ltb y x (omega arith), le-ltb x y (omega arith)))
+    (λ is more. rw is (lt-ltb y x more))
+
+by-first : (x y : ℕ) (after before : Bool) (o : Ordering) → Ranks after before o
+    → Ranks (ltb y x || (eqb y x && after)) (ltb x y || (eqb x y && before)) (ordering_then (nat_cmp x y) o)
+by-first x y after before o rest = by_ranked (x < y) (x ≡ y) (y < x) (nat_cmp x y) (ranked x y (nat_cmp x y) refl)
+    (λ is less. rw (is, le-ltb y x (omega arith), ne_eqb y x (λ e. absurd (omega arith)), lt-ltb x y less) (refl, refl))
+    (λ is same. rw (is, le-ltb y x (omega arith), eq-eqb y x (sym same), le-ltb x y (omega arith), eq-eqb x y same) rest)
+    (λ is more. rw (is, lt-ltb y x more) refl)
+
+-- the order of pairs, field by field
+abbrev pub pair_cmp : Pair → Pair → Ordering
+pair_cmp p q = ordering_then (nat_cmp p.f q.f) (ordering_then (nat_cmp p.a q.a) (ordering_then (nat_cmp p.g q.g) (nat_cmp p.b q.b)))
+
+ranks : (p q : Pair) → Ranks (comes_before q p) (comes_before p q) (pair_cmp p q)
+ranks p q =
+    by-first p.f q.f _ _ (ordering_then (nat_cmp p.a q.a) (ordering_then (nat_cmp p.g q.g) (nat_cmp p.b q.b)))
+    (by-first p.a q.a _ _ (ordering_then (nat_cmp p.g q.g) (nat_cmp p.b q.b))
+    (by-first p.g q.g _ _ (nat_cmp p.b q.b) (by-numbers p.b q.b)))
+
+-- a tree's key goes where a pair goes
+pub insert-pair : (ps : List Pair) (p : Pair) → insert_key pair_cmp ps p ≡ with_pair ps p
+insert-pair [] p = refl
+insert-pair (q ∷ qs) p = go (pair_cmp p q) refl (ranks p q) (insert-pair qs p)
+  where
+    go : (o : Ordering) → pair_cmp p q ≡ o → Ranks (comes_before q p) (comes_before p q) o → insert_key pair_cmp qs p ≡ with_pair qs p
+        → insert_key pair_cmp (q ∷ qs) p ≡ with_pair (q ∷ qs) p
+    go Less is r later = rw (is, r.0, r.1) refl
+    go Equal is r later = rw (is, r.0, r.1) refl
+    go Greater is r later = rw (is, r, later) refl

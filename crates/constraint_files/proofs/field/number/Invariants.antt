@@ -1,0 +1,11 @@
+use Rattle.std.proofs.Common.{◌≡◌, ◌≤◌, true, take}
+use Rattle.std.specs.Str.{all_ascii_digits}
+use Rattle.std.specs.Str.Parse.{digits_value}
+use Rattle.constraint_files.proofs.field.number.Given as goal
+
+abbrev pub invariant-loop-byte : goal.invariant-loop-byte
+invariant-loop-byte l = record {
+  digits : all_ascii_digits (take l.byte-index l.field) ≡ true;
+  value : l.value ≡ digits_value 10 (take l.byte-index l.field);
+  small : l.value ≤ 4294967295;
+}

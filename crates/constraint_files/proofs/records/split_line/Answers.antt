@@ -1,0 +1,14 @@
+use Rattle.std.proofs.Common.{◌+◌, add-one, arith}
+use Rattle.std.proofs.lemmas.List.{take_rest}
+use Rattle.constraint_files.specs.Records.{lines_of}
+use Rattle.constraint_files.proofs.LineLemmas.{first_line, last_line}
+use Rattle.constraint_files.proofs.records.split_line.Goals as goal
+
+pub returns-then-byte-eq-LINE_FEED-clause-lines : goal.returns-then-byte-eq-LINE_FEED-clause-lines
+returns-then-byte-eq-LINE_FEED-clause-lines c =
+    let bytes = c.args.bytes.now in
+    rw (take_rest bytes (c.loop-i.i + 1), add-one) (first_line bytes c.loop-i.i (omega arith) c.if-byte-eq-LINE_FEED.true c.loop-i.invariant)
+
+pub returns-clause-lines : goal.returns-clause-lines
+unfolding lines_of
+returns-clause-lines c = last_line c.args.bytes.now c.requires (λ k l. c.loop-i.invariant k (omega arith))

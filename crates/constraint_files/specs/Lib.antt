@@ -1,0 +1,6 @@
+pub mod Steps
+pub mod Records
+pub mod Numbers
+pub mod Domains
+pub mod Rows
+pub mod Reads

@@ -1,0 +1,25 @@
+-- Numbers and channels in fields.
+use Rattle.std.specs.Prelude.{ℕ, Bool, not, ◌&&◌, nat_le, if◌then◌else◌, List, [], ◌∷◌, Option, Some, None}
+use Rattle.std.specs.Str.{all_ascii_digits}
+use Rattle.std.specs.Str.Parse.{digits_value}
+use Rattle.pack_defs.specs.Lists.{is_empty}
+use Rattle.constraint_files.specs.Steps.{◌>>=◌}
+
+-- the number of a field: one or more ASCII digits, leading zeros allowed, at most 2^32 - 1
+unfoldable pub number : List ℕ → Option ℕ
+number field =
+    if not (is_empty field) && (all_ascii_digits field && nat_le (digits_value 10 field) 4294967295)
+    then Some (digits_value 10 field)
+    else None
+
+-- the numbers of some fields, if each has one
+unfoldable pub numbers : List (List ℕ) → Option (List ℕ)
+numbers [] = Some []
+numbers (field ∷ fields) = do
+  n ← number field
+  ns ← numbers fields
+  Some (n ∷ ns)
+
+-- a channel that a file may name
+abbrev pub is_channel : ℕ → Bool
+is_channel c = nat_le 2 c && nat_le c 51

@@ -1,0 +1,8 @@
+-- Steps that may fail, one after the other.
+use Rattle.std.specs.Prelude.{Option}
+use Rattle.std.specs.Option.{option_and_then}
+
+infixl 10 ◌>>=◌
+-- what the next step makes of the value, if there is one
+abbrev pub ◌>>=◌ : {A B : Type 0} → Option A → (A → Option B) → Option B
+o >>= f = option_and_then f o

@@ -1,0 +1,70 @@
+ghost use Rattle.std.specs.Prelude.{◌≡◌, ◌<◌, ℕ, IfOk, MatchOption, filter, length, slice_index_or, true, false};
+ghost use Rattle.std.specs.List.{list_all};
+ghost use Rattle.csv.specs.Records.{fields_of};
+ghost use Rattle.pack_defs.specs.Lists.{is_in};
+ghost use Rattle.constraint_files.specs.Domains.{channels_to_keep, domain_naming, domain_row};
+ghost use Rattle.constraint_files.specs.Numbers.{is_channel};
+ghost use Rattle.constraint_files.specs.Reads.{Reads};
+
+use crate::error::ReadErr;
+use crate::field::{channel, has_key, number_at, numbers_from};
+use csv::ByteRecord;
+use pack_defs::domain::Domain;
+use pack_defs::items::Items;
+use std::alloc::{AllocError as NoMemory, Global};
+
+/// The first field of each record of a domains file.
+const KEY: &[u8] = b"DOMAIN";
+
+/// Which channels these numbers name, if each is a channel.
+fn named_channels(numbers: &[u32]) -> Option<[bool; 52]>
+    ensures { MatchOption result (list_all is_channel numbers.now ≡ false)
+        (λ flags. (list_all is_channel numbers.now ≡ true) × ((c : ℕ) → c < 52 → slice_index_or flags c false ≡ is_in numbers.now c)) }
+{
+    let mut is_named = [false; 52];
+    for number in numbers {
+        is_named[channel(*number)? as usize] = true;
+    }
+    Some(is_named)
+}
+
+/// The channels from 14 up among those that are named, ascending.
+fn kept_channels(alloc: Global, is_named: &[bool]) -> Result<Items<u8>, NoMemory>
+    requires { length is_named.now ≡ 52 }
+    ensures { IfOk result (λ kept. kept ≡ filter (λ c. slice_index_or is_named.now c false) channels_to_keep) }
+{
+    let mut kept = Vec::new(alloc);
+    for channel in 14..52u8 {
+        if is_named[channel as usize] {
+            kept.push(channel)?;
+        }
+    }
+    Ok(Items::from_vec(kept))
+}
+
+/// The domain of a station whose row names these channels.
+fn domain_naming(alloc: Global, station: u32, named: &[u32]) -> Result<Domain, ReadErr>
+    ensures { Reads (domain_naming station named.now) result }
+{
+    let Some(is_named) = named_channels(named) else {
+        return Err(ReadErr::Refused);
+    };
+    Ok(Domain {
+        station,
+        channels: kept_channels(alloc, &is_named)?,
+    })
+}
+
+/// The domain that a record gives: `DOMAIN,facility,channel,...`.
+pub(crate) fn domain_row(alloc: Global, fields: &ByteRecord) -> Result<Domain, ReadErr>
+    ensures { Reads (domain_row (fields_of fields.now)) result }
+{
+    if !has_key(fields, KEY) {
+        return Err(ReadErr::Refused);
+    }
+    let Some(station) = number_at(fields, 1) else {
+        return Err(ReadErr::Refused);
+    };
+    let named = numbers_from(alloc, fields, 2)?;
+    domain_naming(alloc, station, named.as_slice())
+}

@@ -1,0 +1,80 @@
+ghost use Rattle.std.specs.Prelude.{◌≡◌, [], IfOk};
+ghost use Rattle.csv.specs.Records.{fields_of};
+ghost use Rattle.constraint_files.specs.Domains.{add_domain_row, put_domain};
+ghost use Rattle.constraint_files.specs.Reads.{Changes};
+ghost use Rattle.constraint_files.specs.Records.{after_records, line_records};
+
+use crate::domain_row::domain_row;
+use crate::error::ReadErr;
+use crate::records::records_of_line;
+use csv::ByteRecord;
+use pack_defs::domain::Domain;
+use pack_defs::items::Items;
+use std::alloc::{AllocError as NoMemory, Global};
+use std::collections::BTreeMap;
+use std::marker::Model;
+
+/// The domains of the records read so far.
+#[derive(Drop)]
+pub(crate) struct DomainTable {
+    rows: BTreeMap<u32, Items<u8>>,
+}
+
+impl Model for DomainTable {
+    ghost use Rattle.std.specs.Prelude.{List, map};
+    ghost use Rattle.pack_defs.specs.declared.domain.Domain.{Domain};
+
+    ghost Value = { List Domain };
+
+    ghost view = { λ t. map (λ e. record { station = e.0; channels = e.1 }) t.rows.entries };
+}
+
+impl DomainTable {
+    pub(crate) fn new(alloc: Global) -> DomainTable
+        ensures { result ≡ [] }
+    {
+        DomainTable {
+            rows: BTreeMap::new(alloc),
+        }
+    }
+
+    /// Adds the domain of a station that has none yet. After an error the table is lost.
+    fn put(&mut self, domain: Domain) -> Result<(), ReadErr>
+        ensures { Changes (put_domain self.old domain) self.new result }
+    {
+        let Domain { station, channels } = domain;
+        if self.rows.insert(station, channels)?.is_some() {
+            return Err(ReadErr::Refused);
+        }
+        Ok(())
+    }
+
+    fn add_record(&mut self, alloc: Global, fields: &ByteRecord) -> Result<(), ReadErr>
+        ensures { Changes (add_domain_row self.old (fields_of fields.now)) self.new result }
+    {
+        self.put(domain_row(alloc, fields)?)
+    }
+
+    /// Adds the domains of a line's records. After an error the table is lost.
+    pub(crate) fn add_line(&mut self, alloc: Global, line: &[u8]) -> Result<(), ReadErr>
+        ensures { Changes (after_records add_domain_row self.old (line_records line.now)) self.new result }
+    {
+        let records = records_of_line(alloc, line)?;
+        for record in &records {
+            self.add_record(alloc, record)?;
+        }
+        Ok(())
+    }
+
+    /// The domains, ascending by station.
+    pub(crate) fn into_list(self, alloc: Global) -> Result<Vec<Domain>, NoMemory>
+        ensures { IfOk result (λ v. v.items ≡ self) }
+    {
+        let mut list = Vec::with_capacity(alloc, self.rows.len())?;
+        let DomainTable { rows } = self;
+        for (station, channels) in rows {
+            list.push(Domain { station, channels })?;
+        }
+        Ok(list)
+    }
+}

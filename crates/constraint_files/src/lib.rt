@@ -1,0 +1,15 @@
+//! The two constraint files of an auction: which channels each station may use, and which pairs interfere. They are in
+//! the layout of the FCC's `Domain.csv` and `Interference_Paired.csv`.
+#![tactic(auto)]
+
+mod domain_row;
+mod domain_table;
+pub mod domains;
+pub mod error;
+mod field;
+mod interference_row;
+mod pair_table;
+pub mod pairs;
+mod records;
+#[cfg(test)]
+mod tests;

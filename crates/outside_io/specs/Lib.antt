@@ -1,0 +1,4 @@
+pub mod Files
+pub mod Faults
+pub mod Loads
+pub mod Memory

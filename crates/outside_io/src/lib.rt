@@ -1,0 +1,18 @@
+//! The outside of the program: a folder of files and a sink of bytes, by what they tell and by a count of their faults.
+//!
+//! `MemoryFolder` and `MemorySink` stand in memory, for tests. They tell what they hold, and calls of theirs fail by number.
+//!
+//! `RealFolder` and `RealSink` stand over the system, and tell nothing: no contract says what a real file or the standard
+//! output holds. It is proved that a load keeps to its limit, that a call which answers `Failed` has counted a fault, and that
+//! the loops take all bytes of a reader, and give all bytes to a writer, that tells its bytes. That the system's files and
+//! its output are such a reader and such a writer is trusted.
+#![tactic(auto)]
+
+mod fault_plan;
+pub mod folder;
+pub mod memory_folder;
+pub mod memory_sink;
+pub mod real;
+pub mod sink;
+#[cfg(test)]
+mod tests;

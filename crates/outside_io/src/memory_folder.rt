@@ -1,0 +1,137 @@
+ghost use Rattle.std.specs.Prelude.{◌≡◌, ◌<◌, ◌↔◌, [], take, length, slice_index_or, option_map, None, IsTrue, IfOk, OnOk, OnErr, IfSome, IfNone};
+ghost use Rattle.outside_io.specs.Files.{StoredFile, bytes_of, IsPlace, with_file};
+
+use crate::fault_plan::FaultPlan;
+use crate::folder::{Folder, LoadErr, StoreErr};
+use std::alloc::{AllocError as NoMemory, Global};
+use std::marker::Model;
+
+/// A file of a folder in memory.
+#[derive(Debug, Drop)]
+pub struct MemoryFile {
+    pub name: String,
+    pub bytes: Vec<u8>,
+}
+
+impl Model for MemoryFile {
+    ghost use Rattle.std.specs.Prelude.{string_bytes};
+    ghost use Rattle.outside_io.specs.Files.{StoredFile};
+
+    ghost Value = { StoredFile };
+
+    ghost view = { λ a. record { name = string_bytes a.name; bytes = a.bytes.items } };
+}
+
+impl MemoryFile {
+    /// A file with a copy of this name and of these bytes.
+    pub fn new(alloc: Global, name: &str, bytes: &[u8]) -> Result<MemoryFile, NoMemory>
+        ensures name { IfOk result (λ file. file.name ≡ name.now) }
+        ensures bytes { IfOk result (λ file. file.bytes ≡ bytes.now) }
+    {
+        Ok(MemoryFile {
+            name: String::from_str(alloc, name)?,
+            bytes: Vec::from_slice(alloc, bytes)?,
+        })
+    }
+}
+
+/// A folder in memory, for tests. It tells its files.
+#[derive(Debug, Drop)]
+pub struct MemoryFolder {
+    files: Vec<MemoryFile>,
+    plan: FaultPlan,
+}
+
+impl Model for MemoryFolder {
+    ghost use Rattle.std.specs.Prelude.{◌==◌, length};
+    ghost use Rattle.outside_io.specs.Memory.{FolderView};
+
+    ghost Value = { FolderView };
+
+    ghost view = { λ a. record { files = a.files.items; faults = a.plan.faults; steady = length a.plan.failing.items == 0 } };
+}
+
+impl MemoryFolder {
+    /// A folder of these files. Calls of `load` and `store` are counted together from 1, and those whose numbers are in
+    /// `failing` fail. Of several files of one name only the first is seen.
+    pub fn new(files: Vec<MemoryFile>, failing: Vec<u64>) -> MemoryFolder
+        ensures files { result.files ≡ files.items }
+        ensures faults { result.faults ≡ 0 }
+        ensures steady { IsTrue result.steady ↔ (failing.items ≡ []) }
+    {
+        MemoryFolder {
+            files,
+            plan: FaultPlan::new(failing),
+        }
+    }
+
+    /// The bytes under a name.
+    pub fn bytes(&self, name: &str) -> Option<&[u8]>
+        ensures { option_map (λ bytes. bytes.now) result ≡ bytes_of self.now.files name.now }
+    {
+        match place(&self.files, name) {
+            Some(at) => Some(&self.files[at].bytes),
+            None => None,
+        }
+    }
+}
+
+// Where the file of this name stands.
+fn place(files: &[MemoryFile], name: &str) -> Option<usize>
+    ensures absent { IfNone result (bytes_of files.now name.now ≡ None) }
+    ensures found { IfSome result (IsPlace files.now name.now) }
+{
+    for (i, file) in files.iter().enumerate() {
+        if file.name.as_str() == name {
+            return Some(i);
+        }
+    }
+    None
+}
+
+// Puts a copy of these bytes under the name.
+fn put(files: &mut Vec<MemoryFile>, name: &str, bytes: &[u8]) -> Result<(), NoMemory>
+    ensures ok { OnOk result (files.new.items ≡ with_file files.old.items name.now bytes.now) }
+    ensures err { OnErr result (files.new.items ≡ files.old.items) }
+{
+    let alloc = *files.allocator();
+    match place(files, name) {
+        Some(at) => files[at].bytes = Vec::from_slice(alloc, bytes)?,
+        None => files.push(MemoryFile::new(alloc, name, bytes)?)?,
+    }
+    Ok(())
+}
+
+impl Folder for MemoryFolder {
+    ghost use Rattle.std.specs.Prelude.{Some};
+
+    ghost files = { λ s. Some s.files };
+
+    ghost faults = { λ s. s.faults };
+
+    ghost steady = { λ s. s.steady };
+
+    fn load(&mut self, name: &str, limit: u64, into: &mut Vec<u8>) -> Result<(), LoadErr> {
+        into.clear();
+        if self.plan.next_fails() {
+            return Err(LoadErr::Failed);
+        }
+        let Some(bytes) = self.bytes(name) else {
+            self.plan.count_fault();
+            return Err(LoadErr::Failed);
+        };
+        if bytes.len() as u64 > limit {
+            return Err(LoadErr::TooLong);
+        }
+        into.extend_from_slice(bytes)?;
+        Ok(())
+    }
+
+    fn store(&mut self, name: &str, bytes: &[u8]) -> Result<(), StoreErr> {
+        if self.plan.next_fails() {
+            return Err(StoreErr::Failed);
+        }
+        put(&mut self.files, name, bytes)?;
+        Ok(())
+    }
+}

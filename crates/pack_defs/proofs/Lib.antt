@@ -1,0 +1,16 @@
+pub mod Members
+pub mod FitsLaws
+pub mod ClockSteps
+pub mod Rivals
+pub mod Rounds
+pub mod ThresholdLaw
+pub mod Standings
+pub mod Rows
+pub mod TestOrder
+pub mod ComponentLaws
+pub mod PriceLaws
+pub mod Words
+pub mod Searches
+pub mod Chains
+pub mod BookLemmas
+pub mod MapLemmas

@@ -1,0 +1,40 @@
+ghost use Rattle.std.specs.Prelude.{◌≡◌};
+
+use std::marker::Model;
+
+/// A list that contracts see as the plain list of its items. It is made from a `Vec` and gives it back, without memory.
+#[derive(Debug, Drop)]
+pub struct Items<T> {
+    list: Vec<T>,
+}
+
+impl<T> Model for Items<T> {
+    ghost use Rattle.std.specs.Prelude.{List};
+
+    ghost Value = { List T };
+
+    ghost view = { λ s. s.list.items };
+}
+
+impl<T> Items<T> {
+    /// The list of the vector's items.
+    pub fn from_vec(list: Vec<T>) -> Items<T>
+        ensures { result ≡ list.items }
+    {
+        Items { list }
+    }
+
+    /// The vector of the items.
+    pub fn into_vec(self) -> Vec<T>
+        ensures { result.items ≡ self }
+    {
+        self.list
+    }
+
+    /// The items.
+    pub fn as_slice(&self) -> &[T]
+        ensures { result.now ≡ self.now }
+    {
+        &self.list
+    }
+}
