@@ -4,6 +4,7 @@ use Rattle.pack_defs.specs.declared.scenario.Scenario.{Scenario}
 use Rattle.pack_defs.specs.Book.{BookView, domain_of}
 use Rattle.pack_defs.specs.ChannelMap.{overlaid}
 use Rattle.pack_defs.specs.Packing.{IsPacking, fits}
+use Rattle.pack_defs.specs.Prices.{start_set}
 use Rattle.pack_defs.specs.ClockRule.{ClockTest, ClockState, after_answer, asked_set, asked_tests, clock_rule, exits, opening_state}
 use Rattle.auction_cmd.specs.declared.record.Shown.{Shown}
 use Rattle.auction_cmd.specs.declared.record.Shown.TheVariants.{Empty, Fits, NoChannel, Unfit}
@@ -71,6 +72,7 @@ pub record IsBacked (sc : Scenario) (book : BookView) (rec : Record) : Type 0 wh
   pub scenario : rec.scenario ≡ sc
   pub ending : rec.ending ≡ Done
   pub start : rec.start ≡ Empty
+  pub none_started : start_set sc ≡ []
   pub tests : map test_of rec.steps ≡ asked_tests sc book []
   pub shown : AreShown sc book (start_point sc) rec.steps
   pub map : rec.map ≡ (after_steps sc (start_point sc) rec.steps).map

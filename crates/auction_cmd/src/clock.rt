@@ -64,7 +64,8 @@ fn exits(sc: &Scenario, schedule: &[u32], i: usize, round: u32) -> bool
     requires schedule { schedule.now ≡ prices sc.now }
     requires place { i < length sc.now.stations }
     requires round { round ≤ last_round sc.now }
-    ensures { result ≡ exits sc.now (record { round = round; station = slice_index (facilities sc.now) i }) }
+    ensures { result ≡
+        exits sc.now (record { round = round; station = slice_index (facilities sc.now) i }) }
 {
     let station = &sc.stations.as_slice()[i];
     round == last_round(sc) || declines(station, offer(schedule, station.volume, round))
@@ -129,8 +130,8 @@ impl Clock {
         requires active { slice_index_or self.old i Standing.Active ≡ Standing.Active }
         requires begun { 1 ≤ round }
         requires round { round ≤ last_round sc.now }
-        ensures { self.new ≡ slice_set self.old i
-            (answered_standing sc.now (record { round = round; station = slice_index (facilities sc.now) i }) fits) }
+        ensures { self.new ≡ slice_set self.old i (answered_standing sc.now
+            (record { round = round; station = slice_index (facilities sc.now) i }) fits) }
     {
         if fits {
             if exits(sc, schedule, i, round) {

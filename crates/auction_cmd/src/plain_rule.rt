@@ -5,7 +5,7 @@ ghost use Rattle.pack_defs.specs.Scenario.{IsWithinLimits, facilities};
 ghost use Rattle.pack_defs.specs.Packing.{IsPacking};
 ghost use Rattle.pack_defs.specs.Prices.{last_round, prices, start_set};
 ghost use Rattle.pack_defs.specs.ClockRule.{clock_rule, clock_tests, on_air_set};
-ghost use Rattle.auction_cmd.specs.Backed.{IsBacked, shows_room};
+ghost use Rattle.auction_cmd.specs.Backed.{IsBacked};
 ghost use Rattle.auction_cmd.specs.Clock.{asked_by, stands_on_air};
 ghost use Rattle.auction_cmd.specs.PlainRule.{AnswersTest, IsCourse, map_after, paid, tests_before};
 
@@ -97,13 +97,6 @@ fn paid(standing: &Standing) -> u64
     }
 }
 
-// Whether the verdict says that the test's set fits.
-fn shows_room(shown: &Shown) -> bool
-    ensures { result ≡ shows_room shown.now }
-{
-    matches!(shown, Shown::Empty | Shown::Fits(_))
-}
-
 // The course after the test of the station at this place in this round; one that isn't active isn't asked.
 fn step(
     alloc: Global,
@@ -133,7 +126,7 @@ fn step(
         mut steps,
         total,
     } = course;
-    clock.settle(sc, schedule, i, round, shows_room(&shown));
+    clock.settle(sc, schedule, i, round, shown.shows_room());
     let standing = clock.standings()[i];
     let map = moved(alloc, map, &standing, &shown)?;
     steps.push(Step {

@@ -1,3 +1,6 @@
+ghost use Rattle.std.specs.Prelude.{◌≡◌};
+ghost use Rattle.auction_cmd.specs.Backed.{shows_room};
+
 use pack_defs::channel_map::ChannelMap;
 use pack_defs::items::Items;
 use pack_defs::scenario::Scenario;
@@ -13,6 +16,18 @@ pub enum Shown {
     NoChannel(u32),
     /// By a search through every channel map of the test's set, none of which is clean.
     Unfit,
+}
+
+impl Shown {
+    /// Whether this says that the test's set fits.
+    pub fn shows_room(&self) -> bool
+        ensures { result ≡ shows_room self.now }
+    {
+        match self {
+            Shown::Empty | Shown::Fits(_) => true,
+            Shown::NoChannel(_) | Shown::Unfit => false,
+        }
+    }
 }
 
 /// A test of the clock, and how it was settled.

@@ -6,7 +6,7 @@ ghost use Rattle.csv.specs.Writing.{default_writer, needs_quotes};
 ghost use Rattle.pack_defs.specs.Lists.{is_in};
 ghost use Rattle.pack_defs.specs.Scenario.{IsWithinLimits};
 ghost use Rattle.pack_defs.specs.ClockRule.{clock_rule};
-ghost use Rattle.auction_cmd.specs.Backed.{IsBacked, shows_room};
+ghost use Rattle.auction_cmd.specs.Backed.{IsBacked};
 ghost use Rattle.auction_cmd.specs.Clock.{AreStandings, stands_frozen, stands_on_air};
 ghost use Rattle.auction_cmd.specs.ResultText.{IsBetweenRows, count_line, header_line, result_text, row_fields, standing_line, standing_lines, summary_text, text_held};
 
@@ -30,28 +30,19 @@ fn place_of(stations: &[Station], id: u32) -> Option<usize>
         .ok()
 }
 
-// Whether a test that was settled so fits.
-fn has_room(shown: &Shown) -> bool
-    ensures { result ≡ shows_room shown.now }
-{
-    match shown {
-        Shown::Empty | Shown::Fits(_) => true,
-        Shown::NoChannel(_) | Shown::Unfit => false,
-    }
-}
-
 // Where each station stands at the end of a finished auction. Only the clauses speak of the book.
 fn final_clock(alloc: Global, rec: &Record, book: &Book) -> Result<Clock, NoMemory>
     requires backed { IsBacked rec.now.scenario book.now rec.now }
     requires limits { IsWithinLimits rec.now.scenario }
-    ensures { IfOk result (λ clock. AreStandings rec.now.scenario (clock_rule rec.now.scenario book.now []) clock) }
+    ensures { IfOk result
+        (λ clock. AreStandings rec.now.scenario (clock_rule rec.now.scenario book.now []) clock) }
 {
     let sc = &rec.scenario;
     let prices = schedule(alloc, sc)?;
     let mut clock = Clock::open(alloc, sc)?;
     for step in rec.steps.as_slice() {
         match place_of(sc.stations.as_slice(), step.station) {
-            Some(i) => clock.settle(sc, &prices, i, step.round, has_room(&step.shown)),
+            Some(i) => clock.settle(sc, &prices, i, step.round, step.shown.shows_room()),
             None => unreachable!(),
         }
     }
@@ -69,7 +60,8 @@ fn write_row(
     requires idle { IsBetweenRows wtr.old }
     requires plain { IsFalse (needs_quotes default_writer word.now) }
     ensures idle { OnOk result (IsBetweenRows wtr.new) }
-    ensures text { OnOk result (text_held wtr.new ≡ text_held wtr.old ++ row_fields facility word.now round price) }
+    ensures text { OnOk result
+        (text_held wtr.new ≡ text_held wtr.old ++ row_fields facility word.now round price) }
 {
     let mut first = Buffer::new();
     let mut third = Buffer::new();
@@ -94,7 +86,8 @@ fn write_standing(
 ) -> Result<(), NoMemory>
     requires { IsBetweenRows wtr.old }
     ensures idle { OnOk result (IsBetweenRows wtr.new) }
-    ensures text { OnOk result (text_held wtr.new ≡ text_held wtr.old ++ standing_line facility standing) }
+    ensures text { OnOk result
+        (text_held wtr.new ≡ text_held wtr.old ++ standing_line facility standing) }
 {
     match standing {
         Standing::Active => Ok(()),
@@ -124,7 +117,8 @@ fn standings_csv(
     standings: &[Standing],
 ) -> Result<Vec<u8>, NoMemory>
     requires { length standings.now ≡ length stations.now }
-    ensures { IfOk result (λ v. v.items ≡ header_line ++ standing_lines (map (λ x. x.id) stations.now) standings.now) }
+    ensures { IfOk result
+        (λ v. v.items ≡ header_line ++ standing_lines (map (λ x. x.id) stations.now) standings.now) }
 {
     let mut wtr = WriterBuilder::new().from_writer(Vec::new(alloc));
     write_header(&mut wtr)?;
@@ -143,7 +137,8 @@ fn standings_csv(
 pub fn result_csv(alloc: Global, rec: &Record, book: &Book) -> Result<Vec<u8>, NoMemory>
     requires backed { IsBacked rec.now.scenario book.now rec.now }
     requires limits { IsWithinLimits rec.now.scenario }
-    ensures { IfOk result (λ v. v.items ≡ result_text rec.now.scenario (clock_rule rec.now.scenario book.now []) []) }
+    ensures { IfOk result
+        (λ v. v.items ≡ result_text rec.now.scenario (clock_rule rec.now.scenario book.now []) []) }
 {
     let clock = final_clock(alloc, rec, book)?;
     standings_csv(alloc, rec.scenario.stations.as_slice(), clock.standings())
@@ -152,7 +147,8 @@ pub fn result_csv(alloc: Global, rec: &Record, book: &Book) -> Result<Vec<u8>, N
 // A name and a number on a line of their own.
 fn push_count(text: &mut Vec<u8>, name: &str, n: u64) -> Result<(), NoMemory>
     ensures text { OnOk result (text.new.items ≡ text.old.items ++ count_line name.now n) }
-    ensures short { OnOk result (length text.new.items ≤ length text.old.items + length name.now + 22) }
+    ensures short { OnOk result
+        (length text.new.items ≤ length text.old.items + length name.now + 22) }
 {
     let mut buffer = Buffer::new();
     text.extend_from_slice(name.as_bytes())?;
@@ -187,7 +183,8 @@ fn frozen_count(standings: &[Standing]) -> usize
 pub fn summary(alloc: Global, rec: &Record, book: &Book) -> Result<Vec<u8>, NoMemory>
     requires backed { IsBacked rec.now.scenario book.now rec.now }
     requires limits { IsWithinLimits rec.now.scenario }
-    ensures text { IfOk result (λ v. v.items ≡ summary_text rec.now.scenario (clock_rule rec.now.scenario book.now []) []) }
+    ensures text { IfOk result
+        (λ v. v.items ≡ summary_text rec.now.scenario (clock_rule rec.now.scenario book.now []) []) }
     ensures short { IfOk result (λ v. length v.items ≤ 160) }
 {
     let clock = final_clock(alloc, rec, book)?;

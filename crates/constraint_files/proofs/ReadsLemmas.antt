@@ -1,6 +1,6 @@
 -- A refusal, or want of memory, passes on.
-use Rattle.std.proofs.Common.{◌≡◌, ◌∙◌, ◌<◌, ◌+◌, ◌∷◌, ℕ, List, Option, Err, ap, refl, length, get_or, drop, map}
-use Rattle.std.specs.Option.{option_and_then}
+use Rattle.std.proofs.Common.{◌≡◌, ◌∙◌, ◌<◌, ◌+◌, ◌∷◌, ℕ, List, Option, None, Some, Err, ap, refl, length, get_or, drop, map}
+use Rattle.std.specs.Option.{ok_or, option_and_then}
 use Rattle.csv.specs.Records.{Row, fields_of}
 use Rattle.constraint_files.specs.Records.{after_records, line_records, lines_of, records_of}
 use Rattle.constraint_files.proofs.LineLemmas.{after-next, line-next}
@@ -11,6 +11,11 @@ use Rattle.constraint_files.specs.declared.error.ReadErr.TheVariants.{NoMemory, 
 pub reads-on : {A B : Type 0} (f : A → Option B) (o : Option A) (e : ReadErr) → Reads o (Err e) → Reads (option_and_then f o) (Err e)
 reads-on f o Refused h = rw h refl
 reads-on f o NoMemory h = tt
+
+-- a value, or else a refusal
+pub reads-ok_or : {A : Type 0} (o : Option A) → Reads o (ok_or o Refused)
+reads-ok_or None = refl
+reads-ok_or (Some x) = refl
 
 -- a row that is refused refuses all from it on
 pub stops : {S : Type 0} (add : S → List (List ℕ) → Option S) (state new : S) (rows : List Row) (i : ℕ) (r : Row) (e : ReadErr) → i < length rows → r ≡ get_or rows i r

@@ -1,8 +1,7 @@
 ghost use Rattle.std.specs.Prelude.{◌≡◌};
 ghost use Rattle.std.specs.Option.{option_map};
 ghost use Rattle.pack_defs.specs.Book.{AreInOrder};
-ghost use Rattle.pack_defs.specs.Lists.{is_in};
-ghost use Rattle.constraint_files.specs.Domains.{domains_of, channels_of};
+ghost use Rattle.constraint_files.specs.Domains.{channels_of, domains_of};
 ghost use Rattle.constraint_files.specs.Reads.{Reads};
 
 use crate::domain_table::DomainTable;
@@ -31,7 +30,7 @@ impl Model for Domains {
 }
 
 impl Domains {
-    /// The domains, ascending by station. The channels of each ascend, and are 14 to 51.
+    /// The domains, ascending by station. The channels of each ascend.
     pub fn list(&self) -> &[Domain]
         ensures list { result.now ≡ self.now }
         ensures in_order { AreInOrder self.now }
@@ -60,7 +59,7 @@ impl Domains {
 /// # Errors
 ///
 /// `Refused` where a record has fewer than two fields or another first one, a later field is no number, a channel is
-/// outside 2 to 51, or its facility has a record already. `NoMemory` where memory ran out.
+/// outside 2 to 51, or its facility has a record already. `NoMemory` where memory runs out.
 pub fn read_domains(alloc: Global, bytes: &[u8]) -> Result<Domains, ReadErr>
     ensures { Reads (domains_of bytes.now) result }
 {

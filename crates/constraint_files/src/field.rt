@@ -72,8 +72,8 @@ pub(crate) fn numbers_from(
 pub(crate) fn channel(number: u32) -> Option<u8>
     ensures { result ≡ (if is_channel number then Some number else None) }
 {
-    if number < 2 || number > 51 {
-        return None;
+    match number {
+        2..=51 => Some(number as u8),
+        _ => None,
     }
-    Some(number as u8)
 }

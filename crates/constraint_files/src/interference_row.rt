@@ -53,8 +53,5 @@ pub(crate) fn interference_row(alloc: Global, fields: &ByteRecord) -> Result<Row
         return Err(ReadErr::Refused);
     };
     let others = numbers_from(alloc, fields, 4)?;
-    match row_on(a, b, station, others) {
-        Some(row) => Ok(row),
-        None => Err(ReadErr::Refused),
-    }
+    row_on(a, b, station, others).ok_or(ReadErr::Refused)
 }

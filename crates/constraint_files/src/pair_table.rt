@@ -55,6 +55,7 @@ impl PairTable {
         }
     }
 
+    /// Adds a pair, if it isn't there yet.
     fn put(&mut self, pair: Pair) -> Result<(), NoMemory>
         ensures { OnOk result (self.new ≡ with_pair self.old pair) }
     {
@@ -84,6 +85,7 @@ impl PairTable {
         Ok(())
     }
 
+    /// Adds the pairs of a row that are kept.
     fn add_row(&mut self, domains: &Domains, row: &Row) -> Result<(), NoMemory>
         ensures { OnOk result (self.new ≡ fold (with_other domains.now row.now) self.old row.now.others) }
     {

@@ -46,7 +46,7 @@ impl Pairs {
 /// # Errors
 ///
 /// `Refused` where a record has fewer than four fields or another first one, a later field is no number, a channel is
-/// outside 2 to 51, or b isn't a. `NoMemory` where memory ran out.
+/// outside 2 to 51, or b isn't a. `NoMemory` where memory runs out.
 pub fn read_pairs(alloc: Global, bytes: &[u8], domains: &Domains) -> Result<Pairs, ReadErr>
     ensures { Reads (pairs_of bytes.now domains.now) result }
 {

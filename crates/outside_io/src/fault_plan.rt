@@ -1,6 +1,5 @@
 //! Which calls of an outside in memory are to fail.
-ghost use Rattle.std.specs.Prelude.{◌≡◌, ◌+◌, ◌↔◌, ◌≤◌, if◌then◌else◌, min, Contains, IsTrue};
-ghost use Rattle.std.specs.Prelude.{◌-◌, ◌^◌};
+ghost use Rattle.std.specs.Prelude.{◌≡◌, ◌+◌, ◌-◌, ◌^◌, ◌≤◌, ◌↔◌, if◌then◌else◌, min, Contains, IsTrue};
 
 /// The numbers of the calls that are to fail, and counts of the calls and of the faults so far.
 #[derive(Debug, Drop)]
@@ -39,6 +38,7 @@ impl FaultPlan {
         fails
     }
 
+    /// Counts one more fault.
     pub(crate) fn count_fault(&mut self)
         ensures failing { self.new.failing ≡ self.old.failing }
         ensures calls { self.new.calls ≡ self.old.calls }

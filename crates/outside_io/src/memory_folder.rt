@@ -9,6 +9,7 @@ use std::marker::Model;
 /// A file of a folder in memory.
 #[derive(Debug, Drop)]
 pub struct MemoryFile {
+    /// Names are compared as bytes.
     pub name: String,
     pub bytes: Vec<u8>,
 }
@@ -69,10 +70,8 @@ impl MemoryFolder {
     pub fn bytes(&self, name: &str) -> Option<&[u8]>
         ensures { option_map (λ bytes. bytes.now) result ≡ bytes_of self.now.files name.now }
     {
-        match place(&self.files, name) {
-            Some(at) => Some(&self.files[at].bytes),
-            None => None,
-        }
+        let at = place(&self.files, name)?;
+        Some(&self.files[at].bytes)
     }
 }
 

@@ -92,13 +92,15 @@ fn the_second_load_fails(rt: HostRuntime) -> Result<(), Fail> {
 }
 
 #[test]
-fn the_second_store_fails(rt: HostRuntime) -> Result<(), Fail> {
+fn loads_and_stores_are_counted_together(rt: HostRuntime) -> Result<(), Fail> {
     let mut folder = folder_of_two(rt.alloc(), &[4, 2])?;
-    assert_eq!(rt; folder.store("rows", b"one"), Ok(()));
-    assert_eq!(rt; folder.store("rows", b"two"), Err(StoreErr::Failed));
-    assert!(rt; is_held(&folder, "rows", b"one"));
-    assert_eq!(rt; folder.store("rows", b"three"), Ok(()));
-    assert!(rt; is_held(&folder, "rows", b"three"));
+    let mut into = Vec::new(rt.alloc());
+    assert_eq!(rt; folder.load("domains", 9, &mut into), Ok(()));
+    assert_eq!(rt; folder.store("domains", b"new"), Err(StoreErr::Failed));
+    assert!(rt; is_held(&folder, "domains", b"abc"));
+    assert_eq!(rt; folder.store("domains", b"new"), Ok(()));
+    assert_eq!(rt; folder.load("domains", 9, &mut into), Err(LoadErr::Failed));
+    assert!(rt; is_held(&folder, "domains", b"new"));
     Ok(())
 }
 

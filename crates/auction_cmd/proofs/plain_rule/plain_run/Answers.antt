@@ -11,6 +11,7 @@ returns-clause-backed c =
       scenario = c.in_ok-own_scenario.ensures;
       ending = refl;
       start = refl;
+      none_started = c.requires.start;
       tests = rw c.from_vec.ensures after.asked;
       shown = rw c.from_vec.ensures after.shown;
       map = rw c.from_vec.ensures (sym (ap (λ (p : Point). p.map) after.point));

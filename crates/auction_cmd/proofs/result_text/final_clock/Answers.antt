@@ -27,7 +27,7 @@ pub loop-step-preserved : goal.loop-step-preserved
 loop-step-preserved c =
     let n = next (goal.at.loop-step-preserved c).After-place_of in
     let place = rw c.as_slice.ensures at c.in-Some.ensures in
-    rw (c.settle.ensures, c.has_room.ensures, place.1) (next-standings c.in-Some.i n c.requires.limits.ascend c.loop-step.invariant place.0 place.1)
+    rw (c.settle.ensures, c.shows_room.ensures, place.1) (next-standings c.in-Some.i n c.requires.limits.ascend c.loop-step.invariant place.0 place.1)
 
 pub returns : goal.returns
 returns c =
