@@ -8,6 +8,7 @@ use Rattle.outside_io.specs.Faults.{HasRisen}
 use Rattle.outside_io.specs.Loads.{Writes}
 use Rattle.outside_io.specs.declared.sink.Failed.{Failed}
 use Rattle.auction_cmd.specs.declared.inputs.Input.{Input}
+use Rattle.auction_cmd.specs.declared.inputs.Stop.TheVariants.{CannotRead}
 use Rattle.auction_cmd.specs.Auction.{SaysWhy}
 use Rattle.auction_cmd.specs.Says.{Says, name_of, refused_line, unread_line}
 use Rattle.auction_cmd.specs.Words.{RunNames}
@@ -71,3 +72,10 @@ why-refused names input held held' cuts cuts' says = record {
   refused = λ five. (input, says);
   memory = λ eight. absurd (omega arith);
 }
+
+pub same_input : (i j : Input) → CannotRead i ≡ CannotRead j → i ≡ j
+same_input i j e = cc
+
+-- a line that names an input
+pub said-for : (names : RunNames) (i j : Input) (held held' : Option (List ℕ)) (cuts cuts' : ℕ) → i ≡ j → Says held held' cuts cuts' (unread_line (name_of names i)) → Says held held' cuts cuts' (unread_line (name_of names j))
+said-for names i j held held' cuts cuts' same says = subst (λ z. Says held held' cuts cuts' (unread_line (name_of names z))) same says

@@ -1,6 +1,7 @@
 -- What a run of the program leaves.
-use Rattle.std.specs.Prelude.{◌≡◌, ◌≢◌, ◌⊎◌, ◌<◌, ◌≤◌, ℕ, Bool, true, List, [], ◌++◌, length, Option, Some, None, Ok, Err, MatchOption, IsSome, ⊤}
+use Rattle.std.specs.Prelude.{◌≡◌, ◌≢◌, ◌⊎◌, ◌<◌, ◌≤◌, ℕ, Bool, true, IsTrue, List, [], ◌∷◌, ◌++◌, length, Option, Some, None, Ok, Err, MatchOption, IsSome, ⊤}
 use Rattle.pack_defs.specs.Book.{BookView}
+use Rattle.pack_defs.specs.Lists.{is_in}
 use Rattle.pack_defs.specs.ClockRule.{ClockState, clock_rule, on_air_set}
 use Rattle.pack_defs.specs.Packing.{IsPacking}
 use Rattle.outside_io.specs.Faults.{HasRisen}
@@ -41,6 +42,15 @@ pub record IsRecordOf (inputs : Inputs) (rec : Record) : Type 0 where
 abbrev pub HoldsRecord : Option Record → Type 0
 HoldsRecord found = MatchOption found ⊤ (λ rec. (inputs : Inputs) × IsRecordOf inputs rec)
 
+-- a record that is there is that of the inputs that these files hold
+abbrev pub HoldsRecordOf : List StoredFile → RunNames → Option Record → Type 0
+HoldsRecordOf files names found =
+    MatchOption found ⊤ (λ rec. (inputs : Inputs) × (inputs_of files names ≡ Ok inputs) × IsRecordOf inputs rec)
+
+-- the statuses that there are
+abbrev pub IsStatus : ℕ → Type 0
+IsStatus status = IsTrue (is_in (0 ∷ 2 ∷ 3 ∷ 4 ∷ 5 ∷ 8 ∷ []) status)
+
 -- the record is there at status 0 and 4, and not at 2, 3 and 5
 pub record HasRecord (status : ℕ) (found : Option Record) : Type 0 where
   pub done : status ≡ 0 → IsSome found
@@ -58,16 +68,22 @@ pub record IsDone (files : List StoredFile) (after : Option (List StoredFile)) (
   pub summary : MatchOption held (held_after ≡ None) (λ old. held_after ≡ Some (old ++ summary_of inputs))
   pub recorded : MatchOption found ⊥ (IsRecordOf inputs)
 
--- either the folder failed, or RESULT holds the text of the result of the inputs that the files hold
-abbrev pub IsUnsaid : List StoredFile → Option (List StoredFile) → RunNames → ℕ → ℕ → Type 0
-IsUnsaid files after names faults faults' =
-    HasRisen faults faults' ⊎ ((inputs : Inputs) × (inputs_of files names ≡ Ok inputs)
-    × MatchOption after ⊥ (λ new. Puts files new names.result (result_of inputs)))
+-- Something could not be written: the store failed, of a folder that isn't steady, and the line names RESULT; or RESULT
+-- holds the text of the result of the inputs that the files hold, and of the summary no more than some was written.
+abbrev pub IsUnwritten : List StoredFile → Option (List StoredFile) → RunNames → Bool → ℕ → ℕ →
+    Option (List ℕ) → Option (List ℕ) → ℕ → ℕ → Type 0
+IsUnwritten files after names steady faults faults' held held' cuts cuts' =
+    ((steady ≢ true) × HasRisen faults faults' × Says held held' cuts cuts' (unwritten_line names.result))
+    ⊎ ((inputs : Inputs) × (inputs_of files names ≡ Ok inputs)
+    × MatchOption after ⊥ (λ new. Puts files new names.result (result_of inputs))
+    × HasRisen cuts cuts' × Says held held' cuts cuts' (summary_of inputs))
 
 -- what is said at the statuses that a line explains
 pub record SaysWhy (status : ℕ) (names : RunNames) (held held' : Option (List ℕ)) (cuts cuts' : ℕ) : Type 0 where
   pub unread : status ≡ 3 → (input : Input) × Says held held' cuts cuts' (unread_line (name_of names input))
-  pub unwritten : status ≡ 4 → HasRisen cuts cuts' ⊎ Says held held' cuts cuts' (unwritten_line names.result)
+  pub unwritten : status ≡ 4 →
+      Says held held' cuts cuts' (unwritten_line names.result)
+      ⊎ ((inputs : Inputs) × HasRisen cuts cuts' × Says held held' cuts cuts' (summary_of inputs))
   pub refused : status ≡ 5 → (input : Input) × Says held held' cuts cuts' (refused_line (name_of names input))
   pub memory : status ≡ 8 → Says held held' cuts cuts' memory_line
 

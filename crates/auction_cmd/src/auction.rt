@@ -6,7 +6,7 @@ ghost use Rattle.pack_defs.specs.Scenario.{IsWithinLimits};
 ghost use Rattle.pack_defs.specs.Prices.{start_set};
 ghost use Rattle.outside_io.specs.Files.{OthersStand, Puts, StoredFile};
 ghost use Rattle.outside_io.specs.Faults.{HasRisen};
-ghost use Rattle.auction_cmd.specs.Auction.{AreThere, Delivers, HasRecord, HasRoom, HoldsRecord, IsDone, IsRecordOf, IsUnsaid, SaysWhy, StopsWith, result_of, summary_of};
+ghost use Rattle.auction_cmd.specs.Auction.{AreThere, Delivers, HasRecord, HasRoom, HoldsRecord, HoldsRecordOf, IsDone, IsRecordOf, IsStatus, IsUnwritten, SaysWhy, StopsWith, result_of, summary_of};
 ghost use Rattle.auction_cmd.specs.Inputs.{inputs_of};
 ghost use Rattle.auction_cmd.specs.Says.{Says, memory_line, name_of, refused_line, unread_line, unwritten_line, usage_line};
 ghost use Rattle.auction_cmd.specs.Words.{RunNames, command_of, names_seen};
@@ -61,6 +61,8 @@ fn explain<K: Sink>(out: &mut K, names: &Names<'_>, stop: Stop) -> Finish
     ensures stopped { StopsWith stop result.status }
     ensures no_record { result.result ≡ None }
     ensures line { SaysWhy result.status (names_seen names.now) (K.held out.old) (K.held out.new) (K.faults out.old) (K.faults out.new) }
+    ensures unread { (input : Input) → stop ≡ Stop.CannotRead input →
+        Says (K.held out.old) (K.held out.new) (K.faults out.old) (K.faults out.new) (unread_line (name_of (names_seen names.now) input)) }
     ensures refused { (input : Input) → stop ≡ Stop.Refused input →
         Says (K.held out.old) (K.held out.new) (K.faults out.old) (K.faults out.new) (refused_line (name_of (names_seen names.now) input)) }
 {
@@ -125,6 +127,17 @@ fn deliver<F: Folder, K: Sink>(
     }
 }
 
+// The end of a run that carried the auction out.
+fn with_record(status: u8, kept: Record) -> Finish
+    ensures status { result.status ≡ status }
+    ensures kept { result.result ≡ Some kept }
+{
+    Finish {
+        status,
+        result: Some(kept),
+    }
+}
+
 /// Runs the program on these words, the first of which is its name: `run DOMAINS ROWS SCENARIO RESULT CHANNELS
 /// TRANSCRIPT`. It reads the domains, the rows and the scenario, carries the auction out by the clock rule, stores the
 /// result under RESULT and writes the summary.
@@ -138,6 +151,8 @@ pub fn auction_main<F: Folder, K: Sink>(
     folder: &mut F,
     out: &mut K,
 ) -> Finish
+    ensures statuses { IsStatus result.status }
+
     // Status 2 comes exactly where the words are no command.
     ensures usage { (result.status ≡ 2) ↔ (command_of (map string_bytes words.now) ≡ None) }
 
@@ -147,12 +162,16 @@ pub fn auction_main<F: Folder, K: Sink>(
         F.files folder.old ≡ Some files → command_of (map string_bytes words.now) ≡ Some names → result.status ≡ 0 →
         IsDone files (F.files folder.new) (K.held out.old) (K.held out.new) names result.result }
 
-    // A record is backed and violates no row, also where the folder tells nothing. It is there at 0 and 4.
+    // A record is backed and violates no row, also where the folder tells nothing; where it tells its files, the record
+    // is that of the inputs that they hold. It is there at 0 and 4.
     ensures record { HoldsRecord result.result }
+    ensures record_of_files { (files : List StoredFile) (names : RunNames) →
+        F.files folder.old ≡ Some files → command_of (map string_bytes words.now) ≡ Some names →
+        HoldsRecordOf files names result.result }
     ensures recorded { HasRecord result.status result.result }
 
-    // Status 5 comes exactly where an input is too long or refused, and its line names the file. Before that the folder
-    // may fail, or memory.
+    // Status 5 comes exactly where an input is too long or refused, and its line names the file. Before that memory may
+    // run out, and a folder that isn't steady may fail.
     ensures refused { (files : List StoredFile) (names : RunNames) →
         F.files folder.old ≡ Some files → command_of (map string_bytes words.now) ≡ Some names → result.status ≡ 5 →
         (input : Input) × (inputs_of files names ≡ Err (Stop.Refused input))
@@ -160,7 +179,7 @@ pub fn auction_main<F: Folder, K: Sink>(
     ensures refuses { (files : List StoredFile) (names : RunNames) (input : Input) →
         F.files folder.old ≡ Some files → command_of (map string_bytes words.now) ≡ Some names →
         inputs_of files names ≡ Err (Stop.Refused input) →
-        (result.status ≡ 5) ⊎ ((result.status ≡ 3) ⊎ (result.status ≡ 8)) }
+        (result.status ≡ 5) ⊎ ((result.status ≡ 8) ⊎ ((result.status ≡ 3) × (F.steady folder.old ≢ true))) }
 
     // Status 3 comes only where the folder's count of faults rose, and never over a steady folder that has the inputs.
     ensures unread { result.status ≡ 3 → HasRisen (F.faults folder.old) (F.faults folder.new) }
@@ -168,24 +187,31 @@ pub fn auction_main<F: Folder, K: Sink>(
         F.files folder.old ≡ Some files → command_of (map string_bytes words.now) ≡ Some names →
         F.steady folder.old ≡ true → AreThere files names → result.status ≢ 3 }
 
+    // Over a steady folder the input that isn't there is the one that can't be read, and the line names it.
+    ensures missing { (files : List StoredFile) (names : RunNames) (input : Input) →
+        F.files folder.old ≡ Some files → command_of (map string_bytes words.now) ≡ Some names →
+        F.steady folder.old ≡ true → inputs_of files names ≡ Err (Stop.CannotRead input) →
+        (result.status ≡ 8) ⊎ ((result.status ≡ 3)
+        × Says (K.held out.old) (K.held out.new) (K.faults out.old) (K.faults out.new) (unread_line (name_of names input))) }
+
     // Where no record is there, no file was touched; and no other than RESULT ever is.
     ensures untouched { result.result ≡ None → F.files folder.new ≡ F.files folder.old }
     ensures others { (files : List StoredFile) (names : RunNames) →
         F.files folder.old ≡ Some files → command_of (map string_bytes words.now) ≡ Some names →
         MatchOption (F.files folder.new) ⊥ (λ new. OthersStand files new names.result) }
 
-    // Status 4 comes only where the folder's count rose, or the sink's did and RESULT holds its text; and never over a
-    // steady folder and a sink that surely takes the summary.
+    // Status 4 comes only where the folder's count rose, and the line names RESULT; or where the sink's did, RESULT holds
+    // its text, and no more than some of the summary was written. It never comes over a steady folder and a sink that
+    // surely takes the summary.
     ensures unwritten { result.status ≡ 4 →
         HasRisen (F.faults folder.old) (F.faults folder.new) ⊎ HasRisen (K.faults out.old) (K.faults out.new) }
+    ensures stored { (files : List StoredFile) (names : RunNames) →
+        F.files folder.old ≡ Some files → command_of (map string_bytes words.now) ≡ Some names → result.status ≡ 4 →
+        IsUnwritten files (F.files folder.new) names (F.steady folder.old) (F.faults folder.old) (F.faults folder.new)
+        (K.held out.old) (K.held out.new) (K.faults out.old) (K.faults out.new) }
     ensures surely_written { (files : List StoredFile) (names : RunNames) →
         F.files folder.old ≡ Some files → command_of (map string_bytes words.now) ≡ Some names →
         F.steady folder.old ≡ true → HasRoom files names (K.sure out.old) → result.status ≢ 4 }
-
-    // Where RESULT could be stored and the summary not written, RESULT holds its text.
-    ensures stored { (files : List StoredFile) (names : RunNames) →
-        F.files folder.old ≡ Some files → command_of (map string_bytes words.now) ≡ Some names → result.status ≡ 4 →
-        IsUnsaid files (F.files folder.new) names (F.faults folder.old) (F.faults folder.new) }
 
     // At the other statuses a line says what happened, as far as the sink takes it.
     ensures line { MatchOption (command_of (map string_bytes words.now)) ⊤ (λ names.
@@ -214,13 +240,10 @@ pub fn auction_main<F: Folder, K: Sink>(
         Ok(settled) => settled,
         Err(_) => return explain(out, &names, Stop::NoMemory),
     };
-    let status = match deliver(folder, out, names.result, &settled.result, &settled.summary) {
-        Delivery::Done => 0,
-        Delivery::CannotWrite | Delivery::CannotSay => 4,
-        Delivery::NoMemory => 8,
-    };
-    Finish {
-        status,
-        result: Some(settled.record),
+    match deliver(folder, out, names.result, &settled.result, &settled.summary) {
+        Delivery::Done => with_record(0, settled.record),
+        Delivery::CannotWrite => with_record(4, settled.record),
+        Delivery::CannotSay => with_record(4, settled.record),
+        Delivery::NoMemory => with_record(8, settled.record),
     }
 }

@@ -12,4 +12,6 @@ pub mod record;
 pub mod result_text;
 mod says;
 pub mod scenario_json;
+#[cfg(test)]
+mod tests;
 pub mod words;
