@@ -6,10 +6,9 @@ mod domain_row;
 mod domain_table;
 pub mod domains;
 pub mod error;
-mod field;
+pub mod field;
 mod interference_row;
 mod pair_table;
 pub mod pairs;
-mod records;
-#[cfg(test)]
-mod tests;
+mod record;
+pub mod records;
