@@ -31,8 +31,8 @@ abbrev pub row_on : Offset → ℕ → ℕ → ℕ → List ℕ → Result Row R
 row_on offset a b s others =
     if is_channel a && is_channel b
     then (if b + offset.below == a + offset.above
-        then Ok (record { channel = a; other_channel = b; station = s; others = others })
-        else Err BadOffset)
+    then Ok (record { channel = a; other_channel = b; station = s; others = others })
+    else Err BadOffset)
     else Err ChannelRange
 
 -- the row of these fields

@@ -12,3 +12,5 @@ mod pair_table;
 pub mod pairs;
 mod record;
 pub mod records;
+#[cfg(test)]
+mod tests;
