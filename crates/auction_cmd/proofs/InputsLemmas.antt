@@ -10,7 +10,7 @@ use Rattle.auction_cmd.specs.declared.inputs.Input.TheVariants.{Domains, Rows, S
 use Rattle.auction_cmd.specs.declared.inputs.Stop.{Stop}
 use Rattle.auction_cmd.specs.declared.inputs.Stop.TheVariants.{CannotRead, Refused, NoMemory}
 use Rattle.auction_cmd.specs.Auction.{AreThere}
-use Rattle.auction_cmd.specs.Inputs.{accepted, and_then, bytes_within, file_as, file_limit, inputs_from, inputs_of}
+use Rattle.auction_cmd.specs.Inputs.{accepted, and_then, bytes_within, file_as, file_limit, inputs_from, inputs_of, ok_of}
 use Rattle.auction_cmd.specs.Joined.{joined}
 use Rattle.auction_cmd.specs.ScenarioOf.{scenario_of}
 use Rattle.auction_cmd.specs.Words.{RunNames}
@@ -49,7 +49,7 @@ can_join sc (Err why) i e = cc
 pub can-read : (files : List StoredFile) (names : RunNames) (i : Input) → AreThere files names → inputs_of files names ≡ Err (CannotRead i) → ⊥
 unfolding inputs_of CanRead
 can-read files names i h =
-    goes_on (file_as files names.domains Domains domains_of) _ (can_file files names.domains Domains domains_of h.domains) (λ domains.
-    goes_on (file_as files names.rows Rows (λ bytes. pairs_of bytes domains)) _ (can_file files names.rows Rows (λ bytes. pairs_of bytes domains) h.rows) (λ pairs.
+    goes_on (file_as files names.domains Domains (λ bytes. ok_of (domains_of bytes))) _ (can_file files names.domains Domains (λ bytes. ok_of (domains_of bytes)) h.domains) (λ domains.
+    goes_on (file_as files names.rows Rows (λ bytes. ok_of (pairs_of bytes domains))) _ (can_file files names.rows Rows (λ bytes. ok_of (pairs_of bytes domains)) h.rows) (λ pairs.
     goes_on (file_as files names.scenario ScenarioFile scenario_of) _ (can_file files names.scenario ScenarioFile scenario_of h.scenario) (λ sc.
-    can_join sc (joined sc domains pairs)))) i
+    can_join sc (joined sc domains pairs.list)))) i

@@ -4,6 +4,7 @@ use Rattle.outside_io.specs.Faults.{HasRisen}
 use Rattle.outside_io.specs.Files.{StoredFile, bytes_of}
 use Rattle.constraint_files.specs.Domains.{domains_of}
 use Rattle.constraint_files.specs.Rows.{pairs_of}
+use Rattle.constraint_files.specs.declared.error.ReadErr.{ReadErr}
 use Rattle.pack_defs.specs.declared.scenario.Scenario.{Scenario}
 use Rattle.pack_defs.specs.Book.{BookView}
 use Rattle.auction_cmd.specs.declared.inputs.Input.{Input}
@@ -35,6 +36,11 @@ abbrev pub accepted : {A : Type 0} → Input → Option A → Result A Stop
 accepted input None = Err (Refused input)
 accepted input (Some x) = Ok x
 
+-- what a reader of a constraint file gives, if it doesn't refuse it
+abbrev pub ok_of : {A : Type 0} → Result A ReadErr → Option A
+ok_of (Ok x) = Some x
+ok_of (Err why) = None
+
 -- what an input file holds, by a reader's definition
 abbrev pub file_as : {A : Type 0} → List StoredFile → List ℕ → Input → (List ℕ → Option A) → Result A Stop
 file_as files name input read = and_then (bytes_within input (bytes_of files name)) (λ bytes. accepted input (read bytes))
@@ -48,10 +54,10 @@ inputs_from sc (Err e) = Err (Refused Domains)
 -- then the scenario, each there, within the limit and accepted by its reader; then the book that they make.
 unfoldable pub inputs_of : List StoredFile → RunNames → Result Inputs Stop
 inputs_of files names =
-    and_then (file_as files names.domains Domains domains_of) (λ domains.
-    and_then (file_as files names.rows Rows (λ bytes. pairs_of bytes domains)) (λ pairs.
+    and_then (file_as files names.domains Domains (λ bytes. ok_of (domains_of bytes))) (λ domains.
+    and_then (file_as files names.rows Rows (λ bytes. ok_of (pairs_of bytes domains))) (λ pairs.
     and_then (file_as files names.scenario ScenarioFile scenario_of) (λ sc.
-    inputs_from sc (joined sc domains pairs))))
+    inputs_from sc (joined sc domains pairs.list))))
 
 -- What a call answers, seen so, is what the files hold. Memory may run out; and a folder that isn't steady may fail to
 -- read a file that is there.

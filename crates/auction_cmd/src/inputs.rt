@@ -8,7 +8,7 @@ ghost use Rattle.constraint_files.specs.Rows.{pairs_of};
 ghost use Rattle.pack_defs.specs.Scenario.{IsWithinLimits};
 ghost use Rattle.pack_defs.specs.Prices.{start_set};
 ghost use Rattle.auction_cmd.specs.ScenarioOf.{scenario_of};
-ghost use Rattle.auction_cmd.specs.Inputs.{Agrees, CountsFault, bytes_within, file_as, inputs_of};
+ghost use Rattle.auction_cmd.specs.Inputs.{Agrees, CountsFault, bytes_within, file_as, inputs_of, ok_of};
 ghost use Rattle.auction_cmd.specs.Words.{names_seen};
 
 use crate::join::{JoinErr, join};
@@ -71,7 +71,7 @@ fn load<F: Folder>(alloc: Global, folder: &mut F, name: &str, input: Input) -> R
 // The domains that a file holds.
 fn domains_from<F: Folder>(alloc: Global, folder: &mut F, name: &str) -> Result<Domains, Stop>
     ensures told { (files : List StoredFile) → F.files folder.old ≡ Some files →
-        Agrees (λ d. d) (F.steady folder.old) (file_as files name.now Input.Domains domains_of) result }
+        Agrees (λ d. d) (F.steady folder.old) (file_as files name.now Input.Domains (λ bytes. ok_of (domains_of bytes))) result }
     ensures files { F.files folder.new ≡ F.files folder.old }
     ensures steady { F.steady folder.new ≡ F.steady folder.old }
     ensures counted { CountsFault (F.faults folder.old) (F.faults folder.new) result }
@@ -79,7 +79,7 @@ fn domains_from<F: Folder>(alloc: Global, folder: &mut F, name: &str) -> Result<
     let bytes = load(alloc, folder, name, Input::Domains)?;
     match read_domains(alloc, &bytes) {
         Ok(domains) => Ok(domains),
-        Err(ReadErr::Refused) => Err(Stop::Refused(Input::Domains)),
+        Err(ReadErr::Row { .. }) => Err(Stop::Refused(Input::Domains)),
         Err(ReadErr::NoMemory) => Err(Stop::NoMemory),
     }
 }
@@ -92,7 +92,7 @@ fn pairs_from<F: Folder>(
     domains: &Domains,
 ) -> Result<Pairs, Stop>
     ensures told { (files : List StoredFile) → F.files folder.old ≡ Some files →
-        Agrees (λ p. p) (F.steady folder.old) (file_as files name.now Input.Rows (λ bytes. pairs_of bytes domains.now)) result }
+        Agrees (λ p. p) (F.steady folder.old) (file_as files name.now Input.Rows (λ bytes. ok_of (pairs_of bytes domains.now))) result }
     ensures files { F.files folder.new ≡ F.files folder.old }
     ensures steady { F.steady folder.new ≡ F.steady folder.old }
     ensures counted { CountsFault (F.faults folder.old) (F.faults folder.new) result }
@@ -100,7 +100,7 @@ fn pairs_from<F: Folder>(
     let bytes = load(alloc, folder, name, Input::Rows)?;
     match read_pairs(alloc, &bytes, domains) {
         Ok(pairs) => Ok(pairs),
-        Err(ReadErr::Refused) => Err(Stop::Refused(Input::Rows)),
+        Err(ReadErr::Row { .. }) => Err(Stop::Refused(Input::Rows)),
         Err(ReadErr::NoMemory) => Err(Stop::NoMemory),
     }
 }

@@ -40,7 +40,7 @@ impl From<AllocError> for JoinErr {
 #[tactic(auto, unfolding(crate::specs::Joined::joined))]
 pub fn join(alloc: Global, sc: &Scenario, domains: &Domains, pairs: &Pairs) -> Result<Book, JoinErr>
     requires { IsWithinLimits sc.now }
-    ensures { Joins (joined sc.now domains.now pairs.now) result }
+    ensures { Joins (joined sc.now domains.now pairs.now.list) result }
 {
     let ids = ids_of(alloc, sc.stations.as_slice())?;
     if let Some(station) = first_missing(&ids, domains) {

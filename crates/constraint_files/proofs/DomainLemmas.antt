@@ -1,14 +1,15 @@
 -- The channels of a domain, and domains in order.
-use Rattle.std.proofs.Common.{◌≡◌, ◌<◌, ◌≤◌, ◌+◌, ◌-◌, ◌∷◌, ◌++◌, [], ℕ, List, Bool, Option, None, true, false, cond, codes, zero, suc, refl, arith, filter, drop}
+use Rattle.std.proofs.Common.{◌≡◌, ◌<◌, ◌≤◌, ◌+◌, ◌-◌, ◌∷◌, ◌++◌, [], ℕ, List, Bool, Some, None, Err, cond, codes, zero, suc, refl, arith, filter, drop}
 use Rattle.std.specs.List.{range_with_len}
-use Rattle.std.specs.Option.{option_and_then, option_map_or}
+use Rattle.std.specs.Option.{ok_or, option_and_then}
 use Rattle.std.specs.Str.{bytes_eq}
 use Rattle.std.proofs.lemmas.List.{map-id}
 use Rattle.std.proofs.lemmas.List.FromFn.{filter_of_map_range_with_len_more}
 use Rattle.csv.specs.Records.{field_at}
-use Rattle.pack_defs.specs.declared.domain.Domain.{Domain}
 use Rattle.constraint_files.specs.Domains.{channels_to_keep, domain_naming, domain_row}
 use Rattle.constraint_files.specs.Numbers.{number, numbers}
+use Rattle.constraint_files.specs.Steps.{◌>>=◌}
+use Rattle.constraint_files.specs.declared.error.RowWhy.TheVariants.{ShortRow, BadKey, BadNumber}
 
 -- a filter goes by what its test says of the range's numbers
 filter-range : (p q : ℕ → Bool) (a n : ℕ) → ((c : ℕ) → a ≤ c → c < a + n → p c ≡ q c) → filter p (range_with_len a n) ≡ filter q (range_with_len a n)
@@ -35,11 +36,25 @@ unfolding channels_to_keep
 kept-all p j e = rw e refl
 
 -- the domain of a record, by its first fields
-pub domain_row-is : (fields : List (List ℕ)) → domain_row fields
-    ≡ cond (option_map_or (λ first. bytes_eq first (codes "DOMAIN")) (field_at fields 0) false)
-    (option_and_then (λ station. option_and_then (domain_naming station) (numbers (drop 2 fields))) (option_and_then number (field_at fields 1)))
-    None
+pub without-first : (fields : List (List ℕ)) → field_at fields 0 ≡ None → domain_row fields ≡ Err ShortRow
 unfolding domain_row field_at
-domain_row-is [] = refl
-domain_row-is (key ∷ []) = elim (bytes_eq key (codes "DOMAIN")) as (λ b. ◌≡◌ {A = Option Domain} None (cond b None None)) [ true ↦ refl | false ↦ refl ]
-domain_row-is (key ∷ facility ∷ channels) = refl
+without-first [] e = refl
+without-first (key ∷ fields) e = cc
+
+pub without-second : (fields : List (List ℕ)) → field_at fields 1 ≡ None → domain_row fields ≡ Err ShortRow
+unfolding domain_row field_at
+without-second [] e = refl
+without-second (key ∷ []) e = refl
+without-second (key ∷ facility ∷ channels) e = cc
+
+some-key : (x y : List ℕ) → Some x ≡ Some y → x ≡ y
+some-key x y e = cc
+
+pub domain_row-is : (fields : List (List ℕ)) (key second : List ℕ) → field_at fields 0 ≡ Some key → field_at fields 1 ≡ Some second → domain_row fields
+    ≡ cond (bytes_eq key (codes "DOMAIN"))
+    (ok_or (option_and_then number (field_at fields 1)) BadNumber >>= (λ station. ok_or (numbers (drop 2 fields)) BadNumber >>= domain_naming station))
+    (Err BadKey)
+unfolding domain_row field_at
+domain_row-is [] key second e h = cc
+domain_row-is (k ∷ []) key second e h = cc
+domain_row-is (k ∷ facility ∷ channels) key second e h = rw (some-key k key e) refl

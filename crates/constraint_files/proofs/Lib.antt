@@ -2,6 +2,7 @@ pub mod Whole
 pub mod LineLemmas
 pub mod NumberLemmas
 pub mod DomainLemmas
+pub mod FieldLemmas
 pub mod ReadsLemmas
 pub mod TableLemmas
 pub mod LookupLemmas

@@ -1,8 +1,8 @@
 -- What the definitions give is in order.
-use Rattle.std.proofs.Common.{◌≡◌, ◌<◌, ◌+◌, ◌∷◌, [], ℕ, List, Bool, Option, Some, None, true, false, codes, cond, nat_lt, refl, arith, map, eqb, subst}
+use Rattle.std.proofs.Common.{◌≡◌, ◌<◌, ◌+◌, ◌∷◌, [], ℕ, List, Bool, Option, Some, None, Result, Ok, Err, true, false, codes, cond, length, nat_le, nat_lt, refl, arith, map, eqb, subst}
 use Rattle.std.specs.List.{list_all}
 use Rattle.std.specs.List.Sorted.{IsStrictlyIncreasing}
-use Rattle.std.specs.Option.{is_some, option_and_then}
+use Rattle.std.specs.Option.{is_some, ok_or}
 use Rattle.std.specs.Str.{bytes_eq}
 use Rattle.std.proofs.lemmas.Bool.{and_from, and_parts, eqb-false, ltb-false, ltb-true, lt-ltb}
 use Rattle.std.proofs.lemmas.List.FromFn.{get_or-range_with_len}
@@ -13,19 +13,34 @@ use Rattle.pack_defs.specs.Lists.{is_ascending, is_in}
 use Rattle.pack_defs.specs.declared.domain.Domain.{Domain}
 use Rattle.constraint_files.specs.Domains.{add_domain_row, channels_to_keep, domain_naming, domain_row, domains_of, kept_channels, put_domain, channels_of, with_domain}
 use Rattle.constraint_files.specs.Numbers.{is_channel, number, numbers}
-use Rattle.constraint_files.specs.Records.{after_records, records_of}
+use Rattle.constraint_files.specs.Records.{after_lines, after_records, line_records, lines_of, past_line}
+use Rattle.constraint_files.specs.Steps.{◌>>=◌}
+use Rattle.constraint_files.specs.declared.error.RowWhy.{RowWhy}
+use Rattle.constraint_files.specs.declared.error.RowWhy.TheVariants.{BadKey, BadNumber, ChannelRange, SecondDomain, TooMany}
 
 -- what each record keeps, all keep
-pub after-keeps : {S : Type 0} (add : S → List (List ℕ) → Option S) (P : S → Type 0) → ((s last : S) (r : List (List ℕ)) → P s → add s r ≡ Some last → P last)
-    → (s last : S) (rs : List (List (List ℕ))) → P s → after_records add s rs ≡ Some last → P last
+after-keeps : {S : Type 0} (add : S → List (List ℕ) → Result S RowWhy) (P : S → Type 0) → ((s last : S) (r : List (List ℕ)) → P s → add s r ≡ Ok last → P last)
+    → (s last : S) (rs : List (List (List ℕ))) → P s → after_records add s rs ≡ Ok last → P last
 unfolding after_records
 after-keeps add P keeps s last [] p e = subst P (cc) p
 after-keeps {S = S} add P keeps s last (r ∷ rs) p e = go (add s r) (λ next k. keeps s next r p k) (λ next q h. after-keeps add P keeps next last rs q h) e
   where
-    go : (o : Option S) → ((next : S) → o ≡ Some next → P next) → ((next : S) → P next → after_records add next rs ≡ Some last → P last)
-        → option_and_then (λ next. after_records add next rs) o ≡ Some last → P last
-    go None kept later h = cc
-    go (Some next) kept later h = later next (kept next refl) h
+    go : (o : Result S RowWhy) → ((next : S) → o ≡ Ok next → P next) → ((next : S) → P next → after_records add next rs ≡ Ok last → P last)
+        → (o >>= (λ next. after_records add next rs)) ≡ Ok last → P last
+    go (Err why) kept later h = cc
+    go (Ok next) kept later h = later next (kept next refl) h
+
+pub lines-keep : {S : Type 0} (add : S → List (List ℕ) → Result S RowWhy) (P : S → Type 0) → ((s last : S) (r : List (List ℕ)) → P s → add s r ≡ Ok last → P last)
+    → (s last : S) (number : ℕ) (lines : List (List ℕ)) → P s → after_lines add s number lines ≡ Ok last → P last
+unfolding after_lines
+lines-keep add P keeps s last number [] p e = subst P (cc) p
+lines-keep {S = S} add P keeps s last number (line ∷ lines) p e =
+    go (after_records add s (line_records line)) (λ next k. after-keeps add P keeps s next (line_records line) p k) (λ next q h. lines-keep add P keeps next last (number + 1) lines q h) e
+  where
+    go : (o : Result S RowWhy) → ((next : S) → o ≡ Ok next → P next) → ((next : S) → P next → after_lines add next (number + 1) lines ≡ Ok last → P last)
+        → past_line number o (λ next. after_lines add next (number + 1) lines) ≡ Ok last → P last
+    go (Err why) kept later h = cc
+    go (Ok next) kept later h = later next (kept next refl) h
 
 -- the channels of a domain ascend
 to-keep-rise : IsStrictlyIncreasing channels_to_keep
@@ -36,30 +51,30 @@ to-keep-rise k h =
 pub kept-ascend : (named : List ℕ) → is_ascending (kept_channels named) ≡ true
 kept-ascend named = ascending-from (kept_channels named) (IsStrictlyIncreasing-filter (λ c. is_in named c) channels_to_keep to-keep-rise)
 
-naming-ascends : (s : ℕ) (named : List ℕ) (d : Domain) → domain_naming s named ≡ Some d → is_ascending d.channels ≡ true
+naming-ascends : (s : ℕ) (named : List ℕ) (d : Domain) → domain_naming s named ≡ Ok d → is_ascending d.channels ≡ true
 naming-ascends s named d e = go (list_all is_channel named) e
   where
-    go : (b : Bool) → cond b (Some (record { station = s; channels = kept_channels named })) None ≡ Some d → is_ascending d.channels ≡ true
+    go : (b : Bool) → cond b (Ok (record { station = s; channels = kept_channels named })) (Err ChannelRange) ≡ Ok d → is_ascending d.channels ≡ true
     go true h =
         let is : record { station = s; channels = kept_channels named } ≡ d = cc in
         rw (← is) (kept-ascend named)
     go false h = cc
 
-row-ascends : (fields : List (List ℕ)) (d : Domain) → domain_row fields ≡ Some d → is_ascending d.channels ≡ true
+row-ascends : (fields : List (List ℕ)) (d : Domain) → domain_row fields ≡ Ok d → is_ascending d.channels ≡ true
 unfolding domain_row
 row-ascends [] d e = cc
 row-ascends (key ∷ []) d e = cc
 row-ascends (key ∷ facility ∷ channels) d e = by_key (bytes_eq key (codes "DOMAIN")) e
   where
-    by_numbers : (s : ℕ) (o : Option (List ℕ)) → option_and_then (domain_naming s) o ≡ Some d → is_ascending d.channels ≡ true
+    by_numbers : (s : ℕ) (o : Option (List ℕ)) → (ok_or o BadNumber >>= domain_naming s) ≡ Ok d → is_ascending d.channels ≡ true
     by_numbers s None h = cc
     by_numbers s (Some named) h = naming-ascends s named d h
 
-    by_station : (o : Option ℕ) → option_and_then (λ s. option_and_then (domain_naming s) (numbers channels)) o ≡ Some d → is_ascending d.channels ≡ true
+    by_station : (o : Option ℕ) → (ok_or o BadNumber >>= (λ s. ok_or (numbers channels) BadNumber >>= domain_naming s)) ≡ Ok d → is_ascending d.channels ≡ true
     by_station None h = cc
     by_station (Some s) h = by_numbers s (numbers channels) h
 
-    by_key : (b : Bool) → cond b (option_and_then (λ s. option_and_then (domain_naming s) (numbers channels)) (number facility)) None ≡ Some d → is_ascending d.channels ≡ true
+    by_key : (b : Bool) → cond b (ok_or (number facility) BadNumber >>= (λ s. ok_or (numbers channels) BadNumber >>= domain_naming s)) (Err BadKey) ≡ Ok d → is_ascending d.channels ≡ true
     by_key true h = by_station (number facility) h
     by_key false h = cc
 
@@ -101,24 +116,25 @@ with-channels d (e ∷ es) one all = go (nat_lt e.station d.station) (with-chann
     go true later = and_from _ _ (and_parts _ _ all).0 later
     go false later = and_from _ _ one all
 
-put-in-order : (ds last : List Domain) (d : Domain) → is_ascending d.channels ≡ true → AreInOrder ds → put_domain ds d ≡ Some last → AreInOrder last
-put-in-order ds last d one order e = go (is_some (channels_of ds d.station)) refl e
+put-in-order : (ds last : List Domain) (d : Domain) → is_ascending d.channels ≡ true → AreInOrder ds → put_domain ds d ≡ Ok last → AreInOrder last
+put-in-order ds last d one order e = go (is_some (channels_of ds d.station)) (nat_le 65536 (length ds)) refl e
   where
-    go : (b : Bool) → is_some (channels_of ds d.station) ≡ b → cond b None (Some (with_domain d ds)) ≡ Some last → AreInOrder last
-    go true s h = cc
-    go false s h =
+    go : (b full : Bool) → is_some (channels_of ds d.station) ≡ b → cond b (Err SecondDomain) (cond full (Err TooMany) (Ok (with_domain d ds))) ≡ Ok last → AreInOrder last
+    go true full s h = cc
+    go false true s h = cc
+    go false false s h =
         let is : with_domain d ds ≡ last = cc in
         subst AreInOrder is (record { stations = with-ascends d ds order.stations s; channels = with-channels d ds one order.channels })
 
-add-in-order : (ds last : List Domain) (r : List (List ℕ)) → AreInOrder ds → add_domain_row ds r ≡ Some last → AreInOrder last
+add-in-order : (ds last : List Domain) (r : List (List ℕ)) → AreInOrder ds → add_domain_row ds r ≡ Ok last → AreInOrder last
 add-in-order ds last r order e = go (domain_row r) (row-ascends r) e
   where
-    go : (o : Option Domain) → ((d : Domain) → o ≡ Some d → is_ascending d.channels ≡ true) → option_and_then (put_domain ds) o ≡ Some last → AreInOrder last
-    go None one h = cc
-    go (Some d) one h = put-in-order ds last d (one d refl) order h
+    go : (o : Result Domain RowWhy) → ((d : Domain) → o ≡ Ok d → is_ascending d.channels ≡ true) → (o >>= put_domain ds) ≡ Ok last → AreInOrder last
+    go (Err why) one h = cc
+    go (Ok d) one h = put-in-order ds last d (one d refl) order h
 
 -- the domains of a file are in order
-pub domains-in-order : (bytes : List ℕ) (ds : List Domain) → domains_of bytes ≡ Some ds → AreInOrder ds
+pub domains-in-order : (bytes : List ℕ) (ds : List Domain) → domains_of bytes ≡ Ok ds → AreInOrder ds
 unfolding domains_of
 domains-in-order bytes ds e =
-    after-keeps add_domain_row AreInOrder add-in-order [] ds (records_of bytes) (record { stations = refl; channels = refl }) e
+    lines-keep add_domain_row AreInOrder add-in-order [] ds 1 (lines_of bytes) (record { stations = refl; channels = refl }) e

@@ -1,14 +1,18 @@
 -- The pairs of a file ascend.
-use Rattle.std.proofs.Common.{◌≡◌, ◌∷◌, [], ℕ, List, Bool, Option, Some, None, true, false, cond, refl, fold}
-use Rattle.std.specs.Option.{option_and_then, option_map_or}
+use Rattle.std.proofs.Common.{◌≡◌, ◌+◌, ◌&&◌, ◌∷◌, [], ℕ, List, Bool, Option, Some, None, Result, Ok, Err, true, false, cond, eqb, length, nat_lt, refl, fold}
+use Rattle.pack_defs.specs.Lists.{is_in}
 use Rattle.std.proofs.lemmas.Bool.{and_from, and_parts}
 use Rattle.pack_defs.specs.Book.{comes_before, pairs_ascend}
 use Rattle.pack_defs.specs.declared.domain.Domain.{Domain}
 use Rattle.pack_defs.specs.declared.pair.Pair.{Pair}
 use Rattle.constraint_files.specs.declared.interference_row.Row.{Row}
-use Rattle.constraint_files.specs.Records.{records_of}
-use Rattle.constraint_files.specs.Rows.{add_row, interference_row, kept_pair, pairs_of, with_other, with_pair}
-use Rattle.constraint_files.proofs.OrderLemmas.{after-keeps}
+use Rattle.constraint_files.specs.Domains.{channels_of}
+use Rattle.constraint_files.specs.Records.{lines_of}
+use Rattle.constraint_files.specs.Steps.{◌>>=◌}
+use Rattle.constraint_files.specs.declared.error.RowWhy.{RowWhy}
+use Rattle.constraint_files.specs.declared.error.RowWhy.TheVariants.{TooMany}
+use Rattle.constraint_files.specs.Rows.{PairsView, add_row, if_few, interference_row, pair_of, pairs_of, with_kept, with_other, with_pair}
+use Rattle.constraint_files.proofs.OrderLemmas.{lines-keep}
 
 -- a pair in its place leaves the pairs ascending
 above-first : (x p : Pair) (qs : List Pair) → comes_before x p ≡ true → pairs_ascend (x ∷ qs) ≡ true
@@ -36,27 +40,44 @@ with-ascends (q ∷ qs) p up = go (comes_before q p) (comes_before p q) refl ref
     go false true a b later = and_from _ _ b up
     go false false a b later = up
 
-other-ascends : (domains : List Domain) (row : Row) (ps : List Pair) (t : ℕ) → pairs_ascend ps ≡ true → pairs_ascend (with_other domains row ps t) ≡ true
-other-ascends domains row ps t up = go (kept_pair domains row t)
+kept-ascends : (own theirs : Option (List ℕ)) (row : Row) (told : PairsView) (t : ℕ) → pairs_ascend told.list ≡ true → pairs_ascend (with_kept own theirs row told t).list ≡ true
+kept-ascends None theirs row told t up = up
+kept-ascends (Some own) None row told t up = up
+kept-ascends (Some own) (Some theirs) row told t up = go (is_in own row.channel && is_in theirs row.other_channel)
   where
-    go : (o : Option Pair) → pairs_ascend (option_map_or (with_pair ps) o ps) ≡ true
-    go None = up
-    go (Some p) = with-ascends ps p up
+    go : (b : Bool) → pairs_ascend (cond b (record { list = with_pair told.list (pair_of row.station row.channel t row.other_channel); self_pairs = told.self_pairs; strangers = told.strangers }) told).list ≡ true
+    go true = with-ascends told.list (pair_of row.station row.channel t row.other_channel) up
+    go false = up
 
-others-ascend : (domains : List Domain) (row : Row) (ps : List Pair) (ts : List ℕ) → pairs_ascend ps ≡ true → pairs_ascend (fold (with_other domains row) ps ts) ≡ true
-others-ascend domains row ps [] up = up
-others-ascend domains row ps (t ∷ ts) up = others-ascend domains row (with_other domains row ps t) ts (other-ascends domains row ps t up)
-
-row-ascends : (domains : List Domain) (ps last : List Pair) (r : List (List ℕ)) → pairs_ascend ps ≡ true → add_row domains ps r ≡ Some last → pairs_ascend last ≡ true
-row-ascends domains ps last r up e = go (interference_row r) e
+other-ascends : (domains : List Domain) (row : Row) (told : PairsView) (t : ℕ) → pairs_ascend told.list ≡ true → pairs_ascend (with_other domains row told t).list ≡ true
+other-ascends domains row told t up = go (eqb t row.station)
   where
-    go : (o : Option Row) → option_and_then (λ row. Some (fold (with_other domains row) ps row.others)) o ≡ Some last → pairs_ascend last ≡ true
-    go None h = cc
-    go (Some row) h =
-        let is : fold (with_other domains row) ps row.others ≡ last = cc in
-        rw (← is) (others-ascend domains row ps row.others up)
+    go : (b : Bool) → pairs_ascend (cond b (record { list = told.list; self_pairs = told.self_pairs + 1; strangers = told.strangers }) (with_kept (channels_of domains row.station) (channels_of domains t) row told t)).list ≡ true
+    go true = up
+    go false = kept-ascends (channels_of domains row.station) (channels_of domains t) row told t up
 
-pub pairs-ascend : (bytes : List ℕ) (domains : List Domain) (ps : List Pair) → pairs_of bytes domains ≡ Some ps → pairs_ascend ps ≡ true
+others-ascend : (domains : List Domain) (row : Row) (told : PairsView) (ts : List ℕ) → pairs_ascend told.list ≡ true → pairs_ascend (fold (with_other domains row) told ts).list ≡ true
+others-ascend domains row told [] up = up
+others-ascend domains row told (t ∷ ts) up = others-ascend domains row (with_other domains row told t) ts (other-ascends domains row told t up)
+
+few-ascend : (told last : PairsView) → pairs_ascend told.list ≡ true → if_few told ≡ Ok last → pairs_ascend last.list ≡ true
+few-ascend told last up e = go (nat_lt 4000000 (length told.list)) e
+  where
+    go : (b : Bool) → cond b (Err TooMany) (Ok told) ≡ Ok last → pairs_ascend last.list ≡ true
+    go true h = cc
+    go false h =
+        let is : told ≡ last = cc in
+        rw (← is) up
+
+row-ascends : (domains : List Domain) (told last : PairsView) (r : List (List ℕ)) → pairs_ascend told.list ≡ true → add_row domains told r ≡ Ok last → pairs_ascend last.list ≡ true
+row-ascends domains told last r up e = go (interference_row r) e
+  where
+    go : (o : Result Row RowWhy) → (o >>= (λ row. if_few (fold (with_other domains row) told row.others))) ≡ Ok last → pairs_ascend last.list ≡ true
+    go (Err why) h = cc
+    go (Ok row) h = few-ascend (fold (with_other domains row) told row.others) last (others-ascend domains row told row.others up) h
+
+-- the pairs of a file ascend
+pub pairs-ascend : (bytes : List ℕ) (domains : List Domain) (told : PairsView) → pairs_of bytes domains ≡ Ok told → pairs_ascend told.list ≡ true
 unfolding pairs_of
-pairs-ascend bytes domains ps e =
-    after-keeps (add_row domains) (λ qs. pairs_ascend qs ≡ true) (row-ascends domains) [] ps (records_of bytes) refl e
+pairs-ascend bytes domains told e =
+    lines-keep (add_row domains) (λ (x : PairsView). pairs_ascend x.list ≡ true) (λ s last r p k. row-ascends domains s last r p k) (record { list = []; self_pairs = 0; strangers = 0 }) told 1 (lines_of bytes) refl e

@@ -1,32 +1,33 @@
 -- A refusal, or want of memory, passes on.
-use Rattle.std.proofs.Common.{◌≡◌, ◌∙◌, ◌<◌, ◌+◌, ◌∷◌, ℕ, List, Option, None, Some, Err, ap, refl, length, get_or, drop, map}
-use Rattle.std.specs.Option.{ok_or, option_and_then}
-use Rattle.csv.specs.Records.{Row, fields_of}
-use Rattle.constraint_files.specs.Records.{after_records, line_records, lines_of, records_of}
+use Rattle.std.proofs.Common.{◌≡◌, ◌∙◌, ◌<◌, ◌+◌, ◌∷◌, ℕ, List, Result, Ok, Err, ap, refl, length, get_or, drop}
+use Rattle.constraint_files.specs.Records.{after_lines, after_records, line_records, lines_of, past_line}
 use Rattle.constraint_files.proofs.LineLemmas.{after-next, line-next}
-use Rattle.constraint_files.specs.Reads.{Changes, Reads}
+use Rattle.constraint_files.specs.Reads.{Changes, Takes}
+use Rattle.constraint_files.specs.Steps.{◌>>=◌}
 use Rattle.constraint_files.specs.declared.error.ReadErr.{ReadErr}
-use Rattle.constraint_files.specs.declared.error.ReadErr.TheVariants.{NoMemory, Refused}
+use Rattle.constraint_files.specs.declared.error.ReadErr.TheVariants.{Row}
+use Rattle.constraint_files.specs.declared.error.RowErr.{RowErr}
+use Rattle.constraint_files.specs.declared.error.RowErr.TheVariants.{NoMemory, Refused}
+use Rattle.constraint_files.specs.declared.error.RowWhy.{RowWhy}
 
-pub reads-on : {A B : Type 0} (f : A → Option B) (o : Option A) (e : ReadErr) → Reads o (Err e) → Reads (option_and_then f o) (Err e)
-reads-on f o Refused h = rw h refl
-reads-on f o NoMemory h = tt
+pub takes-on : {A B : Type 0} (f : A → Result B RowWhy) (o : Result A RowWhy) (e : RowErr) → Takes o (Err e) → Takes (o >>= f) (Err e)
+takes-on f o (Refused why) h = rw h refl
+takes-on f o NoMemory h = tt
 
--- a value, or else a refusal
-pub reads-ok_or : {A : Type 0} (o : Option A) → Reads o (ok_or o Refused)
-reads-ok_or None = refl
-reads-ok_or (Some x) = refl
+-- a call that takes a value or not, then one that changes the state
+pub changes-on : {A S : Type 0} (f : A → Result S RowWhy) (o : Result A RowWhy) (new : S) (e : RowErr) → Takes o (Err e) → Changes (o >>= f) new (Err e)
+changes-on f o new (Refused why) h = rw h refl
+changes-on f o new NoMemory h = tt
 
--- a row that is refused refuses all from it on
-pub stops : {S : Type 0} (add : S → List (List ℕ) → Option S) (state new : S) (rows : List Row) (i : ℕ) (r : Row) (e : ReadErr) → i < length rows → r ≡ get_or rows i r
-    → Changes (add state (fields_of r)) new (Err e) → Changes (after_records add state (map fields_of (drop i rows))) new (Err e)
-stops add state new rows i r Refused h is refused =
-    after-next add state rows i r h is ∙ ap (option_and_then (λ next. after_records add next (map fields_of (drop (i + 1) rows)))) refused
-stops add state new rows i r NoMemory h is refused = tt
+-- a record that is refused refuses all from it on
+pub stops : {S : Type 0} (add : S → List (List ℕ) → Result S RowWhy) (state new : S) (rs : List (List (List ℕ))) (i : ℕ) (r : List (List ℕ)) (e : RowErr) → i < length rs → r ≡ get_or rs i r
+    → Changes (add state r) new (Err e) → Changes (after_records add state (drop i rs)) new (Err e)
+stops add state new rs i r (Refused why) h is refused =
+    after-next add state rs i r h is ∙ ap (λ o. o >>= (λ next. after_records add next (drop (i + 1) rs))) refused
+stops add state new rs i r NoMemory h is refused = tt
 
 -- a line that is refused refuses all from it on
-pub stops-all : {S : Type 0} (add : S → List (List ℕ) → Option S) (state new : S) (bytes line rest : List ℕ) (e : ReadErr) → lines_of bytes ≡ line ∷ lines_of rest
-    → Changes (after_records add state (line_records line)) new (Err e) → Reads (after_records add state (records_of bytes)) (Err e)
-stops-all add state new bytes line rest Refused first refused =
-    line-next add state bytes line rest first ∙ ap (option_and_then (λ next. after_records add next (records_of rest))) refused
-stops-all add state new bytes line rest NoMemory first refused = tt
+pub stops-all : {S : Type 0} (add : S → List (List ℕ) → Result S RowWhy) (state : S) (number : ℕ) (bytes line rest : List ℕ) (why : RowWhy) → lines_of bytes ≡ line ∷ lines_of rest
+    → after_records add state (line_records line) ≡ Err why → after_lines add state number (lines_of bytes) ≡ Err (Row number why)
+stops-all add state number bytes line rest why first refused =
+    line-next add state number bytes line rest first ∙ ap (λ o. past_line number o (λ next. after_lines add next (number + 1) (lines_of rest))) refused

@@ -3,7 +3,7 @@ use Rattle.std.specs.Prelude.{ℕ, Bool, not, ◌&&◌, nat_le, if◌then◌else
 use Rattle.std.specs.Str.{all_ascii_digits}
 use Rattle.std.specs.Str.Parse.{digits_value}
 use Rattle.pack_defs.specs.Lists.{is_empty}
-use Rattle.constraint_files.specs.Steps.{◌>>=◌}
+use Rattle.std.specs.Option.{option_and_then}
 
 -- the number of a field: one or more ASCII digits, leading zeros allowed, at most 2^32 - 1
 unfoldable pub number : List ℕ → Option ℕ
@@ -15,10 +15,7 @@ number field =
 -- the numbers of some fields, if each has one
 unfoldable pub numbers : List (List ℕ) → Option (List ℕ)
 numbers [] = Some []
-numbers (field ∷ fields) = do
-  n ← number field
-  ns ← numbers fields
-  Some (n ∷ ns)
+numbers (field ∷ fields) = option_and_then (λ n. option_and_then (λ ns. Some (n ∷ ns)) (numbers fields)) (number field)
 
 -- a channel that a file may name
 abbrev pub is_channel : ℕ → Bool

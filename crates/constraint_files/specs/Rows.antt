@@ -1,71 +1,98 @@
 -- What a rows file says: the pairs that interfere.
-use Rattle.std.specs.Prelude.{ℕ, ◌==◌, ◌&&◌, nat_lt, if◌then◌else◌, List, [], ◌∷◌, fold, Option, Some, None, codes}
-use Rattle.std.specs.Option.{option_map_or}
+use Rattle.std.specs.Prelude.{ℕ, ◌+◌, ◌==◌, ◌&&◌, nat_lt, if◌then◌else◌, List, [], ◌∷◌, fold, length, Option, Some, None, Result, Ok, Err, codes}
+use Rattle.std.specs.Option.{ok_or}
 use Rattle.std.specs.Str.{bytes_eq}
 use Rattle.pack_defs.specs.Book.{comes_before}
 use Rattle.pack_defs.specs.Lists.{is_in}
 use Rattle.pack_defs.specs.declared.domain.Domain.{Domain}
 use Rattle.pack_defs.specs.declared.pair.Pair.{Pair}
+use Rattle.constraint_files.specs.declared.error.ReadErr.{ReadErr}
+use Rattle.constraint_files.specs.declared.error.RowWhy.{RowWhy}
+use Rattle.constraint_files.specs.declared.error.RowWhy.TheVariants.{ShortRow, BadKey, BadNumber, ChannelRange, BadOffset, TooMany}
+use Rattle.constraint_files.specs.declared.interference_row.Offset.{Offset}
 use Rattle.constraint_files.specs.declared.interference_row.Row.{Row}
 use Rattle.constraint_files.specs.Domains.{channels_of}
 use Rattle.constraint_files.specs.Numbers.{number, numbers, is_channel}
-use Rattle.constraint_files.specs.Records.{records_of, after_records}
+use Rattle.constraint_files.specs.Records.{lines_of, after_lines}
 use Rattle.constraint_files.specs.Steps.{◌>>=◌}
 
--- the row of these numbers, if a and b are channels and b is the one that the key asks for
-abbrev pub row_on : ℕ → ℕ → ℕ → List ℕ → Option Row
-row_on a b s others =
-    if is_channel a && (is_channel b && (b == a))
-    then Some (record { channel = a; other_channel = b; station = s; others = others })
+-- how far the second channel of a row stands above the first, or below it, by the row's key
+abbrev pub offset_of : List ℕ → Option Offset
+offset_of key =
+    if bytes_eq key (codes "CO") then Some (record { above = 0; below = 0 })
+    else if bytes_eq key (codes "ADJ+1") then Some (record { above = 1; below = 0 })
+    else if bytes_eq key (codes "ADJ-1") then Some (record { above = 0; below = 1 })
+    else if bytes_eq key (codes "ADJ+2") then Some (record { above = 2; below = 0 })
+    else if bytes_eq key (codes "ADJ-2") then Some (record { above = 0; below = 2 })
     else None
 
--- the row of these fields, if each has a number
-abbrev pub row_from : List ℕ → List ℕ → List ℕ → List (List ℕ) → Option Row
-row_from a b s others = do
-  channel ← number a
-  other_channel ← number b
-  station ← number s
-  ts ← numbers others
-  row_on channel other_channel station ts
+-- the row of these numbers, if a and b are channels and b is as far from a as the key says
+abbrev pub row_on : Offset → ℕ → ℕ → ℕ → List ℕ → Result Row RowWhy
+row_on offset a b s others =
+    if is_channel a && is_channel b
+    then (if b + offset.below == a + offset.above
+    then Ok (record { channel = a; other_channel = b; station = s; others = others })
+    else Err BadOffset)
+    else Err ChannelRange
 
--- the row that a record gives: `CO,a,b,s,t,...`
-unfoldable pub interference_row : List (List ℕ) → Option Row
-interference_row (key ∷ a ∷ b ∷ s ∷ others) = if bytes_eq key (codes "CO") then row_from a b s others else None
-interference_row _ = None
+-- the row of these fields
+abbrev pub row_from : Offset → List ℕ → List ℕ → List ℕ → List (List ℕ) → Result Row RowWhy
+row_from offset a b s others = do
+  channel ← ok_or (number a) BadNumber
+  other_channel ← ok_or (number b) BadNumber
+  station ← ok_or (number s) BadNumber
+  ts ← ok_or (numbers others) BadNumber
+  row_on offset channel other_channel station ts
+
+-- the row that a record gives: `KEY,a,b,s,t,...`
+unfoldable pub interference_row : List (List ℕ) → Result Row RowWhy
+interference_row (key ∷ a ∷ b ∷ s ∷ others) = do
+  offset ← ok_or (offset_of key) BadKey
+  row_from offset a b s others
+interference_row _ = Err ShortRow
 
 -- the pair of s on channel a and t on channel b, with the lesser station first
 abbrev pub pair_of : ℕ → ℕ → ℕ → ℕ → Pair
 pair_of s a t b = if nat_lt s t then record { f = s; a = a; g = t; b = b } else record { f = t; a = b; g = s; b = a }
-
--- the pair of a row's station and t, by what the two's domains are: each must have its channel there
-abbrev pub pair_within : Option (List ℕ) → Option (List ℕ) → Row → ℕ → Option Pair
-pair_within None theirs row t = None
-pair_within (Some own) None row t = None
-pair_within (Some own) (Some theirs) row t =
-    if is_in own row.channel && is_in theirs row.other_channel
-    then Some (pair_of row.station row.channel t row.other_channel)
-    else None
-
--- the pair of a row's station and t, if it is kept; none is of one station
-abbrev pub kept_pair : List Domain → Row → ℕ → Option Pair
-kept_pair domains row t =
-    if t == row.station then None else pair_within (channels_of domains row.station) (channels_of domains t) row t
 
 -- the pairs with one more, in its place, once
 abbrev pub with_pair : List Pair → Pair → List Pair
 with_pair [] p = p ∷ []
 with_pair (q ∷ qs) p = if comes_before q p then q ∷ with_pair qs p else (if comes_before p q then p ∷ q ∷ qs else q ∷ qs)
 
--- the pairs with that of a row's station and t, if it is kept
-abbrev pub with_other : List Domain → Row → List Pair → ℕ → List Pair
-with_other domains row pairs t = option_map_or (with_pair pairs) (kept_pair domains row t) pairs
+-- What rows say: the pairs that are kept; how many fields name their row's own station; and how many others stand where
+-- one of the two stations has no domain row.
+pub record PairsView : Type 0 where
+  pub list : List Pair
+  pub self_pairs : ℕ
+  pub strangers : ℕ
 
--- the pairs with those of a record's row
-abbrev pub add_row : List Domain → List Pair → List (List ℕ) → Option (List Pair)
-add_row domains pairs fields = do
+-- the same with the pair of a row's station and t, where each of the two has its channel in its domain
+abbrev pub with_kept : Option (List ℕ) → Option (List ℕ) → Row → PairsView → ℕ → PairsView
+with_kept None theirs row told t = record { list = told.list; self_pairs = told.self_pairs; strangers = told.strangers + 1 }
+with_kept (Some own) None row told t = record { list = told.list; self_pairs = told.self_pairs; strangers = told.strangers + 1 }
+with_kept (Some own) (Some theirs) row told t =
+    if is_in own row.channel && is_in theirs row.other_channel
+    then record { list = with_pair told.list (pair_of row.station row.channel t row.other_channel); self_pairs = told.self_pairs; strangers = told.strangers }
+    else told
+
+-- the same with what a row says of its station and t
+abbrev pub with_other : List Domain → Row → PairsView → ℕ → PairsView
+with_other domains row told t =
+    if t == row.station
+    then record { list = told.list; self_pairs = told.self_pairs + 1; strangers = told.strangers }
+    else with_kept (channels_of domains row.station) (channels_of domains t) row told t
+
+-- the same, if the pairs are at most 4,000,000
+abbrev pub if_few : PairsView → Result PairsView RowWhy
+if_few told = if nat_lt 4000000 (length told.list) then Err TooMany else Ok told
+
+-- the same with what a record says
+abbrev pub add_row : List Domain → PairsView → List (List ℕ) → Result PairsView RowWhy
+add_row domains told fields = do
   row ← interference_row fields
-  Some (fold (with_other domains row) pairs row.others)
+  if_few (fold (with_other domains row) told row.others)
 
--- the pairs of a file, over these domains, if none of its records is refused
-unfoldable pub pairs_of : List ℕ → List Domain → Option (List Pair)
-pairs_of bytes domains = after_records (add_row domains) [] (records_of bytes)
+-- the pairs of a file and its counts, over these domains, or its first refusal
+unfoldable pub pairs_of : List ℕ → List Domain → Result PairsView ReadErr
+pairs_of bytes domains = after_lines (add_row domains) (record { list = []; self_pairs = 0; strangers = 0 }) 1 (lines_of bytes)

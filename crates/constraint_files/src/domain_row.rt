@@ -1,14 +1,13 @@
 ghost use Rattle.std.specs.Prelude.{◌≡◌, ◌<◌, ℕ, IfOk, MatchOption, filter, length, slice_index_or, true, false};
 ghost use Rattle.std.specs.List.{list_all};
-ghost use Rattle.csv.specs.Records.{fields_of};
 ghost use Rattle.pack_defs.specs.Lists.{is_in};
 ghost use Rattle.constraint_files.specs.Domains.{channels_to_keep, domain_naming, domain_row};
 ghost use Rattle.constraint_files.specs.Numbers.{is_channel};
-ghost use Rattle.constraint_files.specs.Reads.{Reads};
+ghost use Rattle.constraint_files.specs.Reads.{Takes};
 
-use crate::error::ReadErr;
-use crate::field::{channel, has_key, number_at, numbers_from};
-use csv::ByteRecord;
+use crate::error::{RowErr, RowWhy};
+use crate::field::{channel, number_at, numbers_from};
+use crate::record::Record;
 use pack_defs::domain::Domain;
 use pack_defs::items::Items;
 use std::alloc::{AllocError as NoMemory, Global};
@@ -43,11 +42,11 @@ fn kept_channels(alloc: Global, is_named: &[bool]) -> Result<Items<u8>, NoMemory
 }
 
 /// The domain of a station whose row names these channels.
-fn domain_naming(alloc: Global, station: u32, named: &[u32]) -> Result<Domain, ReadErr>
-    ensures { Reads (domain_naming station named.now) result }
+fn domain_naming(alloc: Global, station: u32, named: &[u32]) -> Result<Domain, RowErr>
+    ensures { Takes (domain_naming station named.now) result }
 {
     let Some(is_named) = named_channels(named) else {
-        return Err(ReadErr::Refused);
+        return Err(RowErr::Refused(RowWhy::ChannelRange));
     };
     Ok(Domain {
         station,
@@ -56,14 +55,17 @@ fn domain_naming(alloc: Global, station: u32, named: &[u32]) -> Result<Domain, R
 }
 
 /// The domain that a record gives: `DOMAIN,facility,channel,...`.
-pub(crate) fn domain_row(alloc: Global, fields: &ByteRecord) -> Result<Domain, ReadErr>
-    ensures { Reads (domain_row (fields_of fields.now)) result }
+pub(crate) fn domain_row(alloc: Global, fields: &Record) -> Result<Domain, RowErr>
+    ensures { Takes (domain_row fields.now) result }
 {
-    if !has_key(fields, KEY) {
-        return Err(ReadErr::Refused);
+    let (Some(key), Some(_)) = (fields.get(0), fields.get(1)) else {
+        return Err(RowErr::Refused(RowWhy::ShortRow));
+    };
+    if key != KEY {
+        return Err(RowErr::Refused(RowWhy::BadKey));
     }
     let Some(station) = number_at(fields, 1) else {
-        return Err(ReadErr::Refused);
+        return Err(RowErr::Refused(RowWhy::BadNumber));
     };
     let named = numbers_from(alloc, fields, 2)?;
     domain_naming(alloc, station, named.as_slice())

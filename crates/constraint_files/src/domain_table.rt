@@ -1,18 +1,20 @@
 ghost use Rattle.std.specs.Prelude.{◌≡◌, [], IfOk};
-ghost use Rattle.csv.specs.Records.{fields_of};
 ghost use Rattle.constraint_files.specs.Domains.{add_domain_row, put_domain};
 ghost use Rattle.constraint_files.specs.Reads.{Changes};
 ghost use Rattle.constraint_files.specs.Records.{after_records, line_records};
 
 use crate::domain_row::domain_row;
-use crate::error::ReadErr;
+use crate::error::{RowErr, RowWhy};
+use crate::record::Record;
 use crate::records::records_of_line;
-use csv::ByteRecord;
 use pack_defs::domain::Domain;
 use pack_defs::items::Items;
 use std::alloc::{AllocError as NoMemory, Global};
 use std::collections::BTreeMap;
 use std::marker::Model;
+
+/// The greatest number of domain rows.
+const MOST_ROWS: usize = 65_536;
 
 /// The domains of the records read so far.
 #[derive(Drop)]
@@ -38,25 +40,29 @@ impl DomainTable {
         }
     }
 
-    /// Adds the domain of a station that has none yet. After an error the table is lost.
-    fn put(&mut self, domain: Domain) -> Result<(), ReadErr>
+    /// Adds the domain of a station that has none yet, where the rows aren't too many. After an error the table is lost.
+    fn put(&mut self, domain: Domain) -> Result<(), RowErr>
         ensures { Changes (put_domain self.old domain) self.new result }
     {
+        let is_full = self.rows.len() >= MOST_ROWS;
         let Domain { station, channels } = domain;
         if self.rows.insert(station, channels)?.is_some() {
-            return Err(ReadErr::Refused);
+            return Err(RowErr::Refused(RowWhy::SecondDomain));
+        }
+        if is_full {
+            return Err(RowErr::Refused(RowWhy::TooMany));
         }
         Ok(())
     }
 
-    fn add_record(&mut self, alloc: Global, fields: &ByteRecord) -> Result<(), ReadErr>
-        ensures { Changes (add_domain_row self.old (fields_of fields.now)) self.new result }
+    fn add_record(&mut self, alloc: Global, fields: &Record) -> Result<(), RowErr>
+        ensures { Changes (add_domain_row self.old fields.now) self.new result }
     {
         self.put(domain_row(alloc, fields)?)
     }
 
     /// Adds the domains of a line's records. After an error the table is lost.
-    pub(crate) fn add_line(&mut self, alloc: Global, line: &[u8]) -> Result<(), ReadErr>
+    pub(crate) fn add_line(&mut self, alloc: Global, line: &[u8]) -> Result<(), RowErr>
         ensures { Changes (after_records add_domain_row self.old (line_records line.now)) self.new result }
     {
         let records = records_of_line(alloc, line)?;

@@ -5,7 +5,7 @@ ghost use Rattle.constraint_files.specs.Domains.{channels_of, domains_of};
 ghost use Rattle.constraint_files.specs.Reads.{Reads};
 
 use crate::domain_table::DomainTable;
-use crate::error::ReadErr;
+use crate::error::{ReadErr, RowErr};
 use crate::records::split_line;
 use pack_defs::domain::Domain;
 use std::alloc::Global;
@@ -53,22 +53,30 @@ impl Domains {
 /// which those from 14 up are kept.
 ///
 /// A file is cut into lines at the byte 0A. The records of a line are those that the reader of `csv` gives of it by
-/// itself, so a quoted field never goes past its line. A number is one or more ASCII digits, leading zeros allowed, at
-/// most 4,294,967,295.
+/// itself, so a quoted field never goes past its line. Spaces and tabs round a field are dropped, then empty fields at a
+/// record's end; a record with no field left is passed over. A number is one or more ASCII digits, leading zeros
+/// allowed, at most 4,294,967,295.
 ///
 /// # Errors
 ///
-/// `Refused` where a record has fewer than two fields or another first one, a later field is no number, a channel is
-/// outside 2 to 51, or its facility has a record already. `NoMemory` where memory runs out.
+/// `Row` at the first record with a fault, with its line's number, counted from 1, and its first fault: fewer than two
+/// fields, another first one, a later field that is no number, a channel outside 2 to 51, a facility that has a record
+/// already, or the 65,537th domain. `NoMemory` where memory runs out.
 pub fn read_domains(alloc: Global, bytes: &[u8]) -> Result<Domains, ReadErr>
     ensures { Reads (domains_of bytes.now) result }
 {
     let mut table = DomainTable::new(alloc);
     let mut rest = bytes;
+    let mut number: u64 = 1;
     while !rest.is_empty() {
         let (line, after) = split_line(rest);
-        table.add_line(alloc, line)?;
+        match table.add_line(alloc, line) {
+            Ok(()) => {}
+            Err(RowErr::Refused(why)) => return Err(ReadErr::Row { line: number, why }),
+            Err(RowErr::NoMemory) => return Err(ReadErr::NoMemory),
+        }
         rest = after;
+        number += 1;
     }
     Ok(Domains {
         list: table.into_list(alloc)?,

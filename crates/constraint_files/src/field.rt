@@ -1,12 +1,13 @@
+//! The numbers in fields.
 ghost use Rattle.std.specs.Prelude.{◌≡◌, drop, false, if◌then◌else◌};
-ghost use Rattle.std.specs.Option.{option_and_then, option_map_or};
-ghost use Rattle.std.specs.Str.{bytes_eq};
-ghost use Rattle.csv.specs.Records.{field_at, fields_of};
+ghost use Rattle.std.specs.Option.{ok_or, option_and_then};
+ghost use Rattle.csv.specs.Records.{field_at};
 ghost use Rattle.constraint_files.specs.Numbers.{is_channel, number, numbers};
-ghost use Rattle.constraint_files.specs.Reads.{Reads};
+ghost use Rattle.constraint_files.specs.Reads.{Takes};
+ghost use Rattle.constraint_files.specs.declared.error.RowWhy.TheVariants.{BadNumber};
 
-use crate::error::ReadErr;
-use csv::ByteRecord;
+use crate::error::{RowErr, RowWhy};
+use crate::record::Record;
 use pack_defs::items::Items;
 use std::alloc::Global;
 
@@ -14,7 +15,7 @@ use std::alloc::Global;
 const GREATEST: u64 = 4_294_967_295;
 
 /// The number of a field: one or more ASCII digits, leading zeros allowed, at most 4,294,967,295.
-pub(crate) fn number(field: &[u8]) -> Option<u32>
+pub fn number(field: &[u8]) -> Option<u32>
     ensures { result ≡ number field.now }
 {
     if field.is_empty() {
@@ -33,19 +34,9 @@ pub(crate) fn number(field: &[u8]) -> Option<u32>
     Some(value as u32)
 }
 
-/// Whether this is the first field of a record.
-pub(crate) fn has_key(fields: &ByteRecord, key: &[u8]) -> bool
-    ensures { result ≡ option_map_or (λ first. bytes_eq first key.now) (field_at (fields_of fields.now) 0) false }
-{
-    match fields.get(0) {
-        Some(first) => first == key,
-        None => false,
-    }
-}
-
 /// The number of a record's field at this place, if it has one there.
-pub(crate) fn number_at(fields: &ByteRecord, i: usize) -> Option<u32>
-    ensures { result ≡ option_and_then number (field_at (fields_of fields.now) i) }
+pub(crate) fn number_at(fields: &Record, i: usize) -> Option<u32>
+    ensures { result ≡ option_and_then number (field_at fields.now i) }
 {
     number(fields.get(i)?)
 }
@@ -53,16 +44,16 @@ pub(crate) fn number_at(fields: &ByteRecord, i: usize) -> Option<u32>
 /// The numbers of a record's fields from this place on.
 pub(crate) fn numbers_from(
     alloc: Global,
-    fields: &ByteRecord,
+    fields: &Record,
     from: usize,
-) -> Result<Items<u32>, ReadErr>
-    ensures { Reads (numbers (drop from (fields_of fields.now))) result }
+) -> Result<Items<u32>, RowErr>
+    ensures { Takes (ok_or (numbers (drop from fields.now)) BadNumber) result }
 {
     let mut list = Vec::new(alloc);
     for i in from..fields.len() {
         match number_at(fields, i) {
             Some(n) => list.push(n)?,
-            None => return Err(ReadErr::Refused),
+            None => return Err(RowErr::Refused(RowWhy::BadNumber)),
         }
     }
     Ok(Items::from_vec(list))

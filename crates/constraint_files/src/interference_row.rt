@@ -1,16 +1,19 @@
 ghost use Rattle.std.specs.Prelude.{◌≡◌};
-ghost use Rattle.csv.specs.Records.{fields_of};
-ghost use Rattle.constraint_files.specs.Reads.{Reads};
-ghost use Rattle.constraint_files.specs.Rows.{interference_row, row_on};
+ghost use Rattle.constraint_files.specs.Reads.{Takes};
+ghost use Rattle.constraint_files.specs.Rows.{interference_row, offset_of, row_from, row_on};
 
-use crate::error::ReadErr;
-use crate::field::{channel, has_key, number_at, numbers_from};
-use csv::ByteRecord;
+use crate::error::{RowErr, RowWhy};
+use crate::field::{channel, number_at, numbers_from};
+use crate::record::Record;
 use pack_defs::items::Items;
 use std::alloc::Global;
 
-/// The first field of each record of a rows file.
-const KEY: &[u8] = b"CO";
+/// How far the second channel of a row stands above the first, or below it.
+#[derive(Clone, Copy)]
+pub struct Offset {
+    pub above: u8,
+    pub below: u8,
+}
 
 /// A row: the station on `channel` interferes with each of the others on `other_channel`.
 #[derive(Drop)]
@@ -21,37 +24,57 @@ pub struct Row {
     pub others: Items<u32>,
 }
 
-/// The row of these numbers, if a and b are channels and b is the one that the key asks for.
-fn row_on(a: u32, b: u32, station: u32, others: Items<u32>) -> Option<Row>
-    ensures { result ≡ row_on a b station others }
+/// How far the second channel stands from the first, by a row's key.
+fn offset_of(key: &[u8]) -> Option<Offset>
+    ensures { result ≡ offset_of key.now }
 {
-    let own_channel = channel(a)?;
-    let other_channel = channel(b)?;
-    if other_channel != own_channel {
-        return None;
+    match key {
+        b"CO" => Some(Offset { above: 0, below: 0 }),
+        b"ADJ+1" => Some(Offset { above: 1, below: 0 }),
+        b"ADJ-1" => Some(Offset { above: 0, below: 1 }),
+        b"ADJ+2" => Some(Offset { above: 2, below: 0 }),
+        b"ADJ-2" => Some(Offset { above: 0, below: 2 }),
+        _ => None,
     }
-    Some(Row {
-        channel: own_channel,
+}
+
+/// The row of these numbers, if a and b are channels and b is as far from a as the key says.
+fn row_on(offset: Offset, a: u32, b: u32, station: u32, others: Items<u32>) -> Result<Row, RowWhy>
+    ensures { result ≡ row_on offset a b station others }
+{
+    let (Some(channel), Some(other_channel)) = (channel(a), channel(b)) else {
+        return Err(RowWhy::ChannelRange);
+    };
+    if u32::from(other_channel) + u32::from(offset.below)
+        != u32::from(channel) + u32::from(offset.above)
+    {
+        return Err(RowWhy::BadOffset);
+    }
+    Ok(Row {
+        channel,
         other_channel,
         station,
         others,
     })
 }
 
-/// The row that a record gives: `CO,a,b,s,t,...`.
-pub(crate) fn interference_row(alloc: Global, fields: &ByteRecord) -> Result<Row, ReadErr>
-    ensures { Reads (interference_row (fields_of fields.now)) result }
+/// The row that a record gives: `KEY,a,b,s,t,...`.
+pub(crate) fn interference_row(alloc: Global, fields: &Record) -> Result<Row, RowErr>
+    ensures { Takes (interference_row fields.now) result }
 {
-    if !has_key(fields, KEY) {
-        return Err(ReadErr::Refused);
-    }
+    let (Some(key), Some(_)) = (fields.get(0), fields.get(3)) else {
+        return Err(RowErr::Refused(RowWhy::ShortRow));
+    };
+    let Some(offset) = offset_of(key) else {
+        return Err(RowErr::Refused(RowWhy::BadKey));
+    };
     let (Some(a), Some(b), Some(station)) = (
         number_at(fields, 1),
         number_at(fields, 2),
         number_at(fields, 3),
     ) else {
-        return Err(ReadErr::Refused);
+        return Err(RowErr::Refused(RowWhy::BadNumber));
     };
     let others = numbers_from(alloc, fields, 4)?;
-    row_on(a, b, station, others).ok_or(ReadErr::Refused)
+    Ok(row_on(offset, a, b, station, others)?)
 }

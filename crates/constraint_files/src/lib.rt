@@ -6,10 +6,11 @@ mod domain_row;
 mod domain_table;
 pub mod domains;
 pub mod error;
-mod field;
+pub mod field;
 mod interference_row;
 mod pair_table;
 pub mod pairs;
-mod records;
+mod record;
+pub mod records;
 #[cfg(test)]
 mod tests;

@@ -1,6 +1,8 @@
 use crate::domains::{Domains, read_domains};
-use crate::error::ReadErr;
+use crate::error::{ReadErr, RowWhy};
+use crate::field::number;
 use crate::pairs::{Pairs, read_pairs};
+use crate::records::fields;
 use std::alloc::{AllocError, Global};
 use std::test::Fail;
 
@@ -29,6 +31,80 @@ fn pairs_shown(alloc: Global, pairs: &Pairs) -> Result<String, AllocError> {
     Ok(shown)
 }
 
+// The fields of the records of a line, each field in brackets, as `[CO][14];[CO];`.
+fn fields_shown(alloc: Global, line: &[u8]) -> Result<String, AllocError> {
+    let mut shown = String::new(alloc);
+    for record in &fields(alloc, line)? {
+        for field in record {
+            shown.push('[')?;
+            for byte in field {
+                shown.push(char::from(*byte))?;
+            }
+            shown.push(']')?;
+        }
+        shown.push(';')?;
+    }
+    Ok(shown)
+}
+
+#[test]
+fn numbers(rt: HostRuntime) {
+    let cases: [(&[u8], Option<u32>); 14] = [
+        (b"0", Some(0)),
+        (b"7", Some(7)),
+        (b"4294967295", Some(4_294_967_295)),
+        (b"4294967296", None),
+        (b"00000000000004294967295", Some(4_294_967_295)),
+        (b"000", Some(0)),
+        (b"99999999999999999999999999", None),
+        (b"", None),
+        (b"+1", None),
+        (b"-1", None),
+        (b"1.0", None),
+        (b"1 2", None),
+        (b"0x10", None),
+        (b"\xD9\xA1", None),
+    ];
+    for (field, want) in cases {
+        assert!(rt; number(field) == want, "of {field:?}");
+    }
+}
+
+#[test]
+fn fields_of_a_line(rt: HostRuntime) -> Result<(), Fail> {
+    let cases: [(&[u8], &str); 25] = [
+        (b"", ""),
+        (b"CO,14,14,1,2", "[CO][14][14][1][2];"),
+        (b" CO ,\t14\t, 14,1\t ,2 ", "[CO][14][14][1][2];"),
+        (b"a b,\tc\td ", "[a b][c\td];"),
+        (b"CO,14,,", "[CO][14];"),
+        (b"CO,,14", "[CO][][14];"),
+        (b"CO, ,\t,14, ,", "[CO][][][14];"),
+        (b",CO", "[][CO];"),
+        (b",,", ""),
+        (b" , \t", ""),
+        (b"\"\"", ""),
+        (b"\" \",\"\t\"", ""),
+        (b"\"1\",\" 2 \"", "[1][2];"),
+        (b" \"1\"", "[\"1\"];"),
+        (b"\"1\"4", "[14];"),
+        (b"\"1,2\",3", "[1,2][3];"),
+        (b"\"a\"\"b\"", "[a\"b];"),
+        (b"a\"b", "[a\"b];"),
+        (b"1,\"2,3", "[1][2,3];"),
+        (b"1,2\r", "[1][2];"),
+        (b"1,2\r3,4", "[1][2];[3][4];"),
+        (b"\r\r,\r 5 ,\r", "[5];"),
+        (b"\"1\r2\",3", "[1\r2][3];"),
+        (b"\xEF\xBB\xBF1,2", "[1][2];"),
+        (b"\x0B1,\xC2\xA02", "[\x0B1][\u{C2}\u{A0}2];"),
+    ];
+    for (line, want) in cases {
+        assert_eq!(rt; fields_shown(rt.alloc(), line)?.as_str(), want);
+    }
+    Ok(())
+}
+
 #[test]
 fn three_stations(rt: HostRuntime) -> Result<(), Fail> {
     let domains = read_domains(rt.alloc(), THREE_STATIONS)?;
@@ -49,7 +125,7 @@ fn three_stations(rt: HostRuntime) -> Result<(), Fail> {
 
 #[test]
 fn domains_that_are_read(rt: HostRuntime) -> Result<(), Fail> {
-    let cases: [(&[u8], &str); 12] = [
+    let cases: [(&[u8], &str); 19] = [
         (b"", ""),
         (b"DOMAIN,1\n", "1;"),
         (b"DOMAIN,2,7,14,14,15", "2 14 15;"),
@@ -65,6 +141,16 @@ fn domains_that_are_read(rt: HostRuntime) -> Result<(), Fail> {
             "1 14;2 15;",
         ),
         (b"DOMAIN,1,\"14\nDOMAIN,2,15\n", "1 14;2 15;"),
+        (
+            b" DOMAIN, 1 ,14,15,,\nDOMAIN,2,7,14,14,15\n\n",
+            "1 14 15;2 14 15;",
+        ),
+        (b"\tDOMAIN\t,1 ,\t14 \t, 15\n", "1 14 15;"),
+        (b"DOMAIN,1,,\n", "1;"),
+        (b"DOMAIN,1,14, ,\t,\"\"\n", "1 14;"),
+        (b",\n \n\t,,\n\"\"\nDOMAIN,1,14\n", "1 14;"),
+        (b"DOMAIN,1,\" 14 \"\n", "1 14;"),
+        (b"DOMAIN,1,\"1\"4\n", "1 14;"),
     ];
     for (text, want) in cases {
         let domains = read_domains(rt.alloc(), text)?;
@@ -75,58 +161,120 @@ fn domains_that_are_read(rt: HostRuntime) -> Result<(), Fail> {
 
 #[test]
 fn domains_that_are_refused(rt: HostRuntime) {
-    let cases: [&[u8]; 17] = [
-        b"DOMAIN",
-        b"DOMAIN\n",
-        b"DOMAIN,1,1\n",
-        b"DOMAIN,1,52\n",
-        b"DOMAIN,4294967296,14\n",
-        b"DOMAIN,1,111111111111111111111111111111\n",
-        b"DOMAIN,1,14\nDOMAIN,1,15\n",
-        b"DOMAIN,1,14\nDOMAIN,01\n",
-        b"DOMAIN,one,14\n",
-        b"DOMAIN,1,+14\n",
-        b"DOMAIN, 1,14\n",
-        b"DOMAIN,1,14,\n",
-        b"DOMAIN,,14\n",
-        b"domain,1,14\n",
-        b"CO,14,14,1,2\n",
-        b",\n",
-        b"\xF3\x00\x9C\"\x0A\x2C\xFF\x81,,\x0D\x7F",
+    let cases: [(&[u8], u64, RowWhy); 29] = [
+        (b"DOMAIN", 1, RowWhy::ShortRow),
+        (b"DOMAIN,,\n", 1, RowWhy::ShortRow),
+        (b"CO\n", 1, RowWhy::ShortRow),
+        (b"\n\nDOMAIN\n", 3, RowWhy::ShortRow),
+        (b"domain,1,14\n", 1, RowWhy::BadKey),
+        (b"DOMAIN 1,14\n", 1, RowWhy::BadKey),
+        (b",1,14\n", 1, RowWhy::BadKey),
+        (b"CO,x,14,1,2\n", 1, RowWhy::BadKey),
+        (b"DOMAIN,one,14\n", 1, RowWhy::BadNumber),
+        (b"DOMAIN,,14\n", 1, RowWhy::BadNumber),
+        (b"DOMAIN,1,,14\n", 1, RowWhy::BadNumber),
+        (b"DOMAIN,1,+14\n", 1, RowWhy::BadNumber),
+        (b"DOMAIN,1, \"14\"\n", 1, RowWhy::BadNumber),
+        (b"DOMAIN,4294967296,14\n", 1, RowWhy::BadNumber),
+        (b"DOMAIN,1,52,x\n", 1, RowWhy::BadNumber),
+        (b"DOMAIN,1,14\nDOMAIN,1,x\n", 2, RowWhy::BadNumber),
+        (b"DOMAIN,1,1\n", 1, RowWhy::ChannelRange),
+        (b"DOMAIN,1,52\n", 1, RowWhy::ChannelRange),
+        (b"DOMAIN,1,14,0\n", 1, RowWhy::ChannelRange),
+        (b"DOMAIN,1,4294967295\n", 1, RowWhy::ChannelRange),
+        (b"DOMAIN,1,14\nDOMAIN,1,14,1\n", 2, RowWhy::ChannelRange),
+        (b"DOMAIN,1,14\nDOMAIN,1,15\n", 2, RowWhy::SecondDomain),
+        (b"DOMAIN,1,14\nDOMAIN,01\n", 2, RowWhy::SecondDomain),
+        (b"DOMAIN,1,14\rDOMAIN,1,15\n", 1, RowWhy::SecondDomain),
+        (
+            b"DOMAIN,1,14\r\n\r\nDOMAIN,1,15\r\n",
+            3,
+            RowWhy::SecondDomain,
+        ),
+        (b"DOMAIN,1,x\nDOMAIN\n", 1, RowWhy::BadNumber),
+        (b"\"DOMAIN,1\nDOMAIN,1,14\n", 1, RowWhy::ShortRow),
+        (b"DOMAIN,1,14\rDOMAIN\nx,y\n", 1, RowWhy::ShortRow),
+        (
+            b"\xF3\x00\x9C\"\x0A\x2C\xFF\x81,,\x0D\x7F",
+            1,
+            RowWhy::ShortRow,
+        ),
     ];
-    for text in cases {
+    for (text, line, why) in cases {
+        let refused = read_domains(rt.alloc(), text).err();
         assert!(rt;
-            read_domains(rt.alloc(), text).err() == Some(ReadErr::Refused),
-            "of {text:?}"
+            refused == Some(ReadErr::Row { line, why }),
+            "of {text:?}: {refused:?}"
         );
     }
 }
 
 #[test]
 fn rows_that_are_read(rt: HostRuntime) -> Result<(), Fail> {
-    let domains = read_domains(rt.alloc(), b"DOMAIN,1,14,15\nDOMAIN,2,14,15\nDOMAIN,3,14\n")?;
-    let cases: [(&[u8], &str); 11] = [
-        (b"", ""),
-        (b"CO,14,14,1\n", ""),
-        (b"CO,14,14,1,1,2\n", "1 on 14, 2 on 14;"),
-        (b"CO,14,14,1,9\n", ""),
-        (b"CO,14,14,9,1,9\n", ""),
-        (b"CO,15,15,1,2,3\n", "1 on 15, 2 on 15;"),
-        (b"CO,2,2,1,2\nCO,51,51,1,2\n", ""),
-        (b"CO,14,14,3,1", "1 on 14, 3 on 14;"),
-        (b"CO,14,14,1,2,2\nCO,14,14,2,1\n", "1 on 14, 2 on 14;"),
+    let domains = read_domains(
+        rt.alloc(),
+        b"DOMAIN,1,14,15,16\nDOMAIN,2,14,15,16\nDOMAIN,3,14\n",
+    )?;
+    let cases: [(&[u8], &str, u64, u64); 28] = [
+        (b"", "", 0, 0),
+        (b"CO,14,14,1\n", "", 0, 0),
+        (b"CO,14,14,1,1,2\n", "1 on 14, 2 on 14;", 1, 0),
+        (b"CO,14,14,1,9\n", "", 0, 1),
+        (b"CO,14,14,9,1,9,9,8\n", "", 2, 2),
+        (b"CO,15,15,1,2,3\n", "1 on 15, 2 on 15;", 0, 0),
+        (b"CO,2,2,1,2,2,1,9\nCO,51,51,1,2\n", "", 1, 1),
+        (b"CO,14,14,3,1", "1 on 14, 3 on 14;", 0, 0),
+        (b"CO,14,14,1,2,2\nCO,14,14,2,1\n", "1 on 14, 2 on 14;", 0, 0),
         (
             b"CO,14,14,1,2\r\nCO,015,15,2,1\r\n",
             "1 on 14, 2 on 14;1 on 15, 2 on 15;",
+            0,
+            0,
         ),
         (
             b"\nCO,14,14,2,3\rCO,14,14,1,3\n",
             "1 on 14, 3 on 14;2 on 14, 3 on 14;",
+            0,
+            0,
+        ),
+        (b"ADJ+1,14,15,1,2\n", "1 on 14, 2 on 15;", 0, 0),
+        (b"ADJ-1,15,14,1,2\n", "1 on 15, 2 on 14;", 0, 0),
+        (b"ADJ+2,14,16,1,2\n", "1 on 14, 2 on 16;", 0, 0),
+        (b"ADJ-2,16,14,1,2\n", "1 on 16, 2 on 14;", 0, 0),
+        (
+            b"ADJ+1,14,15,2,1\nADJ-1,15,14,1,2\n",
+            "1 on 15, 2 on 14;",
+            0,
+            0,
+        ),
+        (b"ADJ+1,14,15,1,2,3\n", "1 on 14, 2 on 15;", 0, 0),
+        (b"ADJ-1,15,14,1,3\n", "1 on 15, 3 on 14;", 0, 0),
+        (b"ADJ+1,13,14,1,2\nADJ-1,14,13,1,2\n", "", 0, 0),
+        (b"ADJ+2,49,51,1,2\nADJ-2,4,2,1,2\n", "", 0, 0),
+        (b" CO ,\t14,14 , 1,2,,\n", "1 on 14, 2 on 14;", 0, 0),
+        (b",,\n \nCO,14,14,1,2\n", "1 on 14, 2 on 14;", 0, 0),
+        (b"CO,14,14,1, ,\n", "", 0, 0),
+        (b"\"CO\",\"14\",14,1,2\n", "1 on 14, 2 on 14;", 0, 0),
+        (
+            b"CO,14,14,1,\"2\nCO,15,15,1,2\n",
+            "1 on 14, 2 on 14;1 on 15, 2 on 15;",
+            0,
+            0,
+        ),
+        (b"ADJ+1,14,15,1,1\n", "", 1, 0),
+        (b"ADJ+1,14,15,9,9,1\n", "", 1, 1),
+        (
+            b"CO,14,14,1,999,2,\nCO,14,14,1,2\nCO,7,7,1,2\nCO,15,15,1,1\n",
+            "1 on 14, 2 on 14;",
+            1,
+            1,
         ),
     ];
-    for (text, want) in cases {
+    for (text, want, self_pairs, strangers) in cases {
         let pairs = read_pairs(rt.alloc(), text, &domains)?;
         assert_eq!(rt; pairs_shown(rt.alloc(), &pairs)?.as_str(), want);
+        assert!(rt; pairs.self_pairs() == self_pairs, "of {text:?}");
+        assert!(rt; pairs.strangers() == strangers, "of {text:?}");
     }
     Ok(())
 }
@@ -134,26 +282,115 @@ fn rows_that_are_read(rt: HostRuntime) -> Result<(), Fail> {
 #[test]
 fn rows_that_are_refused(rt: HostRuntime) -> Result<(), Fail> {
     let domains = read_domains(rt.alloc(), THREE_STATIONS)?;
-    let cases: [&[u8]; 13] = [
-        b"CO,14,14\n",
-        b"CO",
-        b"ADJ+1,14,15,1,2\n",
-        b"CO,14,15,1,2\n",
-        b"CO,1,1,1,2\n",
-        b"CO,52,52,1,2\n",
-        b"CO,14,14,1,x\n",
-        b"CO,14,14,1,4294967296\n",
-        b"CO,14,14,1,2,\n",
-        b"CO,14,14,,2\n",
-        b"CO,14,14,1,2\nCO,14,14\n",
-        b"DOMAIN,1,14,15\n",
-        b"\x8A\x2C\xFE\x0A\x00,\"\x0D\x91,5",
+    let cases: [(&[u8], u64, RowWhy); 35] = [
+        (b"CO", 1, RowWhy::ShortRow),
+        (b"CO,14,14\n", 1, RowWhy::ShortRow),
+        (b"CO,14,14,,\n", 1, RowWhy::ShortRow),
+        (b"x,y,z\n", 1, RowWhy::ShortRow),
+        (b"CO,14,14,1,2\nCO,14,14\n", 2, RowWhy::ShortRow),
+        (b"DOMAIN,1,14,15\n", 1, RowWhy::BadKey),
+        (b"co,14,14,1\n", 1, RowWhy::BadKey),
+        (b"ADJ+3,14,17,1\n", 1, RowWhy::BadKey),
+        (b"ADJ1,14,15,1\n", 1, RowWhy::BadKey),
+        (b"ADJ+1 x,14,15,1\n", 1, RowWhy::BadKey),
+        (b"ADJ,x,52,1\n", 1, RowWhy::BadKey),
+        (b"CO,14,14,1,x\n", 1, RowWhy::BadNumber),
+        (b"CO,14,14,1,4294967296\n", 1, RowWhy::BadNumber),
+        (b"CO,14,14,,2\n", 1, RowWhy::BadNumber),
+        (b"CO,14,14,1,,2\n", 1, RowWhy::BadNumber),
+        (b"CO,52,1,1,x\n", 1, RowWhy::BadNumber),
+        (b"CO,14,-14,1\n", 1, RowWhy::BadNumber),
+        (b"CO,1,1,1,2\n", 1, RowWhy::ChannelRange),
+        (b"CO,52,52,1,2\n", 1, RowWhy::ChannelRange),
+        (b"CO,14,52,1,2\n", 1, RowWhy::ChannelRange),
+        (b"CO,1,14,1,2\n", 1, RowWhy::ChannelRange),
+        (b"ADJ+1,51,52,1,2\n", 1, RowWhy::ChannelRange),
+        (b"ADJ-2,3,1,1,2\n", 1, RowWhy::ChannelRange),
+        (b"CO,14,15,1,2\n", 1, RowWhy::BadOffset),
+        (b"ADJ+1,14,14,1,2\n", 1, RowWhy::BadOffset),
+        (b"ADJ+1,15,14,1,2\n", 1, RowWhy::BadOffset),
+        (b"ADJ-1,14,15,1,2\n", 1, RowWhy::BadOffset),
+        (b"ADJ-1,16,14,1,2\n", 1, RowWhy::BadOffset),
+        (b"ADJ+2,14,15,1,2\n", 1, RowWhy::BadOffset),
+        (b"ADJ+2,16,14,1,2\n", 1, RowWhy::BadOffset),
+        (b"ADJ-2,14,16,1,2\n", 1, RowWhy::BadOffset),
+        (b"ADJ-2,16,17,1\n", 1, RowWhy::BadOffset),
+        (
+            b"\nCO,14,14,1,2\r\n,\nCO,14,14,1,2\rCO,14,15,1\n",
+            4,
+            RowWhy::BadOffset,
+        ),
+        (b"CO,14,15,1\nCO\n", 1, RowWhy::BadOffset),
+        (b"\x8A\x2C\xFE\x0A\x00,\"\x0D\x91,5", 1, RowWhy::ShortRow),
     ];
-    for text in cases {
+    for (text, line, why) in cases {
+        let refused = read_pairs(rt.alloc(), text, &domains).err();
         assert!(rt;
-            read_pairs(rt.alloc(), text, &domains).err() == Some(ReadErr::Refused),
-            "of {text:?}"
+            refused == Some(ReadErr::Row { line, why }),
+            "of {text:?}: {refused:?}"
         );
     }
+    Ok(())
+}
+
+// The lines `DOMAIN,i,14` for i from 1 up to this number.
+fn domain_lines(alloc: Global, last: u32) -> Result<String, AllocError> {
+    let mut text = String::new(alloc);
+    for i in 1..=last {
+        text.push_str(format!(in alloc; "DOMAIN,{i},14\n")?.as_str())?;
+    }
+    Ok(text)
+}
+
+#[test]
+fn too_many_domains(rt: HostRuntime) -> Result<(), Fail> {
+    let alloc = rt.alloc();
+    let all = domain_lines(alloc, 65_536)?;
+    assert_eq!(rt; read_domains(alloc, all.as_bytes())?.list().len(), 65_536);
+    let more = domain_lines(alloc, 65_537)?;
+    assert_eq!(rt;
+        read_domains(alloc, more.as_bytes()).err(),
+        Some(ReadErr::Row {
+            line: 65_537,
+            why: RowWhy::TooMany
+        })
+    );
+    let mut again = domain_lines(alloc, 65_536)?;
+    again.push_str("DOMAIN,5,14\n")?;
+    assert_eq!(rt;
+        read_domains(alloc, again.as_bytes()).err(),
+        Some(ReadErr::Row {
+            line: 65_537,
+            why: RowWhy::SecondDomain
+        })
+    );
+    Ok(())
+}
+
+#[test]
+fn too_many_pairs(rt: HostRuntime) -> Result<(), Fail> {
+    let alloc = rt.alloc();
+    let domains = read_domains(alloc, domain_lines(alloc, 2_829)?.as_bytes())?;
+    let mut text = String::new(alloc);
+    let mut kept = 0;
+    for s in 1..=2_828 {
+        text.push_str(format!(in alloc; "CO,14,14,{s}")?.as_str())?;
+        for t in s + 1..=2_829 {
+            text.push_str(format!(in alloc; ",{t}")?.as_str())?;
+        }
+        text.push('\n')?;
+        if s == 2_808 {
+            kept = text.len();
+        }
+    }
+    let most = &text.as_bytes()[..kept];
+    assert_eq!(rt; read_pairs(alloc, most, &domains)?.list().len(), 3_999_996);
+    assert_eq!(rt;
+        read_pairs(alloc, text.as_bytes(), &domains).err(),
+        Some(ReadErr::Row {
+            line: 2_809,
+            why: RowWhy::TooMany
+        })
+    );
     Ok(())
 }

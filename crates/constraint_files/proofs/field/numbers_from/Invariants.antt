@@ -1,9 +1,7 @@
 use Rattle.std.proofs.Common.{◌≡◌, ◌++◌, drop}
 use Rattle.std.specs.Option.{option_map}
-use Rattle.csv.specs.Records.{fields_of}
 use Rattle.constraint_files.specs.Numbers.{numbers}
 use Rattle.constraint_files.proofs.field.numbers_from.Given as goal
 
 abbrev pub invariant-loop-i : goal.invariant-loop-i
-invariant-loop-i l =
-    option_map (λ more. l.list.items ++ more) (numbers (drop l.i (fields_of l.fn.fields))) ≡ numbers (drop l.fn.from (fields_of l.fn.fields))
+invariant-loop-i l = option_map (λ more. l.list.items ++ more) (numbers (drop l.i l.fields)) ≡ numbers (drop l.fn.from l.fn.fields)

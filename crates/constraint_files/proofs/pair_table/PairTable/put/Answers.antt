@@ -1,6 +1,13 @@
-use Rattle.std.proofs.Common.{◌∙◌}
+use Rattle.std.proofs.Common.{◌∙◌, ℕ, List, ap}
+use Rattle.pack_defs.specs.declared.pair.Pair.{Pair}
+use Rattle.constraint_files.specs.Rows.{PairsView}
 use Rattle.constraint_files.proofs.PairOrder.{insert-pair}
 use Rattle.constraint_files.proofs.pair_table.PairTable.put.Goals as goal
 
+abbrev seen_as : ℕ → ℕ → List Pair → PairsView
+seen_as self_pairs strangers pairs = record { list = pairs; self_pairs = self_pairs; strangers = strangers }
+
 pub returns : goal.returns
-returns c = rw (← c.self.view_is) (c.in_ok-insert.ensures.keys ∙ insert-pair c.self.inside.pairs.keys c.args.pair)
+returns c =
+    let t = c.self.inside in
+    rw (← c.self.view_is) (ap (seen_as t.self_pairs t.strangers) (c.in_ok-insert.ensures.keys ∙ insert-pair t.pairs.keys c.args.pair))

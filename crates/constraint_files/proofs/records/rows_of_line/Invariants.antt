@@ -3,7 +3,7 @@ use Rattle.csv.specs.Reading.{Reached, Ready, default_config, source_of, strip_b
 use Rattle.csv.specs.Records.{fields_of}
 use Rattle.csv.specs.declared.parser.State.TheVariants as st
 use Rattle.csv.specs.declared.reader.Trim.TheVariants as trim
-use Rattle.constraint_files.proofs.records.records_of_line.Given as goal
+use Rattle.constraint_files.proofs.records.rows_of_line.Given as goal
 
 abbrev pub invariant-loop-record : goal.invariant-loop-record
 invariant-loop-record l = (l.record-iterator.rdr.trim ≡ trim.None) × Ready l.record-iterator.rdr × (0 < l.record-iterator.left) × (l.record-iterator.rdr.config ≡ default_config)

@@ -1,0 +1,120 @@
+ghost use Rattle.std.specs.Prelude.{◌≡◌, ◌≤◌, length, map, take, true};
+ghost use Rattle.std.specs.Option.{option_map, option_map_or};
+ghost use Rattle.pack_defs.specs.Lists.{is_empty};
+ghost use Rattle.csv.specs.Records.{field_at, fields_of};
+ghost use Rattle.constraint_files.specs.Records.{is_blank, kept_fields, trimmed, without_leading, without_trailing};
+
+use csv::ByteRecord;
+use std::marker::Model;
+
+/// A record, of which the spaces and tabs round the fields and the empty fields at the end are dropped.
+#[derive(Drop)]
+pub(crate) struct Record {
+    row: ByteRecord,
+    kept: usize,
+}
+
+impl Model for Record {
+    ghost use Rattle.std.specs.Prelude.{◌≡◌, ◌≤◌, List, ℕ, length, map, take};
+    ghost use Rattle.csv.specs.Records.{fields_of};
+    ghost use Rattle.constraint_files.specs.Records.{kept_fields, trimmed};
+
+    ghost Value = { List (List ℕ) };
+
+    ghost view = { λ r. kept_fields (fields_of r.row) };
+
+    ghost invariant = { λ r. (r.kept ≤ length (fields_of r.row)) × (kept_fields (fields_of r.row) ≡ take r.kept (map trimmed (fields_of r.row))) };
+}
+
+/// Whether a byte is a space or a tab.
+fn is_blank(byte: u8) -> bool
+    ensures { result ≡ is_blank byte }
+{
+    byte == b' ' || byte == b'\t'
+}
+
+/// A field without the blanks at its start.
+fn without_leading(field: &[u8]) -> &[u8]
+    ensures { result.now ≡ without_leading is_blank field.now }
+{
+    for (i, byte) in field.iter().enumerate() {
+        if !is_blank(*byte) {
+            return &field[i..];
+        }
+    }
+    &[]
+}
+
+/// A field without the blanks at its end.
+fn without_trailing(field: &[u8]) -> &[u8]
+    ensures { result.now ≡ without_trailing is_blank field.now }
+{
+    let mut end = field.len();
+    while end > 0 && is_blank(field[end - 1]) {
+        end -= 1;
+    }
+    &field[..end]
+}
+
+/// A field without the blanks round it.
+fn trimmed(field: &[u8]) -> &[u8]
+    ensures { result.now ≡ trimmed field.now }
+{
+    without_trailing(without_leading(field))
+}
+
+/// A row's field at this place without the blanks round it, if it has one there.
+fn trimmed_at(row: &ByteRecord, i: usize) -> Option<&[u8]>
+    ensures { option_map (λ f. f.now) result ≡ option_map trimmed (field_at (fields_of row.now) i) }
+{
+    Some(trimmed(row.get(i)?))
+}
+
+/// Whether a row's field at this place is empty without the blanks round it, or isn't there.
+fn is_blank_at(row: &ByteRecord, i: usize) -> bool
+    ensures { result ≡ option_map_or is_empty (option_map trimmed (field_at (fields_of row.now) i)) true }
+{
+    match trimmed_at(row, i) {
+        Some(field) => field.is_empty(),
+        None => true,
+    }
+}
+
+/// How many fields of a row come up to the last one that isn't blank.
+fn count_kept(row: &ByteRecord) -> usize
+    ensures fits { result ≤ length (fields_of row.now) }
+    ensures kept { kept_fields (fields_of row.now) ≡ take result (map trimmed (fields_of row.now)) }
+{
+    let mut kept = row.len();
+    while kept > 0 && is_blank_at(row, kept - 1) {
+        kept -= 1;
+    }
+    kept
+}
+
+impl Record {
+    pub(crate) fn new(row: ByteRecord) -> Record
+        ensures { result ≡ kept_fields (fields_of row) }
+    {
+        let kept = count_kept(&row);
+        Record { row, kept }
+    }
+
+    /// How many fields it has.
+    pub(crate) fn len(&self) -> usize
+        ensures { result ≡ length self.now }
+    {
+        self.kept
+    }
+
+    /// The field at this place, if it has one there.
+    pub(crate) fn get(&self, i: usize) -> Option<&[u8]>
+        ensures { option_map (λ f. f.now) result ≡ field_at self.now i }
+    {
+        if i < self.kept {
+            trimmed_at(&self.row, i)
+        } else {
+            None
+        }
+    }
+}
