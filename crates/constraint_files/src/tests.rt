@@ -367,26 +367,33 @@ fn too_many_domains(rt: HostRuntime) -> Result<(), Fail> {
     Ok(())
 }
 
+// For each s from 1 up to this number the row of s with each station above it up to 2,829.
+fn rows_of_all(alloc: Global, last: u32) -> Result<String, AllocError> {
+    let mut text = String::new(alloc);
+    for s in 1..=last {
+        text.push_str(format!(in alloc; "CO,14,14,{s}")?.as_str())?;
+        for t in 1..2_830 {
+            if t > s {
+                text.push_str(format!(in alloc; ",{t}")?.as_str())?;
+            }
+        }
+        text.push('\n')?;
+    }
+    Ok(text)
+}
+
 #[test]
 fn too_many_pairs(rt: HostRuntime) -> Result<(), Fail> {
     let alloc = rt.alloc();
     let domains = read_domains(alloc, domain_lines(alloc, 2_829)?.as_bytes())?;
-    let mut text = String::new(alloc);
-    let mut kept = 0;
-    for s in 1..=2_828 {
-        text.push_str(format!(in alloc; "CO,14,14,{s}")?.as_str())?;
-        for t in s + 1..=2_829 {
-            text.push_str(format!(in alloc; ",{t}")?.as_str())?;
-        }
-        text.push('\n')?;
-        if s == 2_808 {
-            kept = text.len();
-        }
-    }
-    let most = &text.as_bytes()[..kept];
-    assert_eq!(rt; read_pairs(alloc, most, &domains)?.list().len(), 3_999_996);
+    let most = rows_of_all(alloc, 2_808)?;
     assert_eq!(rt;
-        read_pairs(alloc, text.as_bytes(), &domains).err(),
+        read_pairs(alloc, most.as_bytes(), &domains)?.list().len(),
+        3_999_996
+    );
+    let all = rows_of_all(alloc, 2_828)?;
+    assert_eq!(rt;
+        read_pairs(alloc, all.as_bytes(), &domains).err(),
         Some(ReadErr::Row {
             line: 2_809,
             why: RowWhy::TooMany
