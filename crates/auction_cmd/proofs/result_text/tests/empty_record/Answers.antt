@@ -34,6 +34,7 @@ returns-clause-backed c =
       scenario = refl;
       ending = refl;
       start = refl;
+      none_started = ap (λ (xs : List Station). filter (λ s. declines sc s 0) (map (λ x. x.id) xs)) none;
       tests = ap (map test_of) no_steps ∙ sym (nothing_asked sc c.args.book.now none);
       shown = rw no_steps tt;
       map = c.in_ok-of.ensures ∙ sym (ap (λ xs. (after_steps sc (start_point sc) xs).map) no_steps);
