@@ -1,0 +1,129 @@
+ghost use Rattle.std.specs.Prelude.{◌≡◌, ◌+◌, ◌-◌, ◌≤◌, ◌++◌, ◌∷◌, [], length, IfOk, OnOk, OnErr, Some, slice_index_or, slice_range};
+ghost use Rattle.clause_db.specs.Clause.{clause_at};
+
+use crate::lit::Lit;
+use std::alloc::{AllocError as NoMemory, Global};
+use std::marker::Model;
+
+/// Clauses over variables 1 to `vars`, numbered from 1 in the order in which they were added. All literals stand in one
+/// vector, with the place where each clause ends. A literal of another variable is kept as it is.
+#[derive(Debug, Drop)]
+pub struct ClauseList {
+    vars: u32,
+    lits: Vec<Lit>,
+    ends: Vec<usize>,
+}
+
+impl Model for ClauseList {
+    ghost use Rattle.std.specs.Prelude.{length};
+    ghost use Rattle.clause_db.specs.Clauses.{Clauses};
+    ghost use Rattle.clause_db.specs.Cut.{cut, AreEnds};
+
+    ghost Value = { Clauses };
+
+    ghost view = { λ l. record { vars = l.vars; list = cut l.lits.items 0 l.ends.items } };
+
+    ghost invariant = { λ l. AreEnds 0 (length l.lits.items) l.ends.items };
+}
+
+impl ClauseList {
+    /// No clause, over this many variables.
+    pub fn new(alloc: Global, vars: u32) -> ClauseList
+        ensures { result ≡ record { vars = vars; list = [] } }
+    {
+        ClauseList {
+            vars,
+            lits: Vec::new(alloc),
+            ends: Vec::new(alloc),
+        }
+    }
+
+    /// The number of variables.
+    pub fn vars(&self) -> u32
+        ensures { result ≡ self.now.vars }
+    {
+        self.vars
+    }
+
+    /// The number of clauses.
+    pub fn len(&self) -> u64
+        ensures { result ≡ length self.now.list }
+    {
+        self.ends.len() as u64
+    }
+
+    /// The clause of a number from 1 to `len`.
+    pub fn get(&self, i: u64) -> &[Lit]
+        requires from_one { 1 ≤ i }
+        requires to_len { i ≤ length self.now.list }
+        ensures clause { clause_at self.now.list i ≡ Some result.now }
+        ensures at { result.now ≡ slice_index_or self.now.list (i - 1) [] }
+    {
+        let at = (i - 1) as usize;
+        let from = start_of(&self.ends, at);
+        let end = self.ends[at];
+        part_of(&self.lits, from, end)
+    }
+
+    /// Puts a clause after the last. Where there is no memory for it, the list stays as it was.
+    pub fn add(&mut self, clause: &[Lit]) -> Result<(), NoMemory>
+        ensures added { OnOk result (self.new ≡ record { vars = self.old.vars; list = self.old.list ++ clause.now ∷ [] }) }
+        ensures unchanged { OnErr result (self.new ≡ self.old) }
+    {
+        let before = self.lits.len();
+        self.lits.extend_from_slice(clause)?;
+        let end = self.lits.len();
+        match self.ends.push(end) {
+            Ok(()) => Ok(()),
+            Err(_) => {
+                self.lits.truncate(before);
+                Err(NoMemory)
+            }
+        }
+    }
+}
+
+// Where the clause at a place from 0 begins.
+fn start_of(ends: &[usize], at: usize) -> usize
+    requires { at ≤ length ends.now }
+    ensures { result ≡ slice_index_or (0 ∷ ends.now) at 0 }
+{
+    if at == 0 { 0 } else { ends[at - 1] }
+}
+
+// The literals from one place up to another.
+fn part_of(lits: &[Lit], from: usize, end: usize) -> &[Lit]
+    requires in_order { from ≤ end }
+    requires within { end ≤ length lits.now }
+    ensures { result.now ≡ slice_range lits.now from end }
+{
+    &lits[from..end]
+}
+
+#[cfg(test)]
+mod tests {
+    use super::*;
+    use std::test::Fail;
+
+    fn lit(var: u64, positive: bool) -> Lit
+        ensures { result ≡ record { var = var; positive = positive } }
+    {
+        Lit { var, positive }
+    }
+
+    #[test]
+    fn keeps_clauses_by_number(rt: HostRuntime) -> Result<(), Fail> {
+        let mut list = ClauseList::new(rt.alloc(), 3);
+        assert_eq!(rt; list.len(), 0);
+        list.add(&[lit(1, true), lit(3, false)])?;
+        list.add(&[])?;
+        list.add(&[lit(2, true)])?;
+        assert_eq!(rt; list.vars(), 3);
+        assert_eq!(rt; list.len(), 3);
+        assert_eq!(rt; list.get(1), [lit(1, true), lit(3, false)].as_slice());
+        assert!(rt; list.get(2).is_empty());
+        assert_eq!(rt; list.get(3), [lit(2, true)].as_slice());
+        assert_eq!(rt; lit(3, false).opposite(), lit(3, true));
+        Ok(())
+    }
+}

@@ -1,0 +1,4 @@
+pub mod Denying
+pub mod Marking
+pub mod Reading
+pub mod Sound

@@ -1,0 +1,67 @@
+ghost use Rattle.std.specs.Prelude.{◌≡◌, []};
+ghost use Rattle.rup_check.specs.Answers.{LineAnswer, LogAnswer};
+ghost use Rattle.rup_check.specs.Follows.{clauses_before, line_fault, log_fault};
+
+use crate::error::{LineErr, LogErr};
+use crate::hints::{check_hints, deny};
+use crate::known::Known;
+use crate::line::{Line, Log};
+use clause_db::list::ClauseList;
+use std::alloc::Global;
+
+/// Whether a line follows from the clauses, by its hints. Ok exactly where it does; otherwise the line's first fault, its
+/// literals before its hints, and of the hints the first at fault.
+///
+/// # Errors
+///
+/// The line's fault, as `LineErr` says, or want of memory.
+pub fn check_line(alloc: Global, clauses: &ClauseList, line: &Line) -> Result<(), LineErr>
+    ensures { LineAnswer (line_fault clauses.now.vars clauses.now.list line.now) result }
+{
+    let mut known = Known::new(alloc, clauses.vars())?;
+    check_after(&mut known, clauses, &[], line)
+}
+
+/// Whether each line of a log follows from the clauses and the lines before it. Ok exactly where each does; otherwise the
+/// first line that doesn't, with its fault. The cost is that of the literals which the lines and their hints name.
+///
+/// # Errors
+///
+/// The first line at fault, or want of memory.
+pub fn check_log(alloc: Global, clauses: &ClauseList, log: &Log) -> Result<(), LogErr>
+    ensures { LogAnswer (log_fault clauses.now.vars clauses.now.list log.now.lines) result }
+{
+    let mut known = Known::new(alloc, clauses.vars())?;
+    let lines = log.lines.as_slice();
+    for (i, line) in lines.iter().enumerate() {
+        if let Err(why) = check_after(&mut known, clauses, &lines[..i], line) {
+            match why {
+                LineErr::NoMemory => return Err(LogErr::NoMemory),
+                _ => {
+                    let line = i as u64 + 1;
+                    return Err(LogErr::BadLine { line, why });
+                }
+            }
+        }
+        known.clear();
+    }
+    Ok(())
+}
+
+// Whether a line follows from the clauses and these earlier lines, where nothing is known.
+fn check_after(
+    known: &mut Known,
+    clauses: &ClauseList,
+    earlier: &[Line],
+    line: &Line,
+) -> Result<(), LineErr>
+    requires same { known.old.vars ≡ clauses.now.vars }
+    requires nothing { known.old.lits ≡ [] }
+    ensures answer { LineAnswer (line_fault clauses.now.vars (clauses_before clauses.now.list earlier.now) line.now) result }
+    ensures vars { known.new.vars ≡ known.old.vars }
+{
+    if !deny(known, line.lits.as_slice())? {
+        return Err(LineErr::BadLits);
+    }
+    check_hints(known, clauses, earlier, line.hints.as_slice())
+}

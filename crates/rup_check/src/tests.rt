@@ -1,0 +1,176 @@
+use super::*;
+use crate::check::{check_line, check_log};
+use crate::line::{Line, Log};
+use clause_db::list::ClauseList;
+use clause_db::lit::Lit;
+use pack_defs::items::Items;
+use std::alloc::{AllocError as NoMemory, Global};
+use std::test::Fail;
+
+// Literals by DIMACS numbers, a negative one for the opposite.
+fn lits(alloc: Global, numbers: &[i64]) -> Result<Vec<Lit>, NoMemory> {
+    let mut lits = Vec::new(alloc);
+    for number in numbers {
+        lits.push(Lit {
+            var: number.unsigned_abs(),
+            positive: *number > 0,
+        })?;
+    }
+    Ok(lits)
+}
+
+fn line(alloc: Global, numbers: &[i64], hints: &[u64]) -> Result<Line, NoMemory> {
+    Ok(Line {
+        lits: Items::from_vec(lits(alloc, numbers)?),
+        hints: Items::from_vec(Vec::from_slice(alloc, hints)?),
+    })
+}
+
+fn log(lines: Vec<Line>) -> Log {
+    Log {
+        lines: Items::from_vec(lines),
+    }
+}
+
+// Three stations on two channels, each two of which interfere on each.
+fn three_stations(alloc: Global) -> Result<ClauseList, NoMemory> {
+    let mut clauses = ClauseList::new(alloc, 6);
+    for two in [
+        [1, 2],
+        [3, 4],
+        [5, 6],
+        [-1, -2],
+        [-3, -4],
+        [-5, -6],
+        [-1, -3],
+        [-1, -5],
+        [-2, -4],
+        [-2, -6],
+        [-3, -5],
+        [-4, -6],
+    ] {
+        clauses.add(&lits(alloc, &two)?)?;
+    }
+    Ok(clauses)
+}
+
+// What `check_line` answers over these clauses.
+fn answer(
+    alloc: Global,
+    clauses: &ClauseList,
+    numbers: &[i64],
+    hints: &[u64],
+) -> Result<Result<(), LineErr>, NoMemory> {
+    let line = line(alloc, numbers, hints)?;
+    Ok(check_line(alloc, clauses, &line))
+}
+
+#[test]
+fn lines_that_follow(rt: HostRuntime) -> Result<(), Fail> {
+    let alloc = rt.alloc();
+    let clauses = three_stations(alloc)?;
+    assert_eq!(rt; answer(alloc, &clauses, &[-1], &[7, 2, 8, 3, 12])?, Ok(()));
+    assert_eq!(rt; answer(alloc, &clauses, &[-1, -2, 3], &[4])?, Ok(()));
+    assert_eq!(rt; answer(alloc, &clauses, &[-5, -6], &[6])?, Ok(()));
+    Ok(())
+}
+
+#[test]
+fn bad_literals_before_hints(rt: HostRuntime) -> Result<(), Fail> {
+    let alloc = rt.alloc();
+    let clauses = three_stations(alloc)?;
+    let bad = Err(LineErr::BadLits);
+    assert_eq!(rt; answer(alloc, &clauses, &[0], &[4])?, bad);
+    assert_eq!(rt; answer(alloc, &clauses, &[7], &[4])?, bad);
+    assert_eq!(rt; answer(alloc, &clauses, &[-7], &[4])?, bad);
+    assert_eq!(rt; answer(alloc, &clauses, &[-1, -2, -1], &[4])?, bad);
+    assert_eq!(rt; answer(alloc, &clauses, &[-1, -2, 1], &[99])?, bad);
+    Ok(())
+}
+
+#[test]
+fn first_hint_at_fault(rt: HostRuntime) -> Result<(), Fail> {
+    let alloc = rt.alloc();
+    let clauses = three_stations(alloc)?;
+    let two_open = answer(alloc, &clauses, &[-1], &[2, 7, 8, 3, 12])?;
+    assert_eq!(rt; two_open, Err(LineErr::NotUnit { hint: 1 }));
+    let true_already = answer(alloc, &clauses, &[-1], &[7, 7, 12])?;
+    assert_eq!(rt; true_already, Err(LineErr::NotUnit { hint: 2 }));
+    let after_the_end = answer(alloc, &clauses, &[-1], &[7, 2, 8, 3, 12, 11])?;
+    assert_eq!(rt; after_the_end, Err(LineErr::NotUnit { hint: 5 }));
+    let nought = answer(alloc, &clauses, &[-1], &[0])?;
+    assert_eq!(rt; nought, Err(LineErr::NoSuchClause { hint: 1 }));
+    let itself = answer(alloc, &clauses, &[-1], &[7, 13])?;
+    assert_eq!(rt; itself, Err(LineErr::NoSuchClause { hint: 2 }));
+    let not_false = answer(alloc, &clauses, &[-1], &[7])?;
+    assert_eq!(rt; not_false, Err(LineErr::NotFalsified));
+    let no_hint = answer(alloc, &clauses, &[-1], &[])?;
+    assert_eq!(rt; no_hint, Err(LineErr::NotFalsified));
+    Ok(())
+}
+
+#[test]
+fn refutation_of_two_lines(rt: HostRuntime) -> Result<(), Fail> {
+    let alloc = rt.alloc();
+    let clauses = three_stations(alloc)?;
+    let mut lines = Vec::new(alloc);
+    lines.push(line(alloc, &[-1], &[7, 2, 8, 3, 12])?)?;
+    lines.push(line(alloc, &[], &[13, 1, 9, 2, 10, 3, 11])?)?;
+    let log = log(lines);
+    assert_eq!(rt; check_log(alloc, &clauses, &log), Ok(()));
+    assert!(rt; log.ends_empty());
+    Ok(())
+}
+
+#[test]
+fn line_that_names_itself(rt: HostRuntime) -> Result<(), Fail> {
+    let alloc = rt.alloc();
+    let clauses = three_stations(alloc)?;
+    let mut lines = Vec::new(alloc);
+    lines.push(line(alloc, &[-1], &[7, 2, 8, 3, 12])?)?;
+    lines.push(line(alloc, &[], &[14])?)?;
+    let why = LineErr::NoSuchClause { hint: 1 };
+    assert_eq!(rt;
+        check_log(alloc, &clauses, &log(lines)),
+        Err(LogErr::BadLine { line: 2, why })
+    );
+    Ok(())
+}
+
+#[test]
+fn empty_line_in_the_middle_is_no_end(rt: HostRuntime) -> Result<(), Fail> {
+    let alloc = rt.alloc();
+    let clauses = three_stations(alloc)?;
+    let mut lines = Vec::new(alloc);
+    lines.push(line(alloc, &[-1], &[7, 2, 8, 3, 12])?)?;
+    lines.push(line(alloc, &[], &[13, 1, 9, 2, 10, 3, 11])?)?;
+    lines.push(line(alloc, &[], &[14])?)?;
+    let log = log(lines);
+    assert_eq!(rt; check_log(alloc, &clauses, &log), Ok(()));
+    assert!(rt; !log.ends_empty());
+    Ok(())
+}
+
+#[test]
+fn empty_log_follows_and_refutes_nothing(rt: HostRuntime) -> Result<(), Fail> {
+    let alloc = rt.alloc();
+    let clauses = three_stations(alloc)?;
+    let log = log(Vec::new(alloc));
+    assert_eq!(rt; check_log(alloc, &clauses, &log), Ok(()));
+    assert!(rt; !log.ends_empty());
+    Ok(())
+}
+
+#[test]
+fn clauses_of_variables_past_the_last(rt: HostRuntime) -> Result<(), Fail> {
+    let alloc = rt.alloc();
+    let mut clauses = ClauseList::new(alloc, 1);
+    clauses.add(&lits(alloc, &[9])?)?;
+    clauses.add(&lits(alloc, &[-9])?)?;
+    assert_eq!(rt; answer(alloc, &clauses, &[], &[1, 2])?, Ok(()));
+    assert_eq!(rt;
+        answer(alloc, &clauses, &[], &[2, 2])?,
+        Err(LineErr::NotFalsified)
+    );
+    Ok(())
+}
