@@ -1,0 +1,174 @@
+ghost use Rattle.std.specs.Prelude.{◌≡◌, IfOk, IsTrue};
+ghost use Rattle.pack_defs.specs.ChannelMap.{IsAscending};
+ghost use Rattle.pack_defs.specs.Lists.{has_entry, is_ascending};
+ghost use Rattle.assign_check.specs.Fault.{extra, first_fault, missing, off_domain, violation};
+
+use crate::fault::MapFault;
+use pack_defs::book::Book;
+use pack_defs::channel_map::ChannelMap;
+
+/// What is wrong first with a channel map on a set of stations, ascending: the least station of the set that has no
+/// channel, else the least one with a channel that isn't in the set, else the least one off its domain, else the first
+/// pair of the book of which both entries stand in the map. None says that the map is clean and has exactly these
+/// stations. It searches by halves, once for each station and at most twice for each pair of the book.
+pub fn first_fault(book: &Book, set: &[u32], map: &ChannelMap) -> Option<MapFault>
+    requires { IsTrue (is_ascending set.now) }
+    ensures { result ≡ first_fault book.now set.now map.now }
+{
+    let entries = map.entries();
+    if let Some(fault) = missing(set, map) {
+        return Some(fault);
+    }
+    if let Some(fault) = extra(set, entries) {
+        return Some(fault);
+    }
+    if let Some(fault) = off_domain(book, entries) {
+        return Some(fault);
+    }
+    violation(book, map)
+}
+
+// The least station of the set that has no channel.
+fn missing(set: &[u32], map: &ChannelMap) -> Option<MapFault>
+    ensures { result ≡ missing set.now map.now }
+{
+    for s in set {
+        if map.get(*s).is_none() {
+            return Some(MapFault::Missing(*s));
+        }
+    }
+    None
+}
+
+// The first station of the entries that isn't in the set.
+fn extra(set: &[u32], entries: &[(u32, u8)]) -> Option<MapFault>
+    requires { IsTrue (is_ascending set.now) }
+    ensures { result ≡ extra set.now entries.now }
+{
+    for x in entries {
+        if set.binary_search(&x.0).is_err() {
+            return Some(MapFault::Extra(x.0));
+        }
+    }
+    None
+}
+
+// The first station of the entries that is off its domain.
+fn off_domain(book: &Book, entries: &[(u32, u8)]) -> Option<MapFault>
+    ensures { result ≡ off_domain book.now entries.now }
+{
+    for x in entries {
+        if !book.domain(x.0).contains(&x.1) {
+            return Some(MapFault::OffDomain(x.0));
+        }
+    }
+    None
+}
+
+// The first pair of the book of which both entries stand in the map.
+fn violation(book: &Book, map: &ChannelMap) -> Option<MapFault>
+    requires { IsAscending map.now }
+    ensures { result ≡ violation book.now map.now }
+{
+    for p in book.pairs() {
+        if stands(map, p.f, p.a) && stands(map, p.g, p.b) {
+            return Some(MapFault::Violates(*p));
+        }
+    }
+    None
+}
+
+// Whether the map has the station on this channel.
+fn stands(map: &ChannelMap, s: u32, c: u8) -> bool
+    requires { IsAscending map.now }
+    ensures { result ≡ has_entry map.now (s, c) }
+{
+    map.get(s) == Some(c)
+}
+
+#[cfg(test)]
+mod tests {
+    use super::*;
+    use pack_defs::domain::Domain;
+    use pack_defs::items::Items;
+    use pack_defs::pair::Pair;
+    use std::alloc::{AllocError, Global};
+    use std::test::Fail;
+
+    // A station that may use channels 14 and 15.
+    fn on_both(alloc: Global, station: u32) -> Result<Domain, AllocError>
+        ensures { IfOk result (λ d. (d.station ≡ station) × IsTrue (is_ascending d.channels)) }
+    {
+        let channels = Items::from_vec(Vec::from_slice(alloc, &[14, 15])?);
+        Ok(Domain { station, channels })
+    }
+
+    fn on_one(f: u32, g: u32, c: u8) -> Pair
+        ensures { result ≡ record { f = f; a = c; g = g; b = c } }
+    {
+        Pair { f, a: c, g, b: c }
+    }
+
+    // Three stations on two channels, of which no two may share one.
+    fn three_stations(alloc: Global) -> Result<Book, AllocError> {
+        let domains = [on_both(alloc, 1)?, on_both(alloc, 2)?, on_both(alloc, 3)?];
+        let pairs = [
+            on_one(1, 2, 14),
+            on_one(1, 3, 14),
+            on_one(1, 2, 15),
+            on_one(1, 3, 15),
+            on_one(2, 3, 14),
+            on_one(2, 3, 15),
+        ];
+        Book::build(alloc, 15, &[1, 2, 3], &domains, &pairs)
+    }
+
+    #[test]
+    fn first_of_each_fault(rt: HostRuntime) -> Result<(), Fail> {
+        let alloc = rt.alloc();
+        let book = three_stations(alloc)?;
+        let one = ChannelMap::of(alloc, &[(1, 14)])?;
+        assert_eq!(rt;
+            first_fault(&book, &[1, 2, 3], &one),
+            Some(MapFault::Missing(2))
+        );
+        let three = ChannelMap::of(alloc, &[(1, 13), (2, 15), (3, 15)])?;
+        assert_eq!(rt; first_fault(&book, &[1], &three), Some(MapFault::Extra(2)));
+        assert_eq!(rt;
+            first_fault(&book, &[1, 2, 3], &three),
+            Some(MapFault::OffDomain(1))
+        );
+        let same = ChannelMap::of(alloc, &[(1, 15), (2, 15), (3, 15)])?;
+        let fault = Some(MapFault::Violates(on_one(1, 2, 15)));
+        assert_eq!(rt; first_fault(&book, &[1, 2, 3], &same), fault);
+        Ok(())
+    }
+
+    #[test]
+    fn first_fault_is_by_kind(rt: HostRuntime) -> Result<(), Fail> {
+        let alloc = rt.alloc();
+        let book = three_stations(alloc)?;
+        let all = ChannelMap::of(alloc, &[(1, 16), (2, 14), (3, 14)])?;
+        assert_eq!(rt;
+            first_fault(&book, &[2, 4], &all),
+            Some(MapFault::Missing(4))
+        );
+        assert_eq!(rt; first_fault(&book, &[2], &all), Some(MapFault::Extra(1)));
+        assert_eq!(rt;
+            first_fault(&book, &[1, 2, 3], &all),
+            Some(MapFault::OffDomain(1))
+        );
+        Ok(())
+    }
+
+    #[test]
+    fn clean_map_has_none(rt: HostRuntime) -> Result<(), Fail> {
+        let alloc = rt.alloc();
+        let book = three_stations(alloc)?;
+        let clean = ChannelMap::of(alloc, &[(1, 15), (2, 14)])?;
+        assert_eq!(rt; first_fault(&book, &[1, 2], &clean), None);
+        let empty = ChannelMap::of(alloc, &[])?;
+        assert_eq!(rt; first_fault(&book, &[], &empty), None);
+        Ok(())
+    }
+}

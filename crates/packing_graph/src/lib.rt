@@ -1,0 +1,9 @@
+//! Which stations interfere, and the component of a station among others.
+#![tactic(auto)]
+
+pub mod component;
+pub mod laws;
+pub mod neighbours;
+mod reach;
+#[cfg(test)]
+mod tests;
