@@ -92,7 +92,7 @@ fn a_constraint_file_is_refused(rt: HostRuntime) -> Result<(), Fail> {
             ROWS,
             "d.csv: refused\n",
         ),
-        (DOMAINS.as_bytes(), "ADJ+1,14,15,1,2\n", "r.csv: refused\n"),
+        (DOMAINS.as_bytes(), "ADJ+1,14,16,1,2\n", "r.csv: refused\n"),
         (DOMAINS.as_bytes(), number, "r.csv: refused\n"),
     ] {
         let folder = folder_of(alloc, domains, rows.as_bytes(), SCENARIO.as_bytes(), &[])?;
