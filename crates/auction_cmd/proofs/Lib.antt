@@ -5,7 +5,6 @@ pub mod CountLemmas
 pub mod CourseLemmas
 pub mod Finds
 pub mod InputsLemmas
-pub mod PackSearch
 pub mod Places
 pub mod ReplayLemmas
 pub mod RoundLemmas

@@ -3,7 +3,6 @@ pub mod Backed
 pub mod Clock
 pub mod Inputs
 pub mod Joined
-pub mod PlainPack
 pub mod PlainRule
 pub mod ResultText
 pub mod Says

@@ -6,7 +6,7 @@ ghost use Rattle.pack_defs.specs.Prices.{last_round, prices};
 ghost use Rattle.pack_defs.specs.ClockRule.{exits, opening_state};
 ghost use Rattle.auction_cmd.specs.Clock.{AreStandings, answered_standing, declines_offer, opening_standing, stands_active};
 
-use crate::offer_sched::{last_round, offer};
+use offer_sched::offers::{last_round, offer};
 use pack_defs::scenario::Scenario;
 use pack_defs::station::Station;
 use std::alloc::{AllocError as NoMemory, Global};
@@ -147,7 +147,7 @@ impl Clock {
 #[cfg(test)]
 mod tests {
     use super::*;
-    use crate::offer_sched::schedule;
+    use offer_sched::offers::schedule;
     use pack_defs::items::Items;
     use pack_defs::worker::{Kind, Worker};
     use std::test::Fail;

@@ -66,10 +66,10 @@ fn first_missing(ids: &[u32], domains: &Domains) -> Option<u32>
 #[cfg(test)]
 mod tests {
     use crate::join::{JoinErr, join};
-    use crate::offer_sched::{last_round, schedule};
     use crate::scenario_json::read_scenario;
     use constraint_files::domains::read_domains;
     use constraint_files::pairs::read_pairs;
+    use offer_sched::offers::{last_round, schedule};
     use pack_defs::pair::Pair;
     use std::test::Fail;
 

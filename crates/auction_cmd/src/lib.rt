@@ -5,8 +5,6 @@ pub mod auction;
 pub mod clock;
 pub mod inputs;
 pub mod join;
-pub mod offer_sched;
-pub mod plain_pack;
 pub mod plain_rule;
 pub mod record;
 pub mod result_text;

@@ -10,14 +10,14 @@ ghost use Rattle.auction_cmd.specs.Clock.{asked_by, stands_on_air};
 ghost use Rattle.auction_cmd.specs.PlainRule.{AnswersTest, IsCourse, map_after, paid, tests_before};
 
 use crate::clock::{Clock, Standing};
-use crate::offer_sched::{last_round, offer, schedule};
-use crate::plain_pack::fits;
 use crate::record::{Ending, Record, Shown, Step};
+use offer_sched::offers::{last_round, offer, schedule};
 use pack_defs::book::Book;
 use pack_defs::channel_map::ChannelMap;
 use pack_defs::items::Items;
 use pack_defs::scenario::Scenario;
 use pack_defs::station::Station;
+use plain_pack::search::fits;
 use std::alloc::{AllocError as NoMemory, Global};
 
 // Whether a test of `s` is about this station.

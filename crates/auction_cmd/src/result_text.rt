@@ -11,10 +11,10 @@ ghost use Rattle.auction_cmd.specs.Clock.{AreStandings, stands_frozen, stands_on
 ghost use Rattle.auction_cmd.specs.ResultText.{IsBetweenRows, count_line, header_line, result_text, row_fields, standing_line, standing_lines, summary_text, text_held};
 
 use crate::clock::{Clock, Standing};
-use crate::offer_sched::schedule;
 use crate::record::{Record, Shown};
 use csv::{Writer, WriterBuilder};
 use itoa::Buffer;
+use offer_sched::offers::schedule;
 use pack_defs::book::Book;
 use pack_defs::station::Station;
 use std::alloc::{AllocError as NoMemory, Global};

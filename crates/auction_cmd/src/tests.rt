@@ -1,6 +1,5 @@
 //! Runs of the whole program over a folder and a sink in memory.
 
-mod fitting;
 mod settled;
 mod stopped;
 

@@ -1,8 +1,8 @@
 use Rattle.std.proofs.Common.{◌≡◌, ◌∙◌, List, [], map, refl, sym, ap, rules}
 use Rattle.pack_defs.specs.Packing.{IsPacking, is_apart}
-use Rattle.auction_cmd.specs.PlainPack.{Extends, NoneExtends}
-use Rattle.auction_cmd.proofs.PackSearch.{fits-none, nothing-apart, packs}
-use Rattle.auction_cmd.proofs.plain_pack.fits.Goals as goal
+use Rattle.plain_pack.specs.Search.{Extends, NoneExtends}
+use Rattle.plain_pack.proofs.PackSearch.{fits-none, nothing-apart, packs}
+use Rattle.plain_pack.proofs.search.fits.Goals as goal
 
 pub extend-requires : goal.extend-requires
 extend-requires c = rw c.new-chosen.ensures.items (nothing-apart c.args.book.now)

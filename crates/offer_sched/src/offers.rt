@@ -40,7 +40,7 @@ pub fn last_round(sc: &Scenario) -> u32
 
 #[cfg(test)]
 mod tests {
-    use crate::offer_sched::{last_round, offer, schedule};
+    use crate::offers::{last_round, offer, schedule};
     use pack_defs::items::Items;
     use pack_defs::scenario::Scenario;
     use std::alloc::AllocError;

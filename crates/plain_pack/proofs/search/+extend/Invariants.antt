@@ -1,7 +1,7 @@
 use Rattle.std.proofs.Common.{length, ◌≡◌, true, take}
 use Rattle.pack_defs.specs.Packing.{is_apart}
-use Rattle.auction_cmd.specs.PlainPack.{NoneExtendsBy}
-use Rattle.auction_cmd.proofs.plain_pack.+extend.Given as goal
+use Rattle.plain_pack.specs.Search.{NoneExtendsBy}
+use Rattle.plain_pack.proofs.search.+extend.Given as goal
 
 abbrev pub decreases-extend : goal.decreases-extend
 decreases-extend l = length l.left.now

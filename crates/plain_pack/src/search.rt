@@ -5,7 +5,7 @@ ghost use Rattle.std.specs.List.{list_all};
 ghost use Rattle.pack_defs.specs.Lists.{is_ascending};
 ghost use Rattle.pack_defs.specs.Book.{is_forbidden};
 ghost use Rattle.pack_defs.specs.Packing.{IsPacking, fits, is_apart};
-ghost use Rattle.auction_cmd.specs.PlainPack.{Extends, NoneExtends, stands_with};
+ghost use Rattle.plain_pack.specs.Search.{Extends, NoneExtends, stands_with};
 
 use pack_defs::book::Book;
 use pack_defs::channel_map::ChannelMap;

@@ -11,7 +11,7 @@ use Rattle.pack_defs.specs.Packing.{IsPacking, assignments, fits, is_apart}
 use Rattle.pack_defs.proofs.FitsLaws.{assignments-gives, is_apart-gives, is_apart-from}
 use Rattle.pack_defs.proofs.Members.{Contains-here, Contains-there, Contains-cons_cases, Contains-nil, Contains-map, Contains-from_map, Contains-flat_map, Contains-from_flat_map, list_any-from, list_all-from, list_all-gives}
 use Rattle.pack_defs.proofs.Words.{list_any-from_each}
-use Rattle.auction_cmd.specs.PlainPack.{Extends, NoneExtends, NoneExtendsBy, stands_with}
+use Rattle.plain_pack.specs.Search.{Extends, NoneExtends, NoneExtendsBy, stands_with}
 
 -- a pair forbids its entries in either order
 forbids-sym : (pairs : List Pair) (x y : ℕ × ℕ) → list_any (λ p. joins p x y) pairs ≡ list_any (λ p. joins p y x) pairs

@@ -1,0 +1,4 @@
+//! The clock's prices and offers.
+#![tactic(auto)]
+
+pub mod offers;
