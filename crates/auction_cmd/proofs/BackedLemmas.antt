@@ -16,7 +16,8 @@ use Rattle.auction_cmd.specs.declared.record.Record.{Record}
 use Rattle.auction_cmd.specs.declared.record.Shown.{Shown}
 use Rattle.auction_cmd.specs.declared.record.Shown.TheVariants.{Empty, Fits, NoChannel, Unfit}
 use Rattle.auction_cmd.specs.declared.record.Step.{Step}
-use Rattle.auction_cmd.specs.Backed.{AreShown, IsBacked, IsShown, Point, after_steps, settled, shows_room, start_point, test_of}
+use Rattle.auction_cmd.specs.declared.record.Ending.TheVariants.{Done}
+use Rattle.auction_cmd.specs.Backed.{AreShown, IsBacked, IsCarriedThrough, IsEnded, IsShown, Point, after_steps, settled, shows_room, start_point, test_of}
 
 -- ---- the clock's tests
 
@@ -139,18 +140,22 @@ asked_at sc at (x ∷ xs) (suc k) d asked h = asked_at sc (settled sc at (test_o
 
 -- ---- a backed record
 
-pub backed-follows : (sc : Scenario) (book : BookView) (rec : Record) → IsBacked sc book rec → FollowsRule sc book (clock_tests sc) (start_point sc) rec.steps
+-- what a record of an auction that is done holds
+pub carried-through : (sc : Scenario) (book : BookView) (rec : Record) → IsBacked sc book rec → rec.ending ≡ Done → IsCarriedThrough sc book rec
+carried-through sc book rec backed done = subst (IsEnded sc book rec) done backed.rest
+
+pub backed-follows : (sc : Scenario) (book : BookView) (rec : Record) → IsCarriedThrough sc book rec → FollowsRule sc book (clock_tests sc) (start_point sc rec.start) rec.steps
 unfolding asked_tests
 backed-follows sc book rec backed =
-    steps-follow sc book (clock_tests sc) (start_point sc) rec.steps (λ t there. (clock_tests-has sc t there).0) backed.tests backed.shown
+    steps-follow sc book (clock_tests sc) (start_point sc rec.start) rec.steps (λ t there. (clock_tests-has sc t there).0) backed.tests backed.shown
 
 -- the clock after its steps is that of the rule
-pub backed-clock : (sc : Scenario) (book : BookView) (rec : Record) → IsBacked sc book rec → (after_steps sc (start_point sc) rec.steps).clock ≡ clock_rule sc book []
+pub backed-clock : (sc : Scenario) (book : BookView) (rec : Record) → IsCarriedThrough sc book rec → (after_steps sc (start_point sc rec.start) rec.steps).clock ≡ clock_rule sc book []
 unfolding clock_rule
 backed-clock sc book rec backed = (backed-follows sc book rec backed).clock
 
 -- each of its steps is of a station of the scenario, in one of its rounds
-pub backed-step : (sc : Scenario) (book : BookView) (rec : Record) (k : ℕ) (d : Step) → IsBacked sc book rec → k < length rec.steps →
+pub backed-step : (sc : Scenario) (book : BookView) (rec : Record) (k : ℕ) (d : Step) → IsCarriedThrough sc book rec → k < length rec.steps →
     Contains (facilities sc) (get_or rec.steps k d).station × (1 ≤ (get_or rec.steps k d).round) × ((get_or rec.steps k d).round ≤ last_round sc)
 unfolding asked_tests
 backed-step sc book rec k d backed h =
@@ -159,23 +164,23 @@ backed-step sc book rec k d backed h =
     clock_tests-has sc (test_of (get_or rec.steps k d)) (asked_from-has sc book [] (clock_tests sc) (opening_state sc) (test_of (get_or rec.steps k d)) asked)
 
 -- what is known of the next of some steps, after the first k
-pub record IsNext (sc : Scenario) (steps : List Step) (k : ℕ) (x : Step) : Type 0 where
+pub record IsNext (sc : Scenario) (start : Shown) (steps : List Step) (k : ℕ) (x : Step) : Type 0 where
   pub station : Contains (facilities sc) x.station
   pub begun : 1 ≤ x.round
   pub round : x.round ≤ last_round sc
-  pub active : is_active (after_steps sc (start_point sc) (take k steps)).clock x.station ≡ true
-  pub moves : after_steps sc (start_point sc) (take (k + 1) steps) ≡ settled sc (after_steps sc (start_point sc) (take k steps)) (test_of x) x.shown
+  pub active : is_active (after_steps sc (start_point sc start) (take k steps)).clock x.station ≡ true
+  pub moves : after_steps sc (start_point sc start) (take (k + 1) steps) ≡ settled sc (after_steps sc (start_point sc start) (take k steps)) (test_of x) x.shown
 
 -- each of a backed record's steps is one that comes next
-pub backed-next : (sc : Scenario) (book : BookView) (rec : Record) (steps : List Step) (k : ℕ) (x : Step) → IsBacked sc book rec → steps ≡ rec.steps → k < length steps → x ≡ get_or steps k x → IsNext sc steps k x
+pub backed-next : (sc : Scenario) (book : BookView) (rec : Record) (steps : List Step) (k : ℕ) (x : Step) → IsCarriedThrough sc book rec → steps ≡ rec.steps → k < length steps → x ≡ get_or steps k x → IsNext sc rec.start steps k x
 backed-next sc book rec steps k x backed same h is =
     let within : k < length rec.steps = subst (λ ys. k < length ys) same h in
     let step = backed-step sc book rec k x backed within in
-    let next : IsNext sc rec.steps k (get_or rec.steps k x) = record {
+    let next : IsNext sc rec.start rec.steps k (get_or rec.steps k x) = record {
       station = step.0;
       begun = step.1;
       round = step.2;
-      active = asked_at sc (start_point sc) rec.steps k x (backed-follows sc book rec backed).asked within;
-      moves = after_steps_more sc (start_point sc) rec.steps k x within;
+      active = asked_at sc (start_point sc rec.start) rec.steps k x (backed-follows sc book rec backed).asked within;
+      moves = after_steps_more sc (start_point sc rec.start) rec.steps k x within;
     } in
-    subst (λ z. IsNext sc steps k z) (sym is) (subst (λ ys. IsNext sc ys k (get_or ys k x)) (sym same) next)
+    subst (λ z. IsNext sc rec.start steps k z) (sym is) (subst (λ ys. IsNext sc rec.start ys k (get_or ys k x)) (sym same) next)

@@ -111,7 +111,7 @@ moved-not sc book st entries packing = record { packing = packing; sum = omega a
 -- ---- a verdict
 
 -- a filter of the scenario's stations ascends
-kept-ascend : (sc : Scenario) (p : ℕ → Bool) → StationsAscend sc → is_ascending (filter p (facilities sc)) ≡ true
+pub kept-ascend : (sc : Scenario) (p : ℕ → Bool) → StationsAscend sc → is_ascending (filter p (facilities sc)) ≡ true
 kept-ascend sc p ascend = ascending-from (filter p (facilities sc)) (IsStrictlyIncreasing-filter p (facilities sc) ascend)
 
 -- a map of the whole set overwrites all of the map before it
@@ -162,14 +162,14 @@ abbrev point_of : ClockState → List (ℕ × ℕ) → Point
 point_of clock entries = record { clock = clock; map = entries }
 
 -- One test more of an active station, settled by a right verdict.
-pub one_more : (sc : Scenario) (book : BookView) (tests : List ClockTest) (t : ClockTest) (i : ℕ) (clock : List Standing) (entries : List (ℕ × ℕ)) (steps : List Step) (total : ℕ) (shown : Shown) →
+pub one_more : (sc : Scenario) (book : BookView) (start : Shown) (tests : List ClockTest) (t : ClockTest) (i : ℕ) (clock : List Standing) (entries : List (ℕ × ℕ)) (steps : List Step) (total : ℕ) (shown : Shown) →
     StationsAscend sc → i < length sc.stations → get_or (facilities sc) i 0 ≡ t.station → offer sc t.station (t.round - 1) ≤ most_paid →
     is_active (after_tests sc book [] tests (opening_state sc)) t.station ≡ true →
     AnswersTest book (asked_by t.station (facilities sc) clock) t.station shown →
-    IsAfter sc book tests clock entries steps total →
+    IsAfter sc book start tests clock entries steps total →
     let standing = answered_standing sc t (shows_room shown) in
-    IsAfter sc book (tests ++ t ∷ []) (set clock i standing) (map_after entries standing shown) (steps ++ record { round = t.round; station = t.station; shown = shown } ∷ []) (total + paid standing)
-one_more sc book tests t i clock entries steps total shown ascend here at small active answers before =
+    IsAfter sc book start (tests ++ t ∷ []) (set clock i standing) (map_after entries standing shown) (steps ++ record { round = t.round; station = t.station; shown = shown } ∷ []) (total + paid standing)
+one_more sc book start tests t i clock entries steps total shown ascend here at small active answers before =
     let st = after_tests sc book [] tests (opening_state sc) in
     let x : Step = record { round = t.round; station = t.station; shown = shown } in
     let standing = answered_standing sc t (shows_room shown) in
@@ -183,13 +183,15 @@ one_more sc book tests t i clock entries steps total shown ascend here at small 
     let bound_before = before.bound in
     let sum_before = before.sum in
     record {
+      started = before.started;
+      fits = before.fits;
       standings = subst (λ z. AreStandings sc z (set clock i standing)) next (answer-standings i t (shows_room shown) ascend before.standings here at active);
       asked =
           map-append test_of steps (x ∷ []) ∙ (ap (λ z. z ++ t ∷ []) before.asked
           ∙ sym (asked_in_turn sc book [] tests (t ∷ []) (opening_state sc) ∙ ap (λ z. asked_from sc book [] tests (opening_state sc) ++ z) (cond-true (is_active st t.station) (t ∷ []) [] active)));
-      shown = AreShown_push sc book (start_point sc) steps x before.shown (subst (λ z. IsShown sc book z t.station shown) (sym before.point) right);
+      shown = AreShown_push sc book (start_point sc start) steps x before.shown (subst (λ z. IsShown sc book z t.station shown) (sym before.point) right);
       point =
-          after_steps_push sc (start_point sc) steps x ∙ (ap (λ z. settled sc z t shown) before.point
+          after_steps_push sc (start_point sc start) steps x ∙ (ap (λ z. settled sc z t shown) before.point
           ∙ ap₂ point_of next (settled-map sc (point_of st entries) t shown));
       packing = moved_on.packing;
       sum = ap (λ n. n + paid standing) sum_before ∙ sym moved_on.sum;

@@ -12,6 +12,6 @@ pub mod RowLemmas
 pub mod SaysLemmas
 pub mod ScenarioLimits
 pub mod ScenarioReading
-pub mod StartTest
+pub mod StartLemmas
 pub mod StationsPlaced
 pub mod StopLemmas

@@ -18,8 +18,10 @@ use Rattle.pack_defs.proofs.TestOrder.{asked_in_turn, in_turn}
 use Rattle.auction_cmd.specs.declared.clock.Standing.{Standing}
 use Rattle.auction_cmd.specs.declared.clock.Standing.TheVariants.{Active, OnAir}
 use Rattle.auction_cmd.specs.declared.record.Step.{Step}
-use Rattle.auction_cmd.specs.Backed.{after_steps, start_point, test_of}
+use Rattle.auction_cmd.specs.declared.record.Shown.{Shown}
+use Rattle.auction_cmd.specs.Backed.{IsStartShown, after_steps, delta_of, shows_room, start_point, test_of}
 use Rattle.auction_cmd.specs.Clock.{AreStandings, answered_standing}
+use Rattle.auction_cmd.proofs.StartLemmas.{opening-on_air, start-packing}
 use Rattle.auction_cmd.specs.PlainRule.{IsAfter, most_paid, paid, test_at, tests_before}
 
 -- ---- the tests in their order
@@ -78,18 +80,20 @@ active-bids sc book tests s active =
     ]
 
 -- a test of a station that isn't active changes nothing
-idle_more : (sc : Scenario) (book : BookView) (tests : List ClockTest) (t : ClockTest) (clock : List Standing) (entries : List (ℕ × ℕ)) (steps : List Step) (total : ℕ) →
-    is_active (after_tests sc book [] tests (opening_state sc)) t.station ≡ false → IsAfter sc book tests clock entries steps total → IsAfter sc book (tests ++ t ∷ []) clock entries steps total
-idle_more sc book tests t clock entries steps total idle before =
+idle_more : (sc : Scenario) (book : BookView) (start : Shown) (tests : List ClockTest) (t : ClockTest) (clock : List Standing) (entries : List (ℕ × ℕ)) (steps : List Step) (total : ℕ) →
+    is_active (after_tests sc book [] tests (opening_state sc)) t.station ≡ false → IsAfter sc book start tests clock entries steps total → IsAfter sc book start (tests ++ t ∷ []) clock entries steps total
+idle_more sc book start tests t clock entries steps total idle before =
     let st = after_tests sc book [] tests (opening_state sc) in
     let same : st ≡ after_tests sc book [] (tests ++ t ∷ []) (opening_state sc) = sym (in_turn sc book [] tests (t ∷ []) (opening_state sc) ∙ test_idle book [] sc st t idle) in
     let none : asked_from sc book [] (t ∷ []) st ≡ [] = cond-false (is_active st t.station) _ _ idle in
     let sum_before = before.sum in
     record {
+      started = before.started;
+      fits = before.fits;
       standings = subst (λ z. AreStandings sc z clock) same before.standings;
       asked = before.asked ∙ sym (asked_in_turn sc book [] tests (t ∷ []) (opening_state sc) ∙ (ap (λ z. asked_from sc book [] tests (opening_state sc) ++ z) none ∙ append-nil _));
       shown = before.shown;
-      point = subst (λ z. after_steps sc (start_point sc) steps ≡ record { clock = z; map = entries }) same before.point;
+      point = subst (λ z. after_steps sc (start_point sc start) steps ≡ record { clock = z; map = entries }) same before.point;
       packing = subst (λ z. IsPacking book (on_air_set sc z) entries) same before.packing;
       sum = subst (λ (z : ClockState). total ≡ sum_by (λ x. x.price) z.frozen) same before.sum;
       bound = subst (λ (z : ClockState). total ≤ most_paid * length z.frozen) same before.bound;
@@ -97,16 +101,16 @@ idle_more sc book tests t clock entries steps total idle before =
     }
 
 -- a station that isn't active is passed over
-pub passed_over : (sc : Scenario) (book : BookView) (r i : ℕ) (clock : List Standing) (entries : List (ℕ × ℕ)) (steps : List Step) (total : ℕ) → i < length sc.stations →
+pub passed_over : (sc : Scenario) (book : BookView) (start : Shown) (r i : ℕ) (clock : List Standing) (entries : List (ℕ × ℕ)) (steps : List Step) (total : ℕ) → i < length sc.stations →
     is_active (after_tests sc book [] (tests_before sc r i) (opening_state sc)) (get_or (facilities sc) i 0) ≡ false →
-    IsAfter sc book (tests_before sc r i) clock entries steps total → IsAfter sc book (tests_before sc r (i + 1)) clock entries steps total
-passed_over sc book r i clock entries steps total h idle before =
+    IsAfter sc book start (tests_before sc r i) clock entries steps total → IsAfter sc book start (tests_before sc r (i + 1)) clock entries steps total
+passed_over sc book start r i clock entries steps total h idle before =
     let s = get_or (facilities sc) i 0 in
     let at : Bool → List ClockTest = λ b. tests_before sc r i ++ cond b (test_at sc r i ∷ []) [] in
-    subst (λ z. IsAfter sc book z clock entries steps total) (sym (tests_before-more sc r i h))
-    (elim (not (declines sc s 0)) as (λ b. IsAfter sc book (tests_before sc r i ++ cond b (test_at sc r i ∷ []) []) clock entries steps total) [
-      | true ↦ idle_more sc book (tests_before sc r i) (test_at sc r i) clock entries steps total idle before
-      | false ↦ subst (λ z. IsAfter sc book z clock entries steps total) (sym (append-nil (tests_before sc r i))) before
+    subst (λ z. IsAfter sc book start z clock entries steps total) (sym (tests_before-more sc r i h))
+    (elim (not (declines sc s 0)) as (λ b. IsAfter sc book start (tests_before sc r i ++ cond b (test_at sc r i ∷ []) []) clock entries steps total) [
+      | true ↦ idle_more sc book start (tests_before sc r i) (test_at sc r i) clock entries steps total idle before
+      | false ↦ subst (λ z. IsAfter sc book start z clock entries steps total) (sym (append-nil (tests_before sc r i))) before
     ])
 
 -- an active station's test comes next
@@ -149,25 +153,21 @@ paid_at_most sc t false h = offer_at_most sc t.station (t.round - 1) h
 
 -- ---- the beginning
 
--- no station is on air from the start
-pub opened : (sc : Scenario) (book : BookView) (clock : List Standing) → start_set sc ≡ [] → AreStandings sc (opening_state sc) clock → IsAfter sc book [] clock [] [] 0
-opened sc book clock none standings =
-    let nobody : on_air_set sc (opening_state sc) ≡ [] = ap (λ z. filter (λ f. list_any (λ (x : OnAirSince). eqb x.station f) (map (λ s. record { station = s; round = 0 }) z)) (facilities sc)) none ∙ empty_filter (facilities sc) in
-    record {
-      standings = standings;
-      asked = refl;
-      shown = tt;
-      point = refl;
-      packing = rw nobody (record { stations = refl; clean = record { on_domain = λ x l. absurd (Contains-nil x l); apart = λ x y l m. absurd (Contains-nil x l) } });
-      sum = refl;
-      bound = omega arith;
-      room = fewer_bid sc;
-    }
+-- the clock opens with the start set on air, on the channels that its test gave
+pub opened : (sc : Scenario) (book : BookView) (start : Shown) (clock : List Standing) → StationsAscend sc → IsStartShown sc book start → shows_room start ≡ true → AreStandings sc (opening_state sc) clock → IsAfter sc book start [] clock (delta_of start) [] 0
+opened sc book start clock ascend started room standings = record {
+  started = started;
+  fits = room;
+  standings = standings;
+  asked = refl;
+  shown = tt;
+  point = refl;
+  packing = rw (opening-on_air sc) (start-packing sc book start started room);
+  sum = refl;
+  bound = omega arith;
+  room = fewer_bid sc;
+}
   where
-    empty_filter : (xs : List ℕ) → filter (λ f. false) xs ≡ []
-    empty_filter [] = refl
-    empty_filter (x ∷ xs) = empty_filter xs
-
     kept_at_most : (p : ℕ → Bool) (xs : List ℕ) → length (filter p xs) ≤ length xs
     kept_at_most p [] = omega arith
     kept_at_most p (x ∷ xs) =

@@ -1,15 +1,17 @@
 -- When a finished record is backed: its steps are the clock rule's tests, and each is shown.
-use Rattle.std.specs.Prelude.{◌≡◌, ◌≢◌, ℕ, Bool, true, false, if◌then◌else◌, List, [], ◌∷◌, map, sum_by, IsFalse}
+use Rattle.std.specs.Prelude.{◌≡◌, ◌≢◌, ℕ, Bool, true, false, if◌then◌else◌, List, [], ◌∷◌, Option, Some, find, map, option_map, sum_by, IsFalse, MatchOption}
 use Rattle.pack_defs.specs.declared.scenario.Scenario.{Scenario}
 use Rattle.pack_defs.specs.Book.{BookView, domain_of}
 use Rattle.pack_defs.specs.ChannelMap.{overlaid}
+use Rattle.pack_defs.specs.Lists.{is_empty}
 use Rattle.pack_defs.specs.Packing.{IsPacking, fits}
 use Rattle.pack_defs.specs.Prices.{start_set}
 use Rattle.pack_defs.specs.ClockRule.{ClockTest, ClockState, after_answer, asked_set, asked_tests, clock_rule, exits, opening_state}
 use Rattle.auction_cmd.specs.declared.record.Shown.{Shown}
 use Rattle.auction_cmd.specs.declared.record.Shown.TheVariants.{Empty, Fits, NoChannel, Unfit}
 use Rattle.auction_cmd.specs.declared.record.Step.{Step}
-use Rattle.auction_cmd.specs.declared.record.Ending.TheVariants.{Done}
+use Rattle.auction_cmd.specs.declared.record.Ending.{Ending}
+use Rattle.auction_cmd.specs.declared.record.Ending.TheVariants.{Done, StartRefuted}
 use Rattle.auction_cmd.specs.declared.record.Record.{Record}
 
 -- the test of a step
@@ -62,18 +64,64 @@ abbrev pub after_steps : Scenario → Point → List Step → Point
 after_steps sc at [] = at
 after_steps sc at (x ∷ xs) = after_steps sc (settled sc at (test_of x) x.shown) xs
 
--- the point at which the clock starts where no station is on air from the start
-abbrev pub start_point : Scenario → Point
-start_point sc = record { clock = opening_state sc; map = [] }
+-- the point at which the clock opens, once its start was shown so: the start set is on air, on the channels shown
+abbrev pub start_point : Scenario → Shown → Point
+start_point sc start = record { clock = opening_state sc; map = delta_of start }
 
--- The record is backed: it is of this scenario, no station is on air from the start, its steps are in order the tests
--- that the clock rule asks, each is shown, the map is what they leave, and the total is the sum of the rule's payments.
+-- the first station of the set that has no channel
+abbrev pub first_bare : BookView → List ℕ → Option ℕ
+first_bare book set = find (λ s. is_empty (domain_of book s)) set
+
+-- how the start test is settled without a search, if it is: the start set is empty, or a station of it has no channel
+abbrev pub start_unasked : Scenario → BookView → Option Shown
+start_unasked sc book =
+    if is_empty (start_set sc) then Some Empty else option_map NoChannel (first_bare book (start_set sc))
+
+-- what a search through every channel map of the set shows: a clean one, or that none is
+abbrev pub IsSearched : BookView → List ℕ → Shown → Type 0
+IsSearched book set Empty = ⊥
+IsSearched book set (Fits map) = IsPacking book set map
+IsSearched book set (NoChannel f) = ⊥
+IsSearched book set Unfit = IsFalse (fits book set)
+
+-- the start is shown as it has to be: without a search exactly where it needs none
+abbrev pub IsStartShown : Scenario → BookView → Shown → Type 0
+IsStartShown sc book start =
+    MatchOption (start_unasked sc book) (IsSearched book (start_set sc) start) (λ unasked. start ≡ unasked)
+
+-- how an auction ends, by how its start was shown
+abbrev pub ending_of : Shown → Ending
+ending_of Empty = Done
+ending_of (Fits map) = Done
+ending_of (NoChannel s) = StartRefuted
+ending_of Unfit = StartRefuted
+
+-- how an auction by the clock rule ends: it is carried through exactly where its start set fits
+abbrev pub rule_ending : Scenario → BookView → Ending
+rule_ending sc book = if fits book (start_set sc) then Done else StartRefuted
+
+-- The auction was carried through: its steps are in order the tests that the clock rule asks, each is shown, the map is
+-- what they leave, and the total is the sum of the rule's payments.
+pub record IsCarriedThrough (sc : Scenario) (book : BookView) (rec : Record) : Type 0 where
+  pub tests : map test_of rec.steps ≡ asked_tests sc book []
+  pub shown : AreShown sc book (start_point sc rec.start) rec.steps
+  pub map : rec.map ≡ (after_steps sc (start_point sc rec.start) rec.steps).map
+  pub total : rec.total ≡ sum_by (λ x. x.price) (clock_rule sc book []).frozen
+
+-- the auction ended at its start: nothing else was done
+pub record IsStopped (rec : Record) : Type 0 where
+  pub steps : rec.steps ≡ []
+  pub map : rec.map ≡ []
+  pub total : rec.total ≡ 0
+
+-- what is left of an auction that ended so
+abbrev pub IsEnded : Scenario → BookView → Record → Ending → Type 0
+IsEnded sc book rec Done = IsCarriedThrough sc book rec
+IsEnded sc book rec StartRefuted = IsStopped rec
+
+-- The record is backed: it is of this scenario, its start is shown, and it ended as that says.
 pub record IsBacked (sc : Scenario) (book : BookView) (rec : Record) : Type 0 where
   pub scenario : rec.scenario ≡ sc
-  pub ending : rec.ending ≡ Done
-  pub start : rec.start ≡ Empty
-  pub none_started : start_set sc ≡ []
-  pub tests : map test_of rec.steps ≡ asked_tests sc book []
-  pub shown : AreShown sc book (start_point sc) rec.steps
-  pub map : rec.map ≡ (after_steps sc (start_point sc) rec.steps).map
-  pub total : rec.total ≡ sum_by (λ x. x.price) (clock_rule sc book []).frozen
+  pub start : IsStartShown sc book rec.start
+  pub ending : rec.ending ≡ ending_of rec.start
+  pub rest : IsEnded sc book rec rec.ending

@@ -13,7 +13,7 @@ use Rattle.auction_cmd.specs.declared.plain_rule.Course.{Course}
 use Rattle.auction_cmd.specs.declared.record.Shown.{Shown}
 use Rattle.auction_cmd.specs.declared.record.Shown.TheVariants.{Empty, Fits, NoChannel, Unfit}
 use Rattle.auction_cmd.specs.declared.record.Step.{Step}
-use Rattle.auction_cmd.specs.Backed.{AreShown, after_steps, delta_of, shows_room, start_point, test_of}
+use Rattle.auction_cmd.specs.Backed.{AreShown, IsStartShown, after_steps, delta_of, shows_room, start_point, test_of}
 use Rattle.auction_cmd.specs.Clock.{AreStandings, stands_on_air}
 
 -- the test of the station at this place, in this round
@@ -48,14 +48,16 @@ paid (Frozen round price) = price
 abbrev pub most_paid : ℕ
 most_paid = 1000000000000
 
--- The plain rule after these tests: where each station stands, the map of those on air, the steps so far, and what the
+-- The plain rule after these tests, from such a start: where each station stands, the map of those on air, the steps so far, and what the
 -- frozen ones are paid together.
-pub record IsAfter (sc : Scenario) (book : BookView) (tests : List ClockTest)
+pub record IsAfter (sc : Scenario) (book : BookView) (start : Shown) (tests : List ClockTest)
     (clock : List Standing) (entries : List (ℕ × ℕ)) (steps : List Step) (total : ℕ) : Type 0 where
+  pub started : IsStartShown sc book start
+  pub fits : shows_room start ≡ true
   pub standings : AreStandings sc (after_tests sc book [] tests (opening_state sc)) clock
   pub asked : map test_of steps ≡ asked_from sc book [] tests (opening_state sc)
-  pub shown : AreShown sc book (start_point sc) steps
-  pub point : after_steps sc (start_point sc) steps ≡ record { clock = after_tests sc book [] tests (opening_state sc); map = entries }
+  pub shown : AreShown sc book (start_point sc start) steps
+  pub point : after_steps sc (start_point sc start) steps ≡ record { clock = after_tests sc book [] tests (opening_state sc); map = entries }
   pub packing : IsPacking book (on_air_set sc (after_tests sc book [] tests (opening_state sc))) entries
   pub sum : total ≡ sum_by (λ x. x.price) (after_tests sc book [] tests (opening_state sc)).frozen
   pub bound : total ≤ most_paid * length (after_tests sc book [] tests (opening_state sc)).frozen
@@ -63,4 +65,4 @@ pub record IsAfter (sc : Scenario) (book : BookView) (tests : List ClockTest)
 
 -- the course is the plain rule after these tests
 abbrev pub IsCourse : Scenario → BookView → List ClockTest → Course → Type 0
-IsCourse sc book tests course = IsAfter sc book tests course.clock course.map course.steps.items course.total
+IsCourse sc book tests course = IsAfter sc book course.start tests course.clock course.map course.steps.items course.total

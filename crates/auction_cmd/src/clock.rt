@@ -1,6 +1,6 @@
 //! Where each station stands while the clock runs.
 
-ghost use Rattle.std.specs.Prelude.{◌≡◌, ◌<◌, ◌≤◌, IfOk, length, slice_index, slice_index_or, slice_set};
+ghost use Rattle.std.specs.Prelude.{◌≡◌, ◌<◌, ◌≤◌, ◌*◌, IfOk, length, slice_index, slice_index_or, slice_set};
 ghost use Rattle.pack_defs.specs.Scenario.{IsWithinLimits, facilities};
 ghost use Rattle.pack_defs.specs.Prices.{last_round, prices};
 ghost use Rattle.pack_defs.specs.ClockRule.{exits, opening_state};
@@ -48,11 +48,18 @@ fn declines(station: &Station, offer: u64) -> bool
     }
 }
 
+/// Whether the station declines the opening offer at this price, in cents per unit of volume.
+pub fn declines_opening(price: u32, station: &Station) -> bool
+    ensures { result ≡ declines_offer (price * station.now.volume) station.now }
+{
+    declines(station, u64::from(price) * u64::from(station.volume))
+}
+
 // Where a station stands once the clock opens at this price, in cents per unit of volume.
 fn opening(price: u32, station: &Station) -> Standing
     ensures { result ≡ opening_standing price station.now }
 {
-    if declines(station, u64::from(price) * u64::from(station.volume)) {
+    if declines_opening(price, station) {
         return Standing::OnAir { round: 0 };
     }
     Standing::Active

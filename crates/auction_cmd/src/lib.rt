@@ -10,6 +10,7 @@ pub mod record;
 pub mod result_text;
 mod says;
 pub mod scenario_json;
+mod start;
 #[cfg(test)]
 mod tests;
 pub mod words;

@@ -1,16 +1,17 @@
 //! The clock rule, carried out on one thread: each test is asked of a plain search.
 
-ghost use Rattle.std.specs.Prelude.{◌≡◌, ◌<◌, ◌≤◌, ◌||◌, ◌==◌, [], IfOk, IsTrue, length, ◌+◌, slice_index, slice_index_or};
+ghost use Rattle.std.specs.Prelude.{◌≡◌, ◌<◌, ◌≤◌, ◌||◌, ◌==◌, ◌+◌, [], IfOk, false, length, true};
 ghost use Rattle.pack_defs.specs.Scenario.{IsWithinLimits, facilities};
 ghost use Rattle.pack_defs.specs.Packing.{IsPacking};
-ghost use Rattle.pack_defs.specs.Prices.{last_round, prices, start_set};
+ghost use Rattle.pack_defs.specs.Prices.{last_round, prices};
 ghost use Rattle.pack_defs.specs.ClockRule.{clock_rule, clock_tests, on_air_set};
-ghost use Rattle.auction_cmd.specs.Backed.{IsBacked};
+ghost use Rattle.auction_cmd.specs.Backed.{IsBacked, IsStartShown, delta_of, rule_ending, shows_room};
 ghost use Rattle.auction_cmd.specs.Clock.{asked_by, stands_on_air};
 ghost use Rattle.auction_cmd.specs.PlainRule.{AnswersTest, IsCourse, map_after, paid, tests_before};
 
 use crate::clock::{Clock, Standing};
 use crate::record::{Ending, Record, Shown, Step};
+use crate::start::start_test;
 use offer_sched::offers::{last_round, offer, schedule};
 use pack_defs::book::Book;
 use pack_defs::channel_map::ChannelMap;
@@ -63,10 +64,11 @@ fn ask(alloc: Global, sc: &Scenario, book: &Book, clock: &Clock, s: u32) -> Resu
     }
 }
 
-// The auction between two tests: where each station stands, the map of those on air, the steps so far, and what the
-// frozen ones are paid together.
+// The auction between two tests: how its start was shown, where each station stands, the map of those on air, the steps
+// so far, and what the frozen ones are paid together.
 #[derive(Drop)]
 struct Course {
+    start: Shown,
     clock: Clock,
     map: ChannelMap,
     steps: Vec<Step>,
@@ -121,6 +123,7 @@ fn step(
     let station = sc.stations.as_slice()[i].id;
     let shown = ask(alloc, sc, book, &course.clock, station)?;
     let Course {
+        start,
         mut clock,
         map,
         mut steps,
@@ -135,6 +138,7 @@ fn step(
         shown,
     })?;
     Ok(Course {
+        start,
         clock,
         map,
         steps,
@@ -165,16 +169,35 @@ fn round_of(
     Ok(course)
 }
 
-// The course after every test.
-fn whole_course(alloc: Global, sc: &Scenario, book: &Book) -> Result<Course, NoMemory>
+// The map once the start was shown so.
+fn opening_map(alloc: Global, start: &Shown) -> Result<ChannelMap, NoMemory>
+    ensures { IfOk result (λ map. map ≡ delta_of start.now) }
+{
+    match start {
+        Shown::Fits(map) => ChannelMap::of(alloc, map.entries()),
+        _ => ChannelMap::of(alloc, &[]),
+    }
+}
+
+// The course after every test, from a start that was shown to fit.
+fn whole_course(
+    alloc: Global,
+    sc: &Scenario,
+    book: &Book,
+    start: Shown,
+) -> Result<Course, NoMemory>
     requires limits { IsWithinLimits sc.now }
-    requires start { start_set sc.now ≡ [] }
+    requires shown { IsStartShown sc.now book.now start }
+    requires fits { shows_room start ≡ true }
     ensures { IfOk result (IsCourse sc.now book.now (clock_tests sc.now)) }
 {
     let schedule = schedule(alloc, sc)?;
+    let clock = Clock::open(alloc, sc)?;
+    let map = opening_map(alloc, &start)?;
     let mut course = Course {
-        clock: Clock::open(alloc, sc)?,
-        map: ChannelMap::of(alloc, &[])?,
+        start,
+        clock,
+        map,
         steps: Vec::new(alloc),
         total: 0,
     };
@@ -198,21 +221,63 @@ fn own_scenario(alloc: Global, sc: &Scenario) -> Result<Scenario, NoMemory>
     })
 }
 
-/// The record of the auction by the clock rule, each test asked of a plain search over the stations on air and the one
-/// that is tested. No station may be on air from the start. The only error is want of memory.
-pub fn plain_run(alloc: Global, sc: &Scenario, book: &Book) -> Result<Record, NoMemory>
-    requires limits { IsWithinLimits sc.now }
-    requires start { start_set sc.now ≡ [] }
+// The record of an auction that ended at its start, which was shown not to fit.
+fn stopped(alloc: Global, sc: &Scenario, book: &Book, start: Shown) -> Result<Record, NoMemory>
+    requires shown { IsStartShown sc.now book.now start }
+    requires refuted { shows_room start ≡ false }
     ensures backed { IfOk result (IsBacked sc.now book.now) }
+    ensures ending { IfOk result (λ rec. rec.ending ≡ Ending.StartRefuted) }
+{
+    Ok(Record {
+        scenario: own_scenario(alloc, sc)?,
+        ending: Ending::StartRefuted,
+        start,
+        steps: Items::from_vec(Vec::new(alloc)),
+        map: ChannelMap::of(alloc, &[])?,
+        total: 0,
+    })
+}
+
+// The record of an auction that is carried through, from a start that was shown to fit.
+fn carried_through(
+    alloc: Global,
+    sc: &Scenario,
+    book: &Book,
+    start: Shown,
+) -> Result<Record, NoMemory>
+    requires limits { IsWithinLimits sc.now }
+    requires shown { IsStartShown sc.now book.now start }
+    requires fits { shows_room start ≡ true }
+    ensures backed { IfOk result (IsBacked sc.now book.now) }
+    ensures ending { IfOk result (λ rec. rec.ending ≡ Ending.Done) }
     ensures clean { IfOk result (λ rec. IsPacking book.now (on_air_set sc.now (clock_rule sc.now book.now [])) rec.map) }
 {
-    let course = whole_course(alloc, sc, book)?;
+    let course = whole_course(alloc, sc, book, start)?;
     Ok(Record {
         scenario: own_scenario(alloc, sc)?,
         ending: Ending::Done,
-        start: Shown::Empty,
+        start: course.start,
         steps: Items::from_vec(course.steps),
         map: course.map,
         total: course.total,
     })
+}
+
+/// The record of the auction by the clock rule, each test asked of a plain search over the stations on air and the one
+/// that is tested. First the start set is tested: where it doesn't fit, the auction ends there. The only error is want
+/// of memory.
+pub fn plain_run(alloc: Global, sc: &Scenario, book: &Book) -> Result<Record, NoMemory>
+    requires { IsWithinLimits sc.now }
+    ensures backed { IfOk result (IsBacked sc.now book.now) }
+
+    // It is carried through exactly where the start set fits; then its map is clean and of those on air at the end.
+    ensures ending { IfOk result (λ rec. rec.ending ≡ rule_ending sc.now book.now) }
+    ensures clean { IfOk result (λ rec. rec.ending ≡ Ending.Done →
+        IsPacking book.now (on_air_set sc.now (clock_rule sc.now book.now [])) rec.map) }
+{
+    let start = start_test(alloc, sc, book)?;
+    if !start.shows_room() {
+        return stopped(alloc, sc, book, start);
+    }
+    carried_through(alloc, sc, book, start)
 }

@@ -10,7 +10,7 @@ use pack_defs::scenario::Scenario;
 pub enum Shown {
     /// The start set is empty.
     Empty,
-    /// By the channels that make the last map one of the test's set.
+    /// By the channels that make the last map one of the test's set; for the start test, by a map of the start set.
     Fits(ChannelMap),
     /// By a station without a channel.
     NoChannel(u32),
@@ -45,6 +45,8 @@ pub struct Step {
 pub enum Ending {
     /// Every test was settled.
     Done,
+    /// The start set doesn't fit, so there is no auction.
+    StartRefuted,
 }
 
 /// What is left of a finished auction.

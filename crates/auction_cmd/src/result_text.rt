@@ -11,7 +11,7 @@ ghost use Rattle.auction_cmd.specs.Clock.{AreStandings, stands_frozen, stands_on
 ghost use Rattle.auction_cmd.specs.ResultText.{IsBetweenRows, count_line, header_line, result_text, row_fields, standing_line, standing_lines, summary_text, text_held};
 
 use crate::clock::{Clock, Standing};
-use crate::record::{Record, Shown};
+use crate::record::{Ending, Record};
 use csv::{Writer, WriterBuilder};
 use itoa::Buffer;
 use offer_sched::offers::schedule;
@@ -33,6 +33,7 @@ fn place_of(stations: &[Station], id: u32) -> Option<usize>
 // Where each station stands at the end of a finished auction. Only the clauses speak of the book.
 fn final_clock(alloc: Global, rec: &Record, book: &Book) -> Result<Clock, NoMemory>
     requires backed { IsBacked rec.now.scenario book.now rec.now }
+    requires done { rec.now.ending ≡ Ending.Done }
     requires limits { IsWithinLimits rec.now.scenario }
     ensures { IfOk result
         (λ clock. AreStandings rec.now.scenario (clock_rule rec.now.scenario book.now []) clock) }
@@ -136,6 +137,7 @@ fn standings_csv(
 /// is the one by which the record is backed. The only error is want of memory.
 pub fn result_csv(alloc: Global, rec: &Record, book: &Book) -> Result<Vec<u8>, NoMemory>
     requires backed { IsBacked rec.now.scenario book.now rec.now }
+    requires done { rec.now.ending ≡ Ending.Done }
     requires limits { IsWithinLimits rec.now.scenario }
     ensures { IfOk result
         (λ v. v.items ≡ result_text rec.now.scenario (clock_rule rec.now.scenario book.now []) []) }
@@ -182,6 +184,7 @@ fn frozen_count(standings: &[Standing]) -> usize
 /// book is the one by which the record is backed. The only error is want of memory.
 pub fn summary(alloc: Global, rec: &Record, book: &Book) -> Result<Vec<u8>, NoMemory>
     requires backed { IsBacked rec.now.scenario book.now rec.now }
+    requires done { rec.now.ending ≡ Ending.Done }
     requires limits { IsWithinLimits rec.now.scenario }
     ensures text { IfOk result
         (λ v. v.items ≡ summary_text rec.now.scenario (clock_rule rec.now.scenario book.now []) []) }
@@ -201,7 +204,7 @@ pub fn summary(alloc: Global, rec: &Record, book: &Book) -> Result<Vec<u8>, NoMe
 #[cfg(test)]
 mod tests {
     use super::*;
-    use crate::record::Ending;
+    use crate::record::Shown;
     use pack_defs::channel_map::ChannelMap;
     use pack_defs::items::Items;
     use pack_defs::scenario::Scenario;
@@ -211,6 +214,7 @@ mod tests {
     // The record of an auction of no station.
     fn empty_record(alloc: Global, book: &Book) -> Result<Record, NoMemory>
         ensures backed { IfOk result (λ rec. IsBacked rec.scenario book.now rec) }
+        ensures done { IfOk result (λ rec. rec.ending ≡ Ending.Done) }
         ensures limits { IfOk result (λ rec. IsWithinLimits rec.scenario) }
     {
         let worker = Worker {

@@ -1,23 +1,12 @@
-use Rattle.std.proofs.Common.{◌≡◌, ◌∙◌, refl, subst, ap, sym}
-use Rattle.pack_defs.specs.ClockRule.{asked_tests, clock_rule}
-use Rattle.auction_cmd.specs.Backed.{Point}
+-- A backed record ended as the rule does.
+use Rattle.std.proofs.lemmas.Result.{IfOk-weaker}
+use Rattle.auction_cmd.proofs.StartLemmas.{backed-ending}
 use Rattle.auction_cmd.proofs.plain_rule.plain_run.Goals as goal
 
-pub returns-clause-backed : goal.returns-clause-backed
-unfolding asked_tests clock_rule
-returns-clause-backed c =
-    let after = c.in_ok-course.ensures in
-    record {
-      scenario = c.in_ok-own_scenario.ensures;
-      ending = refl;
-      start = refl;
-      none_started = c.requires.start;
-      tests = rw c.from_vec.ensures after.asked;
-      shown = rw c.from_vec.ensures after.shown;
-      map = rw c.from_vec.ensures (sym (ap (λ (p : Point). p.map) after.point));
-      total = after.sum;
-    }
+pub returns-then-not-shows_room-clause-ending : goal.returns-then-not-shows_room-clause-ending
+returns-then-not-shows_room-clause-ending c =
+    IfOk-weaker c.stopped.result _ _ (λ rec backed. backed-ending c.args.sc.now c.args.book.now rec backed) c.stopped.ensures.backed
 
-pub returns-clause-clean : goal.returns-clause-clean
-unfolding clock_rule
-returns-clause-clean c = c.in_ok-course.ensures.packing
+pub returns-clause-ending : goal.returns-clause-ending
+returns-clause-ending c =
+    IfOk-weaker c.carried_through.result _ _ (λ rec backed. backed-ending c.args.sc.now c.args.book.now rec backed) c.carried_through.ensures.backed

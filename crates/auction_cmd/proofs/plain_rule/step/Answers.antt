@@ -26,7 +26,7 @@ pub returns-then-not-is_active : goal.returns-then-not-is_active
 returns-then-not-is_active c =
     let before = c.requires.before in
     let idle = is_active_at c.args.i (get_or (facilities c.args.sc.now) c.args.i 0) Active before.standings c.requires.place refl ∙ sym c.is_active.ensures ∙ c.if-not-is_active.true in
-    passed_over c.args.sc.now c.args.book.now c.args.round c.args.i c.args.course.clock c.args.course.map c.args.course.steps.items c.args.course.total c.requires.place idle before
+    passed_over c.args.sc.now c.args.book.now c.args.course.start c.args.round c.args.i c.args.course.clock c.args.course.map c.args.course.steps.items c.args.course.total c.requires.place idle before
 
 pub overflow_add-result : goal.overflow_add-result
 overflow_add-result c =
@@ -53,7 +53,7 @@ returns c =
     let small = offer_at_most sc t.station (c.args.round - 1) c.requires.limits in
     let own = facility_at sc i none c.requires.place in
     let answers = rw (c.as_slice.ensures, ← own) at c.in_ok-shown.ensures in
-    let after = one_more sc c.args.book.now (tests_before sc c.args.round i) t i c.args.course.clock c.args.course.map c.args.course.steps.items c.args.course.total c.in_ok-shown.shown c.requires.limits.ascend c.requires.place refl small active answers before in
+    let after = one_more sc c.args.book.now c.args.course.start (tests_before sc c.args.round i) t i c.args.course.clock c.args.course.map c.args.course.steps.items c.args.course.total c.in_ok-shown.shown c.requires.limits.ascend c.requires.place refl small active answers before in
     let next = comes_next sc c.args.book.now c.args.round i c.requires.place active in
     let standing = answered_standing sc t (shows_room c.in_ok-shown.shown) in
     let clock_is : c.settle.new.self ≡ set c.args.course.clock i standing = rw c.shows_room.ensures at c.settle.ensures in

@@ -10,7 +10,7 @@ ends i n m a b e = omega arith
 
 pub loop-round-init : goal.loop-round-init
 loop-round-init c =
-    rw (c.in_ok-of.ensures, c.new.ensures.items) (opened c.args.sc.now c.args.book.now c.in_ok-open.field-0 c.requires.start c.in_ok-open.ensures)
+    rw (c.in_ok-map.ensures, c.new.ensures.items) (opened c.args.sc.now c.args.book.now c.args.start c.in_ok-clock.clock c.requires.limits.ascend c.requires.shown c.requires.fits c.in_ok-clock.ensures)
 
 pub returns : goal.returns
 returns c =

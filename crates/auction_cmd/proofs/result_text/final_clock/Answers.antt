@@ -1,11 +1,11 @@
 -- Each step is of an active station of the scenario, in one of its rounds, and moves the clock as the rule does.
-use Rattle.auction_cmd.proofs.BackedLemmas.{IsNext, backed-next}
+use Rattle.auction_cmd.proofs.BackedLemmas.{IsNext, backed-next, carried-through}
 use Rattle.auction_cmd.proofs.ReplayLemmas.{next-active, next-standings, next-there, last-standings}
 use Rattle.auction_cmd.proofs.result_text.final_clock.Goals as goal
 use Rattle.auction_cmd.proofs.result_text.final_clock.Goals.{After-place_of}
 
-next : (c : After-place_of) → IsNext c.args.rec.now.scenario c.as_slice-step-items.result.now c.loop-step.step-index c.step-item.result
-next c = backed-next c.args.rec.now.scenario c.args.book.now c.args.rec.now _ c.loop-step.step-index c.step-item.result c.requires.backed c.as_slice-step-items.ensures c.loop-step-test.true c.step-item.is
+next : (c : After-place_of) → IsNext c.args.rec.now.scenario c.args.rec.now.start c.as_slice-step-items.result.now c.loop-step.step-index c.step-item.result
+next c = backed-next c.args.rec.now.scenario c.args.book.now c.args.rec.now _ c.loop-step.step-index c.step-item.result (carried-through _ _ _ c.requires.backed c.requires.done) c.as_slice-step-items.ensures c.loop-step-test.true c.step-item.is
 
 pub settle-requires-clause-active : goal.settle-requires-clause-active
 settle-requires-clause-active c =
@@ -31,4 +31,4 @@ loop-step-preserved c =
 
 pub returns : goal.returns
 returns c =
-    last-standings c.args.book.now c.args.rec.now c.as_slice-step-items.result.now c.loop-step.step-index c.requires.backed c.as_slice-step-items.ensures c.loop-step-test.false c.loop-step.invariant
+    last-standings c.args.book.now c.args.rec.now c.as_slice-step-items.result.now c.loop-step.step-index (carried-through _ _ _ c.requires.backed c.requires.done) c.as_slice-step-items.ensures c.loop-step-test.false c.loop-step.invariant

@@ -4,4 +4,4 @@ use Rattle.auction_cmd.specs.Clock.{AreStandings}
 use Rattle.auction_cmd.proofs.result_text.final_clock.Given as goal
 
 abbrev pub invariant-loop-step : goal.invariant-loop-step
-invariant-loop-step l = AreStandings l.sc (after_steps l.sc (start_point l.sc) (take l.step-index l.step-items)).clock l.clock
+invariant-loop-step l = AreStandings l.sc (after_steps l.sc (start_point l.sc l.rec.start) (take l.step-index l.step-items)).clock l.clock
