@@ -1,0 +1,4 @@
+pub mod Readings
+pub mod StationsPlaced
+pub mod StationsAscend
+pub mod Limits

@@ -1,0 +1,5 @@
+pub mod Name
+pub mod Steps
+pub mod Members
+pub mod ScenarioOf
+pub mod Joined

@@ -1,0 +1,60 @@
+ghost use Rattle.std.specs.Prelude.{◌≡◌, map, nat_le, sum};
+ghost use Rattle.serde_json.specs.View.{view};
+ghost use Rattle.scenario_json.specs.ScenarioOf.{decrement_in, decrements_in};
+ghost use Rattle.scenario_json.specs.Steps.{Reads, each_from};
+
+use crate::error::ScenarioErr;
+use crate::members::{list, whole, within};
+use crate::name::Name;
+use pack_defs::items::Items;
+use serde_json::Value;
+use std::alloc::Global;
+
+/// The decrements of the object, at most the opening price together.
+#[tactic(auto, unfolding(crate::specs::ScenarioOf::decrements_in))]
+pub(crate) fn decrements_in(
+    alloc: Global,
+    object: &Value,
+    opening: u32,
+) -> Result<Items<u32>, ScenarioErr>
+    ensures { Reads (decrements_in opening (view object.now)) result }
+{
+    let items = list(object, Name::Decrements, 0, 1_000)?;
+    let decrements = decrements_from(alloc, items)?;
+    if !falls_within(decrements.as_slice(), opening) {
+        return Err(ScenarioErr::SumOverOpening);
+    }
+    Ok(decrements)
+}
+
+fn decrements_from(alloc: Global, items: &[Value]) -> Result<Items<u32>, ScenarioErr>
+    ensures { Reads (each_from decrement_in 1 (map view items.now)) result }
+{
+    let mut decrements = Vec::with_capacity(alloc, items.len())?;
+    for (i, item) in items.iter().enumerate() {
+        decrements.push(decrement_in(item, i as u64 + 1)?)?;
+    }
+    Ok(Items::from_vec(decrements))
+}
+
+// The decrement that the item at this place is.
+fn decrement_in(item: &Value, at: u64) -> Result<u32, ScenarioErr>
+    ensures { result ≡ decrement_in at (view item.now) }
+{
+    let number = whole(item, Name::Decrements, at)?;
+    Ok(within(number, Name::Decrements, at, 1, 1_000_000)? as u32)
+}
+
+// Whether the decrements are at most the opening price together.
+fn falls_within(decrements: &[u32], opening: u32) -> bool
+    ensures { result ≡ nat_le (sum decrements.now) opening }
+{
+    let mut left = opening;
+    for decrement in decrements {
+        if left < *decrement {
+            return false;
+        }
+        left -= *decrement;
+    }
+    true
+}
