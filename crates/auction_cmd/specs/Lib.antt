@@ -1,10 +1,13 @@
-pub mod Auction
 pub mod Backed
 pub mod Clock
+pub mod Counts
+pub mod Ends
 pub mod Inputs
-pub mod Joined
+pub mod Outside
 pub mod PlainRule
+pub mod Plan
+pub mod Promises
+pub mod Refusals
 pub mod ResultText
 pub mod Says
-pub mod ScenarioOf
 pub mod Words

@@ -1,9 +1,6 @@
 -- What a program says at its end, and what of it stands in the sink.
 use Rattle.std.specs.Prelude.{◌≡◌, ◌⊎◌, ℕ, List, ◌++◌, take, codes, Option, Some, None, ⊤}
 use Rattle.outside_io.specs.Faults.{HasRisen}
-use Rattle.auction_cmd.specs.declared.inputs.Input.{Input}
-use Rattle.auction_cmd.specs.declared.inputs.Input.TheVariants.{Domains, Rows, Scenario}
-use Rattle.auction_cmd.specs.Words.{RunNames}
 
 -- The sink, where it tells the bytes that it holds, grew by the text; or, where its count of faults rose, by some of it,
 -- from the first byte on.
@@ -14,28 +11,22 @@ Says (Some old) None before now text = ⊥
 Says (Some old) (Some new) before now text =
     (new ≡ old ++ text) ⊎ (HasRisen before now × (n : ℕ) × (new ≡ old ++ take n text))
 
--- the name of an input file
-abbrev pub name_of : RunNames → Input → List ℕ
-name_of names Domains = names.domains
-name_of names Rows = names.rows
-name_of names Scenario = names.scenario
-
 -- the line of a file that can't be read
 abbrev pub unread_line : List ℕ → List ℕ
 unread_line name = codes "cannot read " ++ name ++ codes "\n"
-
--- the line of a file that is refused
-abbrev pub refused_line : List ℕ → List ℕ
-refused_line name = name ++ codes ": refused\n"
 
 -- the line of a file that can't be written
 abbrev pub unwritten_line : List ℕ → List ℕ
 unwritten_line name = codes "cannot write " ++ name ++ codes "\n"
 
+-- the line of an output name that is given twice
+abbrev pub twice_line : List ℕ → List ℕ
+twice_line name = name ++ codes ": given twice\n"
+
+-- the line of a start set that doesn't fit
+abbrev pub unfit_line : List ℕ
+unfit_line = codes "the start set does not fit\n"
+
 -- the line for want of memory
 abbrev pub memory_line : List ℕ
 memory_line = codes "out of memory\n"
-
--- the line where the words are no command
-abbrev pub usage_line : List ℕ
-usage_line = codes "usage: repack run DOMAINS ROWS SCENARIO RESULT CHANNELS TRANSCRIPT\n"

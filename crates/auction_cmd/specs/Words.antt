@@ -1,42 +1,141 @@
--- The command that the words of the command line are.
-use Rattle.std.specs.Prelude.{ℕ, ◌&&◌, ◌==◌, if◌then◌else◌, List, [], length, codes, Option, Some, None, slice_index_or}
+-- What the words of the command line ask for, by the definition that `clap` gives of a simple command.
+use Rattle.std.specs.Prelude.{ℕ, Bool, true, List, [], ◌∷◌, ◌++◌, Option, Some, None, codes, count_by, find, if◌then◌else◌, nat_lt, option_and_then, option_map, ⊤}
 use Rattle.std.specs.Str.{bytes_eq}
-use Rattle.auction_cmd.specs.declared.words.Names.{Names}
+use Rattle.clap.specs.Words.{App, Row, Rule, Text, fault_of, first_of, new_app, new_rule, subcommand_of, with_rule, with_subcommand}
+use Rattle.clap.specs.Simple.{on_top}
+use Rattle.clap.specs.Walk.{is_empty}
+use Rattle.auction_cmd.specs.declared.words.InputArgs.{InputArgs}
+use Rattle.auction_cmd.specs.declared.words.RunArgs.{RunArgs}
+use Rattle.auction_cmd.specs.declared.words.Order.{Order}
+use Rattle.auction_cmd.specs.declared.words.Order.TheVariants.{Run, Check}
+use Rattle.auction_cmd.specs.declared.words.WordsFault.{WordsFault}
+use Rattle.auction_cmd.specs.declared.words.WordsFault.TheVariants.{NoMemory, Refused}
 
--- the bytes of the file names of `run`
-pub record RunNames : Type 0 where
+-- the names of the input files
+pub record InputNames : Type 0 where
   pub domains : List ℕ
   pub rows : List ℕ
   pub scenario : List ℕ
+
+-- the names of the files of `run`
+pub record RunNames : Type 0 where
+  pub inputs : InputNames
   pub result : List ℕ
   pub channels : List ℕ
   pub transcript : List ℕ
 
--- the word at this place, from 0
-abbrev pub word_at : List (List ℕ) → ℕ → List ℕ
-word_at words i = slice_index_or words i []
+-- a command with its arguments
+pub data Command : Type 0 where
+  run : RunNames → Command
+  check : InputNames → Command
 
--- the file names of `run`, if there are eight words, of which the second is `run`
-abbrev pub command_of : List (List ℕ) → Option RunNames
+-- ---- what `clap` is asked to read
+
+-- an argument that has to be given, at its place
+abbrev pub required_rule : Text → Rule
+required_rule id = record (new_rule id) { required = true }
+
+-- the command with these arguments after its own
+abbrev pub with_required : App → List Text → App
+with_required app [] = app
+with_required app (id ∷ rest) = with_required (with_rule app (required_rule id)) rest
+
+-- the arguments that name the input files
+abbrev pub input_ids : List Text
+input_ids = codes "DOMAINS" ∷ codes "ROWS" ∷ codes "SCENARIO" ∷ []
+
+abbrev pub check_app : App
+check_app = with_required (new_app (codes "check")) input_ids
+
+-- the arguments that name the output files
+abbrev pub output_ids : List Text
+output_ids = codes "RESULT" ∷ codes "CHANNELS" ∷ codes "TRANSCRIPT" ∷ []
+
+abbrev pub run_app : App
+run_app = with_required (new_app (codes "run")) (input_ids ++ output_ids)
+
+-- the program without its commands: it has a version, and a command is required
+abbrev pub bare_app : App
+bare_app = on_top (λ s. record s { has_version = true; subcommand_required = true }) (new_app (codes "repack"))
+
+abbrev pub program_app : App
+program_app = with_subcommand (with_subcommand bare_app run_app.top) check_app.top
+
+-- ---- what was read
+
+-- what is made of the first value of this argument, where it has one
+abbrev pub with_value : {X : Type 0} → List Row → Text → (Text → Option X) → Option X
+with_value rows id make = option_and_then make (first_of id rows)
+
+-- the names of the input files, where each is there
+abbrev pub input_names : List Row → Option InputNames
+input_names rows =
+    with_value rows (codes "DOMAINS") (λ domains.
+    with_value rows (codes "ROWS") (λ pairs.
+    with_value rows (codes "SCENARIO") (λ scenario.
+    Some (record { domains = domains; rows = pairs; scenario = scenario }))))
+
+-- the names of the files of `run`, where each is there
+abbrev pub run_names : List Row → Option RunNames
+run_names rows =
+    option_and_then (λ inputs.
+    with_value rows (codes "RESULT") (λ result.
+    with_value rows (codes "CHANNELS") (λ channels.
+    with_value rows (codes "TRANSCRIPT") (λ transcript.
+    Some (record { inputs = inputs; result = result; channels = channels; transcript = transcript })))))
+    (input_names rows)
+
+-- the command of this name, where each of its arguments is there
+abbrev pub named_command : Text × List Row → Option Command
+named_command found =
+    if bytes_eq found.0 (codes "run") then option_map run (run_names found.1)
+    else (if bytes_eq found.0 (codes "check") then option_map check (input_names found.1) else None)
+
+-- The command that the words are, the first of which is the program's name; none where `clap` has a fault for them.
+unfoldable pub command_of : List (List ℕ) → Option Command
 command_of words =
-    if (length words == 8) && bytes_eq (word_at words 1) (codes "run")
-    then Some (record {
-      domains = word_at words 2;
-      rows = word_at words 3;
-      scenario = word_at words 4;
-      result = word_at words 5;
-      channels = word_at words 6;
-      transcript = word_at words 7;
-    })
-    else None
+    if is_empty (fault_of program_app words) then option_and_then named_command (subcommand_of program_app words) else None
 
--- the bytes of these names
-abbrev pub names_seen : Names → RunNames
-names_seen n = record {
-  domains = n.domains.now;
-  rows = n.rows.now;
-  scenario = n.scenario.now;
-  result = n.result.now;
-  channels = n.channels.now;
-  transcript = n.transcript.now;
+-- ---- names given twice
+
+-- the names of `run`, in the order of its arguments
+abbrev pub names_given : RunNames → List (List ℕ)
+names_given names = names.inputs.domains ∷ names.inputs.rows ∷ names.inputs.scenario
+    ∷ names.result ∷ names.channels ∷ names.transcript ∷ []
+
+abbrev pub output_names : RunNames → List (List ℕ)
+output_names names = names.result ∷ names.channels ∷ names.transcript ∷ []
+
+-- the name is given more than once
+abbrev pub is_repeated_in : List ℕ → RunNames → Bool
+is_repeated_in name names = nat_lt 1 (count_by (bytes_eq name) (names_given names))
+
+-- the first output name that is given more than once
+unfoldable pub repeated_output : RunNames → Option (List ℕ)
+repeated_output names = find (λ name. is_repeated_in name names) (output_names names)
+
+-- ---- the code's values, as the definitions see them
+
+abbrev pub inputs_seen : InputArgs → InputNames
+inputs_seen args = record {
+  domains = args.domains.now;
+  rows = args.rows.now;
+  scenario = args.scenario.now;
 }
+
+abbrev pub names_seen : RunArgs → RunNames
+names_seen args = record {
+  inputs = inputs_seen args.inputs;
+  result = args.result.now;
+  channels = args.channels.now;
+  transcript = args.transcript.now;
+}
+
+abbrev pub order_seen : Order → Command
+order_seen (Run args) = run (names_seen args)
+order_seen (Check args) = check (inputs_seen args)
+
+-- the words have a fault
+abbrev pub IsRefused : WordsFault → Type 0
+IsRefused (Refused text) = ⊤
+IsRefused NoMemory = ⊥

@@ -2,14 +2,17 @@
 #![tactic(auto)]
 
 pub mod auction;
+mod check;
 pub mod clock;
+mod explain;
+pub mod finish;
 pub mod inputs;
-pub mod join;
 pub mod plain_rule;
 pub mod record;
+pub mod refusal;
 pub mod result_text;
+mod run;
 mod says;
-pub mod scenario_json;
 mod start;
 #[cfg(test)]
 mod tests;

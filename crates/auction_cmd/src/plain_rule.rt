@@ -180,12 +180,7 @@ fn opening_map(alloc: Global, start: &Shown) -> Result<ChannelMap, NoMemory>
 }
 
 // The course after every test, from a start that was shown to fit.
-fn whole_course(
-    alloc: Global,
-    sc: &Scenario,
-    book: &Book,
-    start: Shown,
-) -> Result<Course, NoMemory>
+fn whole_course(alloc: Global, sc: &Scenario, book: &Book, start: Shown) -> Result<Course, NoMemory>
     requires limits { IsWithinLimits sc.now }
     requires shown { IsStartShown sc.now book.now start }
     requires fits { shows_room start ≡ true }

@@ -146,8 +146,8 @@ pub fn result_csv(alloc: Global, rec: &Record, book: &Book) -> Result<Vec<u8>, N
     standings_csv(alloc, rec.scenario.stations.as_slice(), clock.standings())
 }
 
-// A name and a number on a line of their own.
-fn push_count(text: &mut Vec<u8>, name: &str, n: u64) -> Result<(), NoMemory>
+/// Adds a name and a number, on a line of their own.
+pub(crate) fn push_count(text: &mut Vec<u8>, name: &str, n: u64) -> Result<(), NoMemory>
     ensures text { OnOk result (text.new.items ≡ text.old.items ++ count_line name.now n) }
     ensures short { OnOk result
         (length text.new.items ≤ length text.old.items + length name.now + 22) }

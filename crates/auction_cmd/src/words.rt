@@ -1,25 +1,33 @@
-//! The words of the command line.
+//! The words of the command line, as `clap` reads them.
 
-ghost use Rattle.std.specs.Prelude.{◌≡◌, map};
-ghost use Rattle.std.specs.Option.{option_map};
-ghost use Rattle.std.specs.String.{string_bytes};
-ghost use Rattle.auction_cmd.specs.Says.{name_of};
-ghost use Rattle.auction_cmd.specs.Words.{command_of, names_seen};
+ghost use Rattle.std.specs.Prelude.{◌≡◌, ◌≢◌, IfErr, IfOk, None, Some, count_by, false, map, option_and_then, option_map, string_bytes};
+ghost use Rattle.std.specs.Str.{bytes_eq};
+ghost use Rattle.clap.specs.Words.{app_of, first_of, found_of, kind_of, new_app, rows_of, rule_of, subcommand_rows_of};
+ghost use Rattle.clap.specs.declared.builder.command.Command.TheViews.{out-Command};
+ghost use Rattle.auction_cmd.specs.Refusals.{name_of};
+ghost use Rattle.auction_cmd.specs.Words.{IsRefused, bare_app, check_app, command_of, input_ids, input_names, inputs_seen, is_repeated_in, named_command, names_seen, order_seen, program_app, repeated_output, required_rule, run_app, run_names, with_required};
 
-use crate::inputs::Input;
+use crate::refusal::Input;
+use clap::error::ErrorKind;
+use clap::{Arg, ArgMatches, Command, Error};
+use std::alloc::{AllocError, Global};
 
-/// What the program says where its words are no command.
-pub const USAGE: &str = "usage: repack run DOMAINS ROWS SCENARIO RESULT CHANNELS TRANSCRIPT\n";
-
-/// The file names of `run`, in the order of the command line.
-#[derive(Clone, Copy)]
-pub struct Names<'a> {
+/// The names of the input files, as they are given.
+#[derive(Clone, Copy, Debug, PartialEq, Eq)]
+pub struct InputArgs<'a> {
     /// The domains file.
     pub domains: &'a str,
     /// The rows file.
     pub rows: &'a str,
     /// The scenario file.
     pub scenario: &'a str,
+}
+
+/// The names of the files of `run`, as they are given.
+#[derive(Clone, Copy, Debug, PartialEq, Eq)]
+pub struct RunArgs<'a> {
+    /// The input files.
+    pub inputs: InputArgs<'a>,
     /// The file for the result.
     pub result: &'a str,
     /// The file for the channel map. It is not written yet.
@@ -28,10 +36,27 @@ pub struct Names<'a> {
     pub transcript: &'a str,
 }
 
-impl<'a> Names<'a> {
+/// A command with its arguments.
+#[derive(Clone, Copy, Debug, PartialEq, Eq)]
+pub enum Order<'a> {
+    /// Run the auction.
+    Run(RunArgs<'a>),
+    /// Check the input files.
+    Check(InputArgs<'a>),
+}
+
+/// Why words are not read as a command. `Refused`: they are none. It has the text of `clap` for the user, which is the
+/// help or the version where they ask for one, and ends in a line end. `NoMemory`: memory ran out.
+#[derive(Debug, Drop)]
+pub enum WordsFault {
+    Refused(String),
+    NoMemory,
+}
+
+impl<'a> InputArgs<'a> {
     /// The name of an input file.
     pub fn of(&self, input: Input) -> &'a str
-        ensures { result.now ≡ name_of (names_seen self.now) input }
+        ensures { result.now ≡ name_of (inputs_seen self.now) input }
     {
         match input {
             Input::Domains => self.domains,
@@ -41,19 +66,221 @@ impl<'a> Names<'a> {
     }
 }
 
-/// The file names of `run`, or none where the words are no such command. The first word is the program's name.
-pub fn names_of(words: &[String]) -> Option<Names<'_>>
-    ensures { option_map names_seen result ≡ command_of (map string_bytes words.now) }
-{
-    if words.len() != 8 || words[1].as_str() != "run" {
-        return None;
+impl<'a> RunArgs<'a> {
+    /// The first output name, in the order of the arguments, that equals another name given. Names are compared byte by
+    /// byte, so `a` and `./a` differ. Two input names may be equal.
+    #[tactic(auto, unfolding(crate::specs::Words::repeated_output))]
+    pub fn given_twice(&self) -> Option<&'a str>
+        ensures { option_map (λ name. name.now) result ≡ repeated_output (names_seen self.now) }
+    {
+        if self.is_repeated(self.result) {
+            Some(self.result)
+        } else if self.is_repeated(self.channels) {
+            Some(self.channels)
+        } else if self.is_repeated(self.transcript) {
+            Some(self.transcript)
+        } else {
+            None
+        }
     }
-    Some(Names {
-        domains: words[2].as_str(),
-        rows: words[3].as_str(),
-        scenario: words[4].as_str(),
-        result: words[5].as_str(),
-        channels: words[6].as_str(),
-        transcript: words[7].as_str(),
+
+    // Whether this name is given more than once.
+    fn is_repeated(&self, name: &str) -> bool
+        ensures { result ≡ is_repeated_in name.now (names_seen self.now) }
+    {
+        let inputs = self.inputs;
+        let given = [
+            inputs.domains,
+            inputs.rows,
+            inputs.scenario,
+            self.result,
+            self.channels,
+            self.transcript,
+        ];
+        times_in(&given, name) > 1
+    }
+}
+
+// How often the name stands among these.
+fn times_in(names: &[&str], name: &str) -> usize
+    ensures { result ≡ count_by (bytes_eq name.now) (map (λ n. n.now) names.now) }
+{
+    names.iter().filter(|other| name == **other).count()
+}
+
+// An argument that has to be given, with its line of help.
+fn required<'a>(alloc: Global, name: &'a str, help: &'a str) -> Arg<'a>
+    ensures rule { rule_of result ≡ required_rule name.entry.now }
+    ensures local { result.global ≡ false }
+{
+    Arg::new(alloc, name).required(true).help(help)
+}
+
+// A command of this name that takes the names of the input files.
+fn input_command<'a>(
+    alloc: Global,
+    name: &'a str,
+    about: &'a str,
+) -> Result<Command<'a>, AllocError>
+    ensures app { IfOk result (λ c. app_of c ≡ with_required (new_app name.entry.now) input_ids) }
+    ensures local { IfOk result (λ c. (out-Command c).has_globals ≡ false) }
+{
+    Command::new(alloc, name)
+        .about(about)
+        .arg(required(
+            alloc,
+            "DOMAINS",
+            "The channels of each station, laid out as the FCC's Domain.csv",
+        ))?
+        .arg(required(
+            alloc,
+            "ROWS",
+            "What interferes, laid out as the FCC's Interference_Paired.csv",
+        ))?
+        .arg(required(
+            alloc,
+            "SCENARIO",
+            "The auction, as JSON: its top channel, prices and stations",
+        ))
+}
+
+fn run_command<'a>(alloc: Global) -> Result<Command<'a>, AllocError>
+    ensures app { IfOk result (λ c. app_of c ≡ run_app) }
+    ensures local { IfOk result (λ c. (out-Command c).has_globals ≡ false) }
+{
+    let about = "Runs the auction, stores its result and prints the summary";
+    input_command(alloc, "run", about)?
+        .arg(required(
+            alloc,
+            "RESULT",
+            "Where to store what became of each station and what it is paid",
+        ))?
+        .arg(required(
+            alloc,
+            "CHANNELS",
+            "Where to store the channel map (not written yet)",
+        ))?
+        .arg(required(
+            alloc,
+            "TRANSCRIPT",
+            "Where to store the transcript (not written yet)",
+        ))
+}
+
+fn check_command<'a>(alloc: Global) -> Result<Command<'a>, AllocError>
+    ensures app { IfOk result (λ c. app_of c ≡ check_app) }
+    ensures local { IfOk result (λ c. (out-Command c).has_globals ≡ false) }
+{
+    let about = "Checks the input files and prints their counts; stores nothing";
+    input_command(alloc, "check", about)
+}
+
+// The program without its commands. Its name in the texts is its own, however it was called.
+fn bare_program<'a>(alloc: Global) -> Result<Command<'a>, AllocError>
+    ensures app { IfOk result (λ c. app_of c ≡ bare_app) }
+    ensures local { IfOk result (λ c. (out-Command c).has_globals ≡ false) }
+{
+    let command = Command::new(alloc, "repack")
+        .version("0.1.0")
+        .about("Runs the reverse clock auction that buys television stations off the air")
+        .after_help("The files and the lines printed are described in docs/FORMATS.md.")
+        .subcommand_required(true);
+    command.bin_name("repack")
+}
+
+fn program<'a>(alloc: Global) -> Result<Command<'a>, AllocError>
+    ensures { IfOk result (λ c. app_of c ≡ program_app) }
+{
+    bare_program(alloc)?
+        .subcommand(run_command(alloc)?)?
+        .subcommand(check_command(alloc)?)
+}
+
+// The first value of an argument.
+fn value_of<'a>(matches: &ArgMatches<'a>, id: &str) -> Option<&'a str>
+    ensures { option_map (λ s. s.now) result ≡ first_of id.now (rows_of (found_of matches.now)) }
+{
+    matches.get_str(id)
+}
+
+fn input_args<'a>(matches: &ArgMatches<'a>) -> Option<InputArgs<'a>>
+    ensures { option_map inputs_seen result ≡ input_names (rows_of (found_of matches.now)) }
+{
+    let domains = value_of(matches, "DOMAINS")?;
+    let rows = value_of(matches, "ROWS")?;
+    let scenario = value_of(matches, "SCENARIO")?;
+    Some(InputArgs {
+        domains,
+        rows,
+        scenario,
     })
+}
+
+fn run_args<'a>(matches: &ArgMatches<'a>) -> Option<RunArgs<'a>>
+    ensures { option_map names_seen result ≡ run_names (rows_of (found_of matches.now)) }
+{
+    let inputs = input_args(matches)?;
+    let result = value_of(matches, "RESULT")?;
+    let channels = value_of(matches, "CHANNELS")?;
+    let transcript = value_of(matches, "TRANSCRIPT")?;
+    Some(RunArgs {
+        inputs,
+        result,
+        channels,
+        transcript,
+    })
+}
+
+// The command that `clap` found, with its arguments.
+fn order_of<'a>(matches: &ArgMatches<'a>) -> Option<Order<'a>>
+    ensures { option_map order_seen result ≡ option_and_then named_command (subcommand_rows_of matches.now) }
+{
+    let (name, inner) = matches.subcommand()?;
+    if name == "run" {
+        Some(Order::Run(run_args(inner)?))
+    } else if name == "check" {
+        Some(Order::Check(input_args(inner)?))
+    } else {
+        None
+    }
+}
+
+// The fault that has this text, if there was memory for it.
+fn refused(text: Result<String, AllocError>) -> WordsFault {
+    match text {
+        Ok(text) => WordsFault::Refused(text),
+        Err(_) => WordsFault::NoMemory,
+    }
+}
+
+// The fault that `clap` has for the words, unless memory ran out.
+fn fault_from(alloc: Global, error: &Error) -> WordsFault
+    ensures { IsRefused result → kind_of error.now ≢ ErrorKind.OutOfMemory }
+{
+    if let ErrorKind::OutOfMemory = error.kind() {
+        return WordsFault::NoMemory;
+    }
+    refused(error.to_string(alloc))
+}
+
+/// The command that the words are, of which the first is the program's name: `run DOMAINS ROWS SCENARIO RESULT CHANNELS
+/// TRANSCRIPT` or `check DOMAINS ROWS SCENARIO`. A name that begins with `-` stands after `--`, but for a lone `-`. Help
+/// and the version are no command: their texts come with `Refused`.
+#[tactic(auto, unfolding(crate::specs::Words::command_of))]
+pub fn read_words<'a>(alloc: Global, words: &'a [String]) -> Result<Order<'a>, WordsFault>
+    ensures order { IfOk result (λ o. command_of (map string_bytes words.entry.now) ≡ Some (order_seen o)) }
+    ensures refused { IfErr result (λ e. IsRefused e → command_of (map string_bytes words.entry.now) ≡ None) }
+{
+    let Ok(program) = program(alloc) else {
+        return Err(WordsFault::NoMemory);
+    };
+    let matches = match program.try_get_matches_from(words) {
+        Ok(matches) => matches,
+        Err(error) => return Err(fault_from(alloc, &error)),
+    };
+    match order_of(&matches) {
+        Some(order) => Ok(order),
+        // `clap` has a fault for words that lack an argument, so this never comes.
+        None => Err(refused(String::from_str(alloc, "error: an argument is missing\n"))),
+    }
 }

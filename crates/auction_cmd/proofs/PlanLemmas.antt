@@ -1,0 +1,16 @@
+-- What the words ask for, from the command that they are.
+use Rattle.std.proofs.Common.{◌≡◌, ◌∙◌, ℕ, List, Option, Some, None, refl, sym, ap}
+use Rattle.auction_cmd.specs.Plan.{Plan, no_command, repeats, runs, checks, command_plan, run_plan}
+use Rattle.auction_cmd.specs.Words.{Command, run, check, InputNames, RunNames, repeated_output}
+
+pub plan-none : (command : Option Command) → command ≡ None → command_plan command ≡ no_command
+plan-none command is = ap command_plan is
+
+pub plan-checks : (command : Option Command) (names : InputNames) → command ≡ Some (check names) → command_plan command ≡ checks names
+plan-checks command names is = ap command_plan is
+
+pub plan-repeats : (command : Option Command) (names : RunNames) (name : List ℕ) → command ≡ Some (run names) → Some name ≡ repeated_output names → command_plan command ≡ repeats name
+plan-repeats command names name is twice = ap command_plan is ∙ ap (run_plan names) (sym twice)
+
+pub plan-runs : (command : Option Command) (names : RunNames) → command ≡ Some (run names) → None ≡ repeated_output names → command_plan command ≡ runs names
+plan-runs command names is once = ap command_plan is ∙ ap (run_plan names) (sym once)

@@ -1,0 +1,556 @@
+-- What may be relied on of the program follows from how it ends, case by case.
+use Rattle.std.proofs.Common.{◌≡◌, ◌≢◌, ◌⊎◌, ◌<◌, ◌≤◌, ◌∙◌, ◌+◌, ◌-◌, ◌^◌, ℕ, Bool, true, false, not, inl, inr, List, [], ◌∷◌, ◌++◌, length, min, refl, sym, ap, subst, arith, Option, Some, None}
+use Rattle.std.specs.Prelude.{Ok, Err, Result, IsSome, IsTrue, MatchOption, ⊤}
+use Rattle.std.specs.List.{list_all}
+use Rattle.std.proofs.lemmas.Bool.{true≢false, false≢true, not-true}
+use Rattle.pack_defs.specs.Lists.{is_in}
+use Rattle.pack_defs.specs.Packing.{fits}
+use Rattle.pack_defs.specs.Prices.{start_set}
+use Rattle.pack_defs.proofs.Members.{is_in-gives, list_all-gives}
+use Rattle.outside_io.specs.Faults.{HasRisen}
+use Rattle.outside_io.specs.Files.{OthersStand, Puts, StoredFile}
+use Rattle.outside_io.specs.Loads.{Stores, Writes}
+use Rattle.outside_io.specs.declared.folder.StoreErr.{StoreErr}
+use Rattle.auction_cmd.specs.declared.inputs.Inputs.{Inputs}
+use Rattle.auction_cmd.specs.declared.inputs.Stop.{Stop}
+use Rattle.auction_cmd.specs.declared.inputs.Stop.TheVariants.{CannotRead, Refused, NoMemory}
+use Rattle.auction_cmd.specs.declared.record.Ending.{Ending}
+use Rattle.auction_cmd.specs.declared.record.Record.{Record}
+use Rattle.auction_cmd.specs.declared.refusal.Input.{Input}
+use Rattle.auction_cmd.specs.declared.refusal.Refusal.{Refusal}
+use Rattle.auction_cmd.specs.Counts.{counts_text}
+use Rattle.auction_cmd.specs.Ends.{AreHeld, CheckEnds, Delivers, Ends, Explains, IsRecordOf, IsRefutedRecordOf, IsStarved, IsStopped, RunEnds, StartFits, StartUnfit, result_of, summary_of}
+use Rattle.auction_cmd.specs.Ends.CheckEnds.{CheckStopped, CheckStarved, Counted, CountsCut}
+use Rattle.auction_cmd.specs.Ends.Delivers.{Both, NotStored, NotSaid, OutOfRoom}
+use Rattle.auction_cmd.specs.Ends.Ends.{Starved, Usage, Repeated, Ran, Checked}
+use Rattle.auction_cmd.specs.Ends.RunEnds.{RunStopped, RunStarved, Unfit, Delivered}
+use Rattle.auction_cmd.specs.Inputs.{Agrees, RisesAt, inputs_of}
+use Rattle.auction_cmd.specs.Outside.{Outside, IsSaid}
+use Rattle.auction_cmd.specs.Plan.{Plan, no_command, repeats, runs, checks}
+use Rattle.auction_cmd.specs.Promises.{AreThere, IsDone, IsOr, IsSomeRecord, IsUnwritten, Promises, inputs_read}
+use Rattle.auction_cmd.specs.Refusals.{line_of, name_of}
+use Rattle.auction_cmd.specs.Says.{memory_line, twice_line, unfit_line, unread_line}
+use Rattle.auction_cmd.specs.Words.{InputNames, RunNames}
+use Rattle.auction_cmd.proofs.ReadingLemmas.{can-read}
+
+-- ---- plain facts
+
+same-runs : (a b : RunNames) → runs a ≡ runs b → a ≡ b
+same-runs a b e = cc
+
+same-checks : (a b : InputNames) → checks a ≡ checks b → a ≡ b
+same-checks a b e = cc
+
+same-name : (a b : List ℕ) → repeats a ≡ repeats b → a ≡ b
+same-name a b e = cc
+
+absent : (found : Option Record) → found ≡ None → MatchOption found ⊤ IsSomeRecord
+absent found none = rw none tt
+
+-- a status is one of a list, and no other
+one-of : (xs : List ℕ) (status n : ℕ) → status ≡ n → IsTrue (is_in xs n) → IsTrue (is_in xs status)
+one-of xs status n is h = subst (λ z. IsTrue (is_in xs z)) (sym is) h
+
+off : (xs : List ℕ) (status n : ℕ) → IsTrue (is_in xs status) → status ≡ n → is_in xs n ≡ false → ⊥
+off xs status n h is out = false≢true (sym out ∙ subst (λ z. is_in xs z ≡ true) is h)
+
+-- two lists of statuses have none in common
+apart-lists : (xs ys : List ℕ) (status : ℕ) → list_all (λ x. not (is_in ys x)) xs ≡ true → IsTrue (is_in xs status) → IsTrue (is_in ys status) → ⊥
+apart-lists xs ys status apart h k =
+    let out = list_all-gives (λ x. not (is_in ys x)) xs status apart (is_in-gives xs status h) in
+    false≢true (sym (not-true (is_in ys status) out) ∙ k)
+
+-- ---- a reading that stopped
+
+stopped-statuses : (names : InputNames) (before after : Outside) (status : ℕ) → IsStopped names before after status → IsTrue (is_in (3 ∷ 5 ∷ 8 ∷ []) status)
+stopped-statuses names before after status h = by h.stop h.explains
+  where
+    by : (stop : Stop) → Explains names stop before.held after.held before.cuts after.cuts status → IsTrue (is_in (3 ∷ 5 ∷ 8 ∷ []) status)
+    by (CannotRead input) e = one-of (3 ∷ 5 ∷ 8 ∷ []) status 3 e.0 refl
+    by (Refused why) e = one-of (3 ∷ 5 ∷ 8 ∷ []) status 5 e.0 refl
+    by NoMemory e = one-of (3 ∷ 5 ∷ 8 ∷ []) status 8 e.0 refl
+
+stopped-unread : (names : InputNames) (before after : Outside) (status : ℕ) → IsStopped names before after status → status ≡ 3 → HasRisen before.faults after.faults
+stopped-unread names before after status h three = by h.stop h.counted.rises h.explains
+  where
+    by : (stop : Stop) → RisesAt {A = Inputs} before.faults after.faults (Err stop) → Explains names stop before.held after.held before.cuts after.cuts status → HasRisen before.faults after.faults
+    by (CannotRead input) rises e = rises
+    by (Refused why) rises e = let five = e.0 in absurd (omega arith)
+    by NoMemory rises e = let eight = e.0 in absurd (omega arith)
+
+stopped-memory : (names : InputNames) (before after : Outside) (status : ℕ) → IsStopped names before after status → status ≡ 8 → IsSaid before after memory_line
+stopped-memory names before after status h eight = by h.stop h.explains
+  where
+    by : (stop : Stop) → Explains names stop before.held after.held before.cuts after.cuts status → IsSaid before after memory_line
+    by (CannotRead input) e = let three = e.0 in absurd (omega arith)
+    by (Refused why) e = let five = e.0 in absurd (omega arith)
+    by NoMemory e = e.1
+
+-- a reading of the inputs: it stopped; memory ran out; or it went on
+data Reading (names : InputNames) (before after : Outside) (status : ℕ) : Type 0 where
+  Halted : IsStopped names before after status → Reading names before after status
+  Short : status ≡ 8 → Reading names before after status
+  Went : (inputs : Inputs) → AreHeld names before inputs → IsTrue (is_in (0 ∷ 4 ∷ 6 ∷ 8 ∷ []) status) → Reading names before after status
+
+delivered-statuses : (name text summary : List ℕ) (before after : Outside) (status : ℕ) → Delivers name text summary before after status → IsTrue (is_in (0 ∷ 4 ∷ 8 ∷ []) status)
+delivered-statuses name text summary before after status (Both is a b) = one-of (0 ∷ 4 ∷ 8 ∷ []) status 0 is refl
+delivered-statuses name text summary before after status (NotStored is a b c d) = one-of (0 ∷ 4 ∷ 8 ∷ []) status 4 is refl
+delivered-statuses name text summary before after status (NotSaid is a b c d) = one-of (0 ∷ 4 ∷ 8 ∷ []) status 4 is refl
+delivered-statuses name text summary before after status (OutOfRoom is a b) = one-of (0 ∷ 4 ∷ 8 ∷ []) status 8 is refl
+
+-- of two lists of statuses, the first within the second
+within : (xs ys : List ℕ) (status : ℕ) → list_all (is_in ys) xs ≡ true → IsTrue (is_in xs status) → IsTrue (is_in ys status)
+within xs ys status all h = list_all-gives (is_in ys) xs status all (is_in-gives xs status h)
+
+run-reading : (names : RunNames) (before after : Outside) (status : ℕ) (found : Option Record) → RunEnds names before after status found → Reading names.inputs before after status
+run-reading names before after status found (RunStopped s none) = Halted s
+run-reading names before after status found (RunStarved s) = Short s.status_is
+run-reading names before after status found (Unfit inputs rec held of is kept said files) = Went inputs held (one-of (0 ∷ 4 ∷ 6 ∷ 8 ∷ []) status 6 is refl)
+run-reading names before after status found (Delivered inputs rec held of kept d) =
+    Went inputs held (within (0 ∷ 4 ∷ 8 ∷ []) (0 ∷ 4 ∷ 6 ∷ 8 ∷ []) status refl (delivered-statuses names.result _ _ before after status d))
+
+check-reading : (names : InputNames) (before after : Outside) (status : ℕ) (found : Option Record) → CheckEnds names before after status found → Reading names before after status
+check-reading names before after status found (CheckStopped s none) = Halted s
+check-reading names before after status found (CheckStarved s) = Short s.status_is
+check-reading names before after status found (Counted inputs held is none writes files) = Went inputs held (one-of (0 ∷ 4 ∷ 6 ∷ 8 ∷ []) status 0 is refl)
+check-reading names before after status found (CountsCut inputs held is none rises less said files) = Went inputs held (one-of (0 ∷ 4 ∷ 6 ∷ 8 ∷ []) status 4 is refl)
+
+-- ---- the command that a plan is
+
+ran : (plan : Plan) (names : RunNames) (before after : Outside) (status : ℕ) (found : Option Record) → Ends plan before after status found → plan ≡ runs names → RunEnds names before after status found
+ran plan names before after status found (Starved s) is = RunStarved s
+ran plan names before after status found (Usage text is_none two none said files) is = cc
+ran plan names before after status found (Repeated name is_name five none said files) is = cc
+ran plan names before after status found (Ran own is_own end) is = subst (λ z. RunEnds z before after status found) (same-runs own names (sym is_own ∙ is)) end
+ran plan names before after status found (Checked own is_own end) is = cc
+
+checked : (plan : Plan) (names : InputNames) (before after : Outside) (status : ℕ) (found : Option Record) → Ends plan before after status found → plan ≡ checks names → CheckEnds names before after status found
+checked plan names before after status found (Starved s) is = CheckStarved s
+checked plan names before after status found (Usage text is_none two none said files) is = cc
+checked plan names before after status found (Repeated name is_name five none said files) is = cc
+checked plan names before after status found (Ran own is_own end) is = cc
+checked plan names before after status found (Checked own is_own end) is = subst (λ z. CheckEnds z before after status found) (same-checks own names (sym is_own ∙ is)) end
+
+-- the reading of the inputs that a plan reads
+read-by : (plan : Plan) (names : InputNames) (before after : Outside) (status : ℕ) (found : Option Record) → Ends plan before after status found → inputs_read plan ≡ Some names → Reading names before after status
+read-by no_command names before after status found end is = cc
+read-by (repeats name) names before after status found end is = cc
+read-by (runs own) names before after status found end is =
+    let same : own.inputs ≡ names = cc in
+    subst (λ z. Reading z before after status) same (run-reading own before after status found (ran (runs own) own before after status found end refl))
+read-by (checks own) names before after status found end is =
+    let same : own ≡ names = cc in
+    subst (λ z. Reading z before after status) same (check-reading own before after status found (checked (checks own) own before after status found end refl))
+
+-- ---- what a reading shows
+
+abbrev held : Inputs → Result Inputs Stop
+held inputs = Ok inputs
+
+abbrev err : Stop → Result Inputs Stop
+err stop = Err stop
+
+not-both : (inputs : Inputs) (stop : Stop) → held inputs ≡ err stop → ⊥
+not-both inputs stop e = cc
+
+refused-cause : (names : InputNames) (before after : Outside) (status : ℕ) (files : List StoredFile) → Reading names before after status → before.files ≡ Some files → status ≡ 5 →
+    (why : Refusal) × (inputs_of files names ≡ Err (Refused why)) × IsSaid before after (line_of names why)
+refused-cause names before after status files (Halted h) told five = by h.stop (h.told files told) h.explains
+  where
+    by : (stop : Stop) → Agrees {A = Inputs} {B = Inputs} (λ i. i) before.steady (inputs_of files names) (Err stop) → Explains names stop before.held after.held before.cuts after.cuts status →
+        (why : Refusal) × (inputs_of files names ≡ Err (Refused why)) × IsSaid before after (line_of names why)
+    by (CannotRead input) agrees e = let three = e.0 in absurd (omega arith)
+    by (Refused why) agrees e = (why, agrees, e.1)
+    by NoMemory agrees e = let eight = e.0 in absurd (omega arith)
+refused-cause names before after status files (Short eight) told five = absurd (omega arith)
+refused-cause names before after status files (Went inputs are on) told five = absurd (off (0 ∷ 4 ∷ 6 ∷ 8 ∷ []) status 5 on five refl)
+
+-- a status that an input stops at, where the files hold another thing than inputs
+stops-at : (names : InputNames) (before after : Outside) (status : ℕ) (files : List StoredFile) (why : Refusal) → Reading names before after status → before.files ≡ Some files → inputs_of files names ≡ Err (Refused why) → IsOr 5 before status
+stops-at names before after status files why (Halted h) told is = by h.stop (h.told files told) h.explains
+  where
+    other : (i : Input) → err (Refused why) ≡ err (CannotRead i) → ⊥
+    other i e = cc
+
+    by : (stop : Stop) → Agrees {A = Inputs} {B = Inputs} (λ i. i) before.steady (inputs_of files names) (Err stop) → Explains names stop before.held after.held before.cuts after.cuts status → IsOr 5 before status
+    by (CannotRead input) agrees e = inr (inr (e.0, λ steady. other input (sym is ∙ agrees steady)))
+    by (Refused cause) agrees e = inl e.0
+    by NoMemory agrees e = inr (inl e.0)
+stops-at names before after status files why (Short eight) told is = inr (inl eight)
+stops-at names before after status files why (Went inputs are on) told is = absurd (not-both inputs (Refused why) (sym (are files told) ∙ is))
+
+read-there : (names : InputNames) (before after : Outside) (status : ℕ) (files : List StoredFile) → Reading names before after status → before.files ≡ Some files → before.steady ≡ true → AreThere files names → status ≢ 3
+read-there names before after status files (Halted h) told steady there = by h.stop (h.told files told) h.explains
+  where
+    by : (stop : Stop) → Agrees {A = Inputs} {B = Inputs} (λ i. i) before.steady (inputs_of files names) (Err stop) → Explains names stop before.held after.held before.cuts after.cuts status → status ≢ 3
+    by (CannotRead input) agrees e = absurd (can-read files names input there (agrees steady))
+    by (Refused why) agrees e = let five = e.0 in λ three. omega arith
+    by NoMemory agrees e = let eight = e.0 in λ three. omega arith
+read-there names before after status files (Short eight) told steady there = λ three. omega arith
+read-there names before after status files (Went inputs are on) told steady there = λ three. off (0 ∷ 4 ∷ 6 ∷ 8 ∷ []) status 3 on three refl
+
+missing-one : (names : InputNames) (before after : Outside) (status : ℕ) (files : List StoredFile) (input : Input) → Reading names before after status → before.files ≡ Some files → before.steady ≡ true → inputs_of files names ≡ Err (CannotRead input) →
+    (status ≡ 8) ⊎ ((status ≡ 3) × IsSaid before after (unread_line (name_of names input)))
+missing-one names before after status files input (Halted h) told steady is = by h.stop (h.told files told) h.explains
+  where
+    same : (i : Input) → err (CannotRead i) ≡ err (CannotRead input) → i ≡ input
+    same i e = cc
+
+    other : (why : Refusal) → err (Refused why) ≡ err (CannotRead input) → ⊥
+    other why e = cc
+
+    by : (stop : Stop) → Agrees {A = Inputs} {B = Inputs} (λ i. i) before.steady (inputs_of files names) (Err stop) → Explains names stop before.held after.held before.cuts after.cuts status →
+        (status ≡ 8) ⊎ ((status ≡ 3) × IsSaid before after (unread_line (name_of names input)))
+    by (CannotRead i) agrees e = inr (e.0, subst (λ z. IsSaid before after (unread_line (name_of names z))) (same i (sym (agrees steady) ∙ is)) e.1)
+    by (Refused why) agrees e = absurd (other why (sym agrees ∙ is))
+    by NoMemory agrees e = inl e.0
+missing-one names before after status files input (Short eight) told steady is = inl eight
+missing-one names before after status files input (Went inputs are on) told steady is = absurd (not-both inputs (CannotRead input) (sym (are files told) ∙ is))
+
+-- where the files hold inputs, a reading that stopped did so for want of memory or by a fault
+halted-held : (names : InputNames) (before after : Outside) (status n : ℕ) (files : List StoredFile) (inputs : Inputs) → IsStopped names before after status → before.files ≡ Some files → inputs_of files names ≡ Ok inputs → IsOr n before status
+halted-held names before after status n files inputs h told is = by h.stop (h.told files told) h.explains
+  where
+    by : (stop : Stop) → Agrees {A = Inputs} {B = Inputs} (λ i. i) before.steady (inputs_of files names) (Err stop) → Explains names stop before.held after.held before.cuts after.cuts status → IsOr n before status
+    by (CannotRead input) agrees e = inr (inr (e.0, λ steady. not-both inputs (CannotRead input) (sym is ∙ agrees steady)))
+    by (Refused why) agrees e = absurd (not-both inputs (Refused why) (sym is ∙ agrees))
+    by NoMemory agrees e = inr (inl e.0)
+
+same-inputs : (a b : Inputs) → held a ≡ held b → a ≡ b
+same-inputs a b e = cc
+
+-- ---- how `run` ends
+
+module _ (names : RunNames) (before after : Outside) (status : ℕ) (found : Option Record) where
+  -- what a store leaves of a told folder
+  stored-puts : (files : List StoredFile) (now : Option (List StoredFile)) (text : List ℕ) → before.files ≡ Some files → Stores before.files now names.result text (Ok tt) → MatchOption now ⊥ (λ new. Puts files new names.result text)
+  stored-puts files now text told h = puts now (subst (λ z. Stores z now names.result text (Ok tt)) told h)
+    where
+      puts : (now : Option (List StoredFile)) → Stores (Some files) now names.result text (Ok tt) → MatchOption now ⊥ (λ new. Puts files new names.result text)
+      puts None h = h
+      puts (Some new) h = h
+
+  run-done : (files : List StoredFile) → RunEnds names before after status found → before.files ≡ Some files → status ≡ 0 → IsDone files names before after found
+  run-done files (RunStopped s none) told zero = absurd (off (3 ∷ 5 ∷ 8 ∷ []) status 0 (stopped-statuses names.inputs before after status s) zero refl)
+  run-done files (RunStarved s) told zero = let eight = s.status_is in absurd (omega arith)
+  run-done files (Unfit inputs rec are of six kept said same) told zero = absurd (omega arith)
+  run-done files (Delivered inputs rec are of kept (Both is stores writes)) told zero = record {
+    inputs = inputs;
+    accepted = are files told;
+    result = stored-puts files after.files (result_of inputs) told stores;
+    summary = writes;
+    recorded = rw kept of;
+  }
+  run-done files (Delivered inputs rec are of kept (NotStored four a b c d)) told zero = absurd (omega arith)
+  run-done files (Delivered inputs rec are of kept (NotSaid four a b c d)) told zero = absurd (omega arith)
+  run-done files (Delivered inputs rec are of kept (OutOfRoom eight a b)) told zero = absurd (omega arith)
+
+  run-unfit : (files : List StoredFile) → RunEnds names before after status found → before.files ≡ Some files → status ≡ 6 →
+      (inputs : Inputs) × (inputs_of files names.inputs ≡ Ok inputs) × StartUnfit inputs × IsSaid before after unfit_line
+  run-unfit files (RunStopped s none) told six = absurd (off (3 ∷ 5 ∷ 8 ∷ []) status 6 (stopped-statuses names.inputs before after status s) six refl)
+  run-unfit files (RunStarved s) told six = let eight = s.status_is in absurd (omega arith)
+  run-unfit files (Unfit inputs rec are of is kept said same) told six = (inputs, are files told, of.starts, said)
+  run-unfit files (Delivered inputs rec are of kept d) told six = absurd (off (0 ∷ 4 ∷ 8 ∷ []) status 6 (delivered-statuses names.result _ _ before after status d) six refl)
+
+  run-unfits : (files : List StoredFile) (inputs : Inputs) → RunEnds names before after status found → before.files ≡ Some files → inputs_of files names.inputs ≡ Ok inputs → StartUnfit inputs → IsOr 6 before status
+  run-unfits files inputs (RunStopped s none) told is unfit = halted-held names.inputs before after status 6 files inputs s told is
+  run-unfits files inputs (RunStarved s) told is unfit = inr (inl s.status_is)
+  run-unfits files inputs (Unfit own rec are of six kept said same) told is unfit = inl six
+  run-unfits files inputs (Delivered own rec are of kept d) told is unfit =
+      let same : own ≡ inputs = same-inputs own inputs (sym (are files told) ∙ is) in
+      absurd (true≢false (sym (subst (λ (z : Inputs). fits z.book (start_set z.scenario) ≡ true) same of.starts) ∙ unfit))
+
+  run-stored : (files : List StoredFile) → RunEnds names before after status found → before.files ≡ Some files → status ≡ 4 → IsUnwritten files names before after
+  run-stored files (RunStopped s none) told four = absurd (off (3 ∷ 5 ∷ 8 ∷ []) status 4 (stopped-statuses names.inputs before after status s) four refl)
+  run-stored files (RunStarved s) told four = let eight = s.status_is in absurd (omega arith)
+  run-stored files (Unfit inputs rec are of six kept said same) told four = absurd (omega arith)
+  run-stored files (Delivered inputs rec are of kept (Both zero a b)) told four = absurd (omega arith)
+  run-stored files (Delivered inputs rec are of kept (NotStored is stores rises unsteady said)) told four = inl (rises, unsteady, said)
+  run-stored files (Delivered inputs rec are of kept (NotSaid is stores rises less said)) told four =
+      inr (inputs, are files told, stored-puts files after.files (result_of inputs) told stores, rises, said)
+  run-stored files (Delivered inputs rec are of kept (OutOfRoom eight a b)) told four = absurd (omega arith)
+
+  run-surely : (files : List StoredFile) → RunEnds names before after status found → before.files ≡ Some files → before.steady ≡ true →
+      ((inputs : Inputs) → inputs_of files names.inputs ≡ Ok inputs → length (summary_of inputs) ≤ before.sure) → status ≢ 4
+  run-surely files (RunStopped s none) told steady room = λ four. off (3 ∷ 5 ∷ 8 ∷ []) status 4 (stopped-statuses names.inputs before after status s) four refl
+  run-surely files (RunStarved s) told steady room = let eight = s.status_is in λ four. omega arith
+  run-surely files (Unfit inputs rec are of six kept said same) told steady room = λ four. omega arith
+  run-surely files (Delivered inputs rec are of kept (Both zero a b)) told steady room = λ four. omega arith
+  run-surely files (Delivered inputs rec are of kept (NotStored is stores rises unsteady said)) told steady room = absurd (unsteady steady)
+  run-surely files (Delivered inputs rec are of kept (NotSaid is stores rises less said)) told steady room =
+      let enough = room inputs (are files told) in absurd (omega arith)
+  run-surely files (Delivered inputs rec are of kept (OutOfRoom eight a b)) told steady room = λ four. omega arith
+
+  -- files that stand
+  stand : (files : List StoredFile) → before.files ≡ Some files → after.files ≡ before.files → MatchOption after.files ⊥ (λ new. OthersStand files new names.result)
+  stand files told same = rw (same ∙ told) (λ other ne. refl)
+
+  -- what any store leaves of a told folder
+  store-others : (files : List StoredFile) (text : List ℕ) (r : Result (Unit {0}) StoreErr) → before.files ≡ Some files → Stores before.files after.files names.result text r → MatchOption after.files ⊥ (λ new. OthersStand files new names.result)
+  store-others files text r told h = others after.files r (subst (λ z. Stores z after.files names.result text r) told h)
+    where
+      others : (now : Option (List StoredFile)) (r : Result (Unit {0}) StoreErr) → Stores (Some files) now names.result text r → MatchOption now ⊥ (λ new. OthersStand files new names.result)
+      others None r h = h
+      others (Some new) (Ok u) h = h.others
+      others (Some new) (Err e) h = h
+
+  run-others : (files : List StoredFile) → RunEnds names before after status found → before.files ≡ Some files → MatchOption after.files ⊥ (λ new. OthersStand files new names.result)
+  run-others files (RunStopped s none) told = stand files told s.files
+  run-others files (RunStarved s) told = stand files told s.files
+  run-others files (Unfit inputs rec are of six kept said same) told = stand files told same
+  run-others files (Delivered inputs rec are of kept (Both zero stores b)) told = store-others files (result_of inputs) _ told stores
+  run-others files (Delivered inputs rec are of kept (NotStored is stores rises unsteady said)) told = store-others files (result_of inputs) _ told stores
+  run-others files (Delivered inputs rec are of kept (NotSaid is stores rises less said)) told = store-others files (result_of inputs) _ told stores
+  run-others files (Delivered inputs rec are of kept (OutOfRoom eight stores b)) told = store-others files (result_of inputs) _ told stores
+
+  run-complete : (files : List StoredFile) (inputs : Inputs) → RunEnds names before after status found → before.files ≡ Some files → inputs_of files names.inputs ≡ Ok inputs → StartFits inputs → IsOr 0 before status ⊎ (status ≡ 4)
+  run-complete files inputs (RunStopped s none) told is fit = inl (halted-held names.inputs before after status 0 files inputs s told is)
+  run-complete files inputs (RunStarved s) told is fit = inl (inr (inl s.status_is))
+  run-complete files inputs (Unfit own rec are of six kept said same) told is fit =
+      let one : own ≡ inputs = same-inputs own inputs (sym (are files told) ∙ is) in
+      absurd (true≢false (sym fit ∙ subst (λ (z : Inputs). fits z.book (start_set z.scenario) ≡ false) one of.starts))
+  run-complete files inputs (Delivered own rec are of kept (Both zero a b)) told is fit = inl (inl zero)
+  run-complete files inputs (Delivered own rec are of kept (NotStored four a b c d)) told is fit = inr four
+  run-complete files inputs (Delivered own rec are of kept (NotSaid four a b c d)) told is fit = inr four
+  run-complete files inputs (Delivered own rec are of kept (OutOfRoom eight a b)) told is fit = inl (inr (inl eight))
+
+  there : (rec : Record) → found ≡ Some rec → IsSome found
+  there rec is = rw is refl
+
+  run-recorded : RunEnds names before after status found → IsTrue (is_in (0 ∷ 4 ∷ 6 ∷ []) status) → IsSome found
+  run-recorded (RunStopped s none) h = absurd (apart-lists (0 ∷ 4 ∷ 6 ∷ []) (3 ∷ 5 ∷ 8 ∷ []) status refl h (stopped-statuses names.inputs before after status s))
+  run-recorded (RunStarved s) h = absurd (off (0 ∷ 4 ∷ 6 ∷ []) status 8 h s.status_is refl)
+  run-recorded (Unfit inputs rec are of six kept said same) h = there rec kept
+  run-recorded (Delivered inputs rec are of kept d) h = there rec kept
+
+  run-unrecorded : RunEnds names before after status found → IsTrue (is_in (2 ∷ 3 ∷ 5 ∷ []) status) → found ≡ None
+  run-unrecorded (RunStopped s none) h = none
+  run-unrecorded (RunStarved s) h = s.found_is
+  run-unrecorded (Unfit inputs rec are of six kept said same) h = absurd (off (2 ∷ 3 ∷ 5 ∷ []) status 6 h six refl)
+  run-unrecorded (Delivered inputs rec are of kept d) h = absurd (apart-lists (2 ∷ 3 ∷ 5 ∷ []) (0 ∷ 4 ∷ 8 ∷ []) status refl h (delivered-statuses names.result _ _ before after status d))
+
+  run-backed : RunEnds names before after status found → MatchOption found ⊤ IsSomeRecord
+  run-backed (RunStopped s none) = absent found none
+  run-backed (RunStarved s) = absent found s.found_is
+  run-backed (Unfit inputs rec are of six kept said same) = rw kept (record { inputs = inputs; backed = of.backed; packing = λ done. cc (sym of.ending ∙ done) })
+  run-backed (Delivered inputs rec are of kept d) = rw kept (record { inputs = inputs; backed = of.backed; packing = λ done. of.packing })
+
+  run-statuses : RunEnds names before after status found → IsTrue (is_in (0 ∷ 3 ∷ 4 ∷ 5 ∷ 6 ∷ 8 ∷ []) status)
+  run-statuses (RunStopped s none) = within (3 ∷ 5 ∷ 8 ∷ []) (0 ∷ 3 ∷ 4 ∷ 5 ∷ 6 ∷ 8 ∷ []) status refl (stopped-statuses names.inputs before after status s)
+  run-statuses (RunStarved s) = one-of (0 ∷ 3 ∷ 4 ∷ 5 ∷ 6 ∷ 8 ∷ []) status 8 s.status_is refl
+  run-statuses (Unfit inputs rec are of six kept said same) = one-of (0 ∷ 3 ∷ 4 ∷ 5 ∷ 6 ∷ 8 ∷ []) status 6 six refl
+  run-statuses (Delivered inputs rec are of kept d) = within (0 ∷ 4 ∷ 8 ∷ []) (0 ∷ 3 ∷ 4 ∷ 5 ∷ 6 ∷ 8 ∷ []) status refl (delivered-statuses names.result _ _ before after status d)
+
+  run-unread : RunEnds names before after status found → status ≡ 3 → HasRisen before.faults after.faults
+  run-unread (RunStopped s none) three = stopped-unread names.inputs before after status s three
+  run-unread (RunStarved s) three = let eight = s.status_is in absurd (omega arith)
+  run-unread (Unfit inputs rec are of six kept said same) three = absurd (omega arith)
+  run-unread (Delivered inputs rec are of kept d) three = absurd (off (0 ∷ 4 ∷ 8 ∷ []) status 3 (delivered-statuses names.result _ _ before after status d) three refl)
+
+  run-unwritten : RunEnds names before after status found → status ≡ 4 → HasRisen before.faults after.faults ⊎ HasRisen before.cuts after.cuts
+  run-unwritten (RunStopped s none) four = absurd (off (3 ∷ 5 ∷ 8 ∷ []) status 4 (stopped-statuses names.inputs before after status s) four refl)
+  run-unwritten (RunStarved s) four = let eight = s.status_is in absurd (omega arith)
+  run-unwritten (Unfit inputs rec are of six kept said same) four = absurd (omega arith)
+  run-unwritten (Delivered inputs rec are of kept (Both zero a b)) four = absurd (omega arith)
+  run-unwritten (Delivered inputs rec are of kept (NotStored is stores rises unsteady said)) four = inl rises
+  run-unwritten (Delivered inputs rec are of kept (NotSaid is stores rises less said)) four = inr rises
+  run-unwritten (Delivered inputs rec are of kept (OutOfRoom eight a b)) four = absurd (omega arith)
+
+  none-some : (rec : Record) → found ≡ Some rec → found ≡ None → ⊥
+  none-some rec is none = cc (sym is ∙ none)
+
+  run-untouched : RunEnds names before after status found → found ≡ None → after.files ≡ before.files
+  run-untouched (RunStopped s none) absent = s.files
+  run-untouched (RunStarved s) absent = s.files
+  run-untouched (Unfit inputs rec are of six kept said same) absent = same
+  run-untouched (Delivered inputs rec are of kept d) absent = absurd (none-some rec kept absent)
+
+  run-six : RunEnds names before after status found → status ≡ 6 → after.files ≡ before.files
+  run-six (RunStopped s none) six = s.files
+  run-six (RunStarved s) six = s.files
+  run-six (Unfit inputs rec are of is kept said same) six = same
+  run-six (Delivered inputs rec are of kept d) six = absurd (off (0 ∷ 4 ∷ 8 ∷ []) status 6 (delivered-statuses names.result _ _ before after status d) six refl)
+
+  run-memory : RunEnds names before after status found → status ≡ 8 → IsSaid before after memory_line
+  run-memory (RunStopped s none) eight = stopped-memory names.inputs before after status s eight
+  run-memory (RunStarved s) eight = s.line
+  run-memory (Unfit inputs rec are of six kept said same) eight = absurd (omega arith)
+  run-memory (Delivered inputs rec are of kept (Both zero a b)) eight = absurd (omega arith)
+  run-memory (Delivered inputs rec are of kept (NotStored four a b c d)) eight = absurd (omega arith)
+  run-memory (Delivered inputs rec are of kept (NotSaid four a b c d)) eight = absurd (omega arith)
+  run-memory (Delivered inputs rec are of kept (OutOfRoom is stores said)) eight = said
+
+-- ---- how `check` ends
+
+module _ (names : InputNames) (before after : Outside) (status : ℕ) (found : Option Record) where
+  check-counted : (files : List StoredFile) → CheckEnds names before after status found → before.files ≡ Some files → status ≡ 0 →
+      (inputs : Inputs) × (inputs_of files names ≡ Ok inputs) × Writes before.held after.held (counts_text inputs) (Ok tt)
+  check-counted files (CheckStopped s none) told zero = absurd (off (3 ∷ 5 ∷ 8 ∷ []) status 0 (stopped-statuses names before after status s) zero refl)
+  check-counted files (CheckStarved s) told zero = let eight = s.status_is in absurd (omega arith)
+  check-counted files (Counted inputs are is none writes same) told zero = (inputs, are files told, writes)
+  check-counted files (CountsCut inputs are four none rises less said same) told zero = absurd (omega arith)
+
+  check-none : CheckEnds names before after status found → found ≡ None
+  check-none (CheckStopped s none) = none
+  check-none (CheckStarved s) = s.found_is
+  check-none (Counted inputs are is none writes same) = none
+  check-none (CountsCut inputs are four none rises less said same) = none
+
+  check-files : CheckEnds names before after status found → after.files ≡ before.files
+  check-files (CheckStopped s none) = s.files
+  check-files (CheckStarved s) = s.files
+  check-files (Counted inputs are is none writes same) = same
+  check-files (CountsCut inputs are four none rises less said same) = same
+
+  check-statuses : CheckEnds names before after status found → IsTrue (is_in (0 ∷ 3 ∷ 4 ∷ 5 ∷ 8 ∷ []) status)
+  check-statuses (CheckStopped s none) = within (3 ∷ 5 ∷ 8 ∷ []) (0 ∷ 3 ∷ 4 ∷ 5 ∷ 8 ∷ []) status refl (stopped-statuses names before after status s)
+  check-statuses (CheckStarved s) = one-of (0 ∷ 3 ∷ 4 ∷ 5 ∷ 8 ∷ []) status 8 s.status_is refl
+  check-statuses (Counted inputs are zero none writes same) = one-of (0 ∷ 3 ∷ 4 ∷ 5 ∷ 8 ∷ []) status 0 zero refl
+  check-statuses (CountsCut inputs are four none rises less said same) = one-of (0 ∷ 3 ∷ 4 ∷ 5 ∷ 8 ∷ []) status 4 four refl
+
+  check-surely : (files : List StoredFile) → CheckEnds names before after status found → before.files ≡ Some files →
+      ((inputs : Inputs) → inputs_of files names ≡ Ok inputs → length (counts_text inputs) ≤ before.sure) → status ≢ 4
+  check-surely files (CheckStopped s none) told room = λ four. off (3 ∷ 5 ∷ 8 ∷ []) status 4 (stopped-statuses names before after status s) four refl
+  check-surely files (CheckStarved s) told room = let eight = s.status_is in λ four. omega arith
+  check-surely files (Counted inputs are zero none writes same) told room = λ four. omega arith
+  check-surely files (CountsCut inputs are four none rises less said same) told room = let enough = room inputs (are files told) in absurd (omega arith)
+
+  check-complete : (files : List StoredFile) (inputs : Inputs) → CheckEnds names before after status found → before.files ≡ Some files → inputs_of files names ≡ Ok inputs → IsOr 0 before status ⊎ (status ≡ 4)
+  check-complete files inputs (CheckStopped s none) told is = inl (halted-held names before after status 0 files inputs s told is)
+  check-complete files inputs (CheckStarved s) told is = inl (inr (inl s.status_is))
+  check-complete files inputs (Counted own are zero none writes same) told is = inl (inl zero)
+  check-complete files inputs (CountsCut own are four none rises less said same) told is = inr four
+
+  check-unread : CheckEnds names before after status found → status ≡ 3 → HasRisen before.faults after.faults
+  check-unread (CheckStopped s none) three = stopped-unread names before after status s three
+  check-unread (CheckStarved s) three = let eight = s.status_is in absurd (omega arith)
+  check-unread (Counted inputs are zero none writes same) three = absurd (omega arith)
+  check-unread (CountsCut inputs are four none rises less said same) three = absurd (omega arith)
+
+  check-unwritten : CheckEnds names before after status found → status ≡ 4 → HasRisen before.faults after.faults ⊎ HasRisen before.cuts after.cuts
+  check-unwritten (CheckStopped s none) four = absurd (off (3 ∷ 5 ∷ 8 ∷ []) status 4 (stopped-statuses names before after status s) four refl)
+  check-unwritten (CheckStarved s) four = let eight = s.status_is in absurd (omega arith)
+  check-unwritten (Counted inputs are zero none writes same) four = absurd (omega arith)
+  check-unwritten (CountsCut inputs are is none rises less said same) four = inr rises
+
+  check-memory : CheckEnds names before after status found → status ≡ 8 → IsSaid before after memory_line
+  check-memory (CheckStopped s none) eight = stopped-memory names before after status s eight
+  check-memory (CheckStarved s) eight = s.line
+  check-memory (Counted inputs are zero none writes same) eight = absurd (omega arith)
+  check-memory (CountsCut inputs are four none rises less said same) eight = absurd (omega arith)
+
+-- ---- how the program ends
+
+module _ (plan : Plan) (before after : Outside) (status : ℕ) (found : Option Record) where
+  all-statuses : Ends plan before after status found → IsTrue (is_in (0 ∷ 2 ∷ 3 ∷ 4 ∷ 5 ∷ 6 ∷ 8 ∷ []) status)
+  all-statuses (Starved s) = one-of (0 ∷ 2 ∷ 3 ∷ 4 ∷ 5 ∷ 6 ∷ 8 ∷ []) status 8 s.status_is refl
+  all-statuses (Usage text is two none said files) = one-of (0 ∷ 2 ∷ 3 ∷ 4 ∷ 5 ∷ 6 ∷ 8 ∷ []) status 2 two refl
+  all-statuses (Repeated name is five none said files) = one-of (0 ∷ 2 ∷ 3 ∷ 4 ∷ 5 ∷ 6 ∷ 8 ∷ []) status 5 five refl
+  all-statuses (Ran names is end) = within (0 ∷ 3 ∷ 4 ∷ 5 ∷ 6 ∷ 8 ∷ []) (0 ∷ 2 ∷ 3 ∷ 4 ∷ 5 ∷ 6 ∷ 8 ∷ []) status refl (run-statuses names before after status found end)
+  all-statuses (Checked names is end) = within (0 ∷ 3 ∷ 4 ∷ 5 ∷ 8 ∷ []) (0 ∷ 2 ∷ 3 ∷ 4 ∷ 5 ∷ 6 ∷ 8 ∷ []) status refl (check-statuses names before after status found end)
+
+  -- words that are no command
+  no-plan : Ends plan before after status found → plan ≡ no_command → (status ≡ 2) ⊎ (status ≡ 8)
+  no-plan (Starved s) none = inr s.status_is
+  no-plan (Usage text is two absent said files) none = inl two
+  no-plan (Repeated name is five absent said files) none = cc (sym is ∙ none)
+  no-plan (Ran names is end) none = cc (sym is ∙ none)
+  no-plan (Checked names is end) none = cc (sym is ∙ none)
+
+  only-no_plan : Ends plan before after status found → status ≡ 2 → plan ≡ no_command
+  only-no_plan (Starved s) two = let eight = s.status_is in absurd (omega arith)
+  only-no_plan (Usage text is is_two none said files) two = is
+  only-no_plan (Repeated name is five none said files) two = absurd (omega arith)
+  only-no_plan (Ran names is end) two = absurd (off (0 ∷ 3 ∷ 4 ∷ 5 ∷ 6 ∷ 8 ∷ []) status 2 (run-statuses names before after status found end) two refl)
+  only-no_plan (Checked names is end) two = absurd (off (0 ∷ 3 ∷ 4 ∷ 5 ∷ 8 ∷ []) status 2 (check-statuses names before after status found end) two refl)
+
+  named-twice : (name : List ℕ) → Ends plan before after status found → plan ≡ repeats name → ((status ≡ 5) × IsSaid before after (twice_line name)) ⊎ (status ≡ 8)
+  named-twice name (Starved s) twice = inr s.status_is
+  named-twice name (Usage text is two none said files) twice = cc (sym is ∙ twice)
+  named-twice name (Repeated own is five none said files) twice =
+      let same : own ≡ name = same-name own name (sym is ∙ twice) in
+      inl (five, subst (λ z. IsSaid before after (twice_line z)) same said)
+  named-twice name (Ran names is end) twice = cc (sym is ∙ twice)
+  named-twice name (Checked names is end) twice = cc (sym is ∙ twice)
+
+  all-unrecorded : Ends plan before after status found → IsTrue (is_in (2 ∷ 3 ∷ 5 ∷ []) status) → found ≡ None
+  all-unrecorded (Starved s) h = s.found_is
+  all-unrecorded (Usage text is two none said files) h = none
+  all-unrecorded (Repeated name is five none said files) h = none
+  all-unrecorded (Ran names is end) h = run-unrecorded names before after status found end h
+  all-unrecorded (Checked names is end) h = check-none names before after status found end
+
+  all-backed : Ends plan before after status found → MatchOption found ⊤ IsSomeRecord
+  all-backed (Starved s) = absent found s.found_is
+  all-backed (Usage text is two none said files) = absent found none
+  all-backed (Repeated name is five none said files) = absent found none
+  all-backed (Ran names is end) = run-backed names before after status found end
+  all-backed (Checked names is end) = absent found (check-none names before after status found end)
+
+  all-unread : Ends plan before after status found → status ≡ 3 → HasRisen before.faults after.faults
+  all-unread (Starved s) three = let eight = s.status_is in absurd (omega arith)
+  all-unread (Usage text is two none said files) three = absurd (omega arith)
+  all-unread (Repeated name is five none said files) three = absurd (omega arith)
+  all-unread (Ran names is end) three = run-unread names before after status found end three
+  all-unread (Checked names is end) three = check-unread names before after status found end three
+
+  all-unwritten : Ends plan before after status found → status ≡ 4 → HasRisen before.faults after.faults ⊎ HasRisen before.cuts after.cuts
+  all-unwritten (Starved s) four = let eight = s.status_is in absurd (omega arith)
+  all-unwritten (Usage text is two none said files) four = absurd (omega arith)
+  all-unwritten (Repeated name is five none said files) four = absurd (omega arith)
+  all-unwritten (Ran names is end) four = run-unwritten names before after status found end four
+  all-unwritten (Checked names is end) four = check-unwritten names before after status found end four
+
+  all-untouched : Ends plan before after status found → found ≡ None → after.files ≡ before.files
+  all-untouched (Starved s) none = s.files
+  all-untouched (Usage text is two absent said files) none = files
+  all-untouched (Repeated name is five absent said files) none = files
+  all-untouched (Ran names is end) none = run-untouched names before after status found end none
+  all-untouched (Checked names is end) none = check-files names before after status found end
+
+  all-six : Ends plan before after status found → status ≡ 6 → after.files ≡ before.files
+  all-six (Starved s) six = s.files
+  all-six (Usage text is two absent said files) six = files
+  all-six (Repeated name is five absent said files) six = files
+  all-six (Ran names is end) six = run-six names before after status found end six
+  all-six (Checked names is end) six = check-files names before after status found end
+
+  all-memory : Ends plan before after status found → status ≡ 8 → IsSaid before after memory_line
+  all-memory (Starved s) eight = s.line
+  all-memory (Usage text is two none said files) eight = absurd (omega arith)
+  all-memory (Repeated name is five none said files) eight = absurd (omega arith)
+  all-memory (Ran names is end) eight = run-memory names before after status found end eight
+  all-memory (Checked names is end) eight = check-memory names before after status found end eight
+
+-- what may be relied on
+pub promises-of : (plan : Plan) (before after : Outside) (status : ℕ) (found : Option Record) → Ends plan before after status found → Promises plan before after status found
+promises-of plan before after status found end = record {
+  statuses = all-statuses plan before after status found end;
+  usage = no-plan plan before after status found end;
+  usage_only = only-no_plan plan before after status found end;
+  twice = λ name. named-twice plan before after status found name end;
+  done = λ files names told is zero. run-done names before after status found files (ran plan names before after status found end is) told zero;
+  counted = λ files names told is zero. check-counted names before after status found files (checked plan names before after status found end is) told zero;
+  backed = all-backed plan before after status found end;
+  recorded = λ names is h. run-recorded names before after status found (ran plan names before after status found end is) h;
+  unrecorded = all-unrecorded plan before after status found end;
+  no_record = λ names is. check-none names before after status found (checked plan names before after status found end is);
+  refused = λ files names told is five. refused-cause names before after status files (read-by plan names before after status found end is) told five;
+  refuses = λ files names why told is held. stops-at names before after status files why (read-by plan names before after status found end is) told held;
+  unread = all-unread plan before after status found end;
+  surely_read = λ files names told is steady there. read-there names before after status files (read-by plan names before after status found end is) told steady there;
+  missing = λ files names input told is steady absent. missing-one names before after status files input (read-by plan names before after status found end is) told steady absent;
+  unfit = λ files names told is six. run-unfit names before after status found files (ran plan names before after status found end is) told six;
+  unfits = λ files names inputs told is held unfit. run-unfits names before after status found files inputs (ran plan names before after status found end is) told held unfit;
+  run_only = λ names is six. off (0 ∷ 3 ∷ 4 ∷ 5 ∷ 8 ∷ []) status 6 (check-statuses names before after status found (checked plan names before after status found end is)) six refl;
+  unwritten = all-unwritten plan before after status found end;
+  stored = λ files names told is four. run-stored names before after status found files (ran plan names before after status found end is) told four;
+  surely_written = λ files names told is steady room. run-surely names before after status found files (ran plan names before after status found end is) told steady room;
+  surely_counted = λ files names told is room. check-surely names before after status found files (checked plan names before after status found end is) told room;
+  others = λ files names told is. run-others names before after status found files (ran plan names before after status found end is) told;
+  untouched = all-untouched plan before after status found end;
+  unfit_untouched = all-six plan before after status found end;
+  complete = λ files names inputs told is held fit. run-complete names before after status found files inputs (ran plan names before after status found end is) told held fit;
+  counts = λ files names inputs told is held. check-complete names before after status found files inputs (checked plan names before after status found end is) told held;
+  memory = all-memory plan before after status found end;
+}

@@ -1,0 +1,69 @@
+-- Where the input files are there, none of them can't be read.
+use Rattle.std.proofs.Common.{◌≡◌, ◌∙◌, ℕ, Bool, true, false, List, length, nat_lt, cond, refl, sym, ap, inl, inr}
+use Rattle.std.specs.Prelude.{Option, Some, None, Result, Ok, Err, IsSome}
+use Rattle.std.proofs.lemmas.Bool.{cases_Bool}
+use Rattle.constraint_files.specs.Domains.{domains_of}
+use Rattle.constraint_files.specs.Rows.{pairs_of}
+use Rattle.constraint_files.specs.declared.error.ReadErr.{ReadErr}
+use Rattle.constraint_files.specs.declared.error.ReadErr.TheVariants.{Row, NoMemory as NoRoom}
+use Rattle.outside_io.specs.Files.{StoredFile, bytes_of}
+use Rattle.pack_defs.specs.Book.{BookView}
+use Rattle.pack_defs.specs.declared.scenario.Scenario.{Scenario}
+use Rattle.scenario_json.specs.declared.error.ScenarioErr.{ScenarioErr}
+use Rattle.scenario_json.specs.declared.join.JoinErr.{JoinErr}
+use Rattle.scenario_json.specs.declared.join.JoinErr.TheVariants.{MissingDomain, NoMemory as NoSpace}
+use Rattle.scenario_json.specs.Joined.{joined}
+use Rattle.scenario_json.specs.ScenarioOf.{scenario_of}
+use Rattle.auction_cmd.specs.declared.refusal.Input.{Input}
+use Rattle.auction_cmd.specs.declared.refusal.Input.TheVariants.{Domains, Rows, Scenario as ScenarioFile}
+use Rattle.auction_cmd.specs.declared.inputs.Stop.{Stop}
+use Rattle.auction_cmd.specs.declared.inputs.Stop.TheVariants.{CannotRead}
+use Rattle.auction_cmd.specs.Inputs.{and_then, bytes_within, file_limit, file_of, inputs_from, inputs_of, rows_read, scenario_read}
+use Rattle.auction_cmd.specs.Promises.{AreThere}
+use Rattle.auction_cmd.specs.Words.{InputNames}
+
+-- the reading doesn't stop at a file that can't be read
+CanRead : {A : Type 0} → Result A Stop → Type 0
+CanRead {A} r = (i : Input) → r ≡ Err (CannotRead i) → ⊥
+
+goes_on : {A B : Type 0} (r : Result A Stop) (f : A → Result B Stop) → CanRead r → ((x : A) → CanRead (f x)) → CanRead (and_then r f)
+unfolding CanRead
+goes_on (Ok x) f a b i e = b x i e
+goes_on (Err e) f a b i h = a i (cc)
+
+can_rows : {A : Type 0} (input : Input) (r : Result A ReadErr) → CanRead (rows_read input r)
+unfolding CanRead
+can_rows input (Ok x) i e = cc
+can_rows input (Err (Row line why)) i e = cc
+can_rows input (Err NoRoom) i e = cc
+
+can_scenario : (r : Result Scenario ScenarioErr) → CanRead (scenario_read r)
+unfolding CanRead
+can_scenario (Ok sc) i e = cc
+can_scenario (Err why) i e = cc
+
+can_bytes : (input : Input) (o : Option (List ℕ)) → IsSome o → CanRead (bytes_within input o)
+unfolding CanRead
+can_bytes input None h i e = cc
+can_bytes input (Some bytes) h i e =
+    elim (cases_Bool (nat_lt file_limit (length bytes))) [
+      | inl long ↦ cc (rw long at e)
+      | inr short ↦ cc (rw short at e)
+    ]
+
+can_join : (sc : _) (pairs : _) (r : Result BookView JoinErr) → CanRead (inputs_from sc pairs r)
+unfolding CanRead
+can_join sc pairs (Ok book) i e = cc
+can_join sc pairs (Err (MissingDomain s)) i e = cc
+can_join sc pairs (Err NoSpace) i e = cc
+
+pub can-read : (files : List StoredFile) (names : InputNames) (i : Input) → AreThere files names → inputs_of files names ≡ Err (CannotRead i) → ⊥
+unfolding inputs_of CanRead
+can-read files names i h =
+    goes_on (and_then (file_of files names.domains Domains) (λ bytes. rows_read Domains (domains_of bytes))) _
+    (goes_on (file_of files names.domains Domains) (λ bytes. rows_read Domains (domains_of bytes)) (can_bytes Domains (bytes_of files names.domains) h.domains) (λ bytes. can_rows Domains (domains_of bytes))) (λ domains.
+    goes_on (and_then (file_of files names.rows Rows) (λ bytes. rows_read Rows (pairs_of bytes domains))) _
+    (goes_on (file_of files names.rows Rows) (λ bytes. rows_read Rows (pairs_of bytes domains)) (can_bytes Rows (bytes_of files names.rows) h.rows) (λ bytes. can_rows Rows (pairs_of bytes domains))) (λ pairs.
+    goes_on (and_then (file_of files names.scenario ScenarioFile) (λ bytes. scenario_read (scenario_of bytes))) _
+    (goes_on (file_of files names.scenario ScenarioFile) (λ bytes. scenario_read (scenario_of bytes)) (can_bytes ScenarioFile (bytes_of files names.scenario) h.scenario) (λ bytes. can_scenario (scenario_of bytes))) (λ sc.
+    can_join sc pairs (joined sc domains pairs.list)))) i

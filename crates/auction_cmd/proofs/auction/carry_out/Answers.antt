@@ -1,0 +1,23 @@
+-- The plan that the words are, and how it ends.
+use Rattle.std.proofs.Common.{◌≡◌, refl}
+use Rattle.auction_cmd.specs.Ends.Ends.{Usage, Repeated, Ran, Checked}
+use Rattle.auction_cmd.specs.Words.{inputs_seen, names_seen}
+use Rattle.auction_cmd.proofs.PlanLemmas.{plan-none, plan-checks, plan-repeats, plan-runs}
+use Rattle.auction_cmd.proofs.auction.carry_out.Goals as goal
+
+pub returns-in-Some : goal.returns-in-Some
+returns-in-Some g c =
+    Repeated c.in-Some.name.now (plan-repeats _ (names_seen c.in-Ok-Run.files) c.in-Some.name.now (rw c.in-Ok-Run.field-0-is at c.in-Ok-Run.ensures.order) c.in-Some.ensures)
+    c.without_record.ensures.status c.without_record.ensures.none c.say.ensures.says refl
+
+pub returns-in-None : goal.returns-in-None
+returns-in-None g c =
+    Ran (names_seen c.in-Ok-Run.files) (plan-runs _ (names_seen c.in-Ok-Run.files) (rw c.in-Ok-Run.field-0-is at c.in-Ok-Run.ensures.order) c.in-None.ensures) c.run.ensures
+
+pub returns-in-Ok-Check : goal.returns-in-Ok-Check
+returns-in-Ok-Check g c =
+    Checked (inputs_seen c.in-Ok-Check.files) (plan-checks _ (inputs_seen c.in-Ok-Check.files) (rw c.in-Ok-Check.field-0-is at c.in-Ok-Check.ensures.order)) c.check.ensures
+
+pub returns-in-Err-Refused : goal.returns-in-Err-Refused
+returns-in-Err-Refused g c =
+    Usage _ (plan-none _ ((rw c.in-Err-Refused.field-0-is at c.in-Err-Refused.ensures.refused) tt)) c.without_record-in-Err-Refused.ensures.status c.without_record-in-Err-Refused.ensures.none c.say-in-Err-Refused.ensures.says refl

@@ -1,0 +1,18 @@
+use Rattle.std.proofs.Common.{◌≡◌, ap, length}
+use Rattle.auction_cmd.specs.Ends.CheckEnds.{Counted, CountsCut}
+use Rattle.auction_cmd.proofs.EndLemmas.{cut-over}
+use Rattle.auction_cmd.proofs.SaysLemmas.{says-write}
+use Rattle.auction_cmd.proofs.check.check.Goals as goal
+
+pub returns-in-Ok-write : goal.returns-in-Ok-write
+returns-in-Ok-write g c =
+    Counted c.in-Ok.inputs c.in-Ok.ensures.told c.without_record-in-Ok-write.ensures.status c.without_record-in-Ok-write.ensures.none
+    (rw (c.deref.ensures.value, c.in-Ok-counts.ensures) at c.in-Ok-write.ensures.told) c.in-Ok.ensures.files
+
+pub returns : goal.returns
+returns g c =
+    CountsCut c.in-Ok.inputs c.in-Ok.ensures.told c.without_record-in-Err-write.ensures.status c.without_record-in-Err-write.ensures.none
+    c.in-Err-write.ensures.failed
+    (cut-over _ _ _ (rw (c.deref.ensures.value, c.in-Ok-counts.ensures) at c.in-Err-write.ensures.surely))
+    (says-write _ _ _ _ _ _ (rw (c.deref.ensures.value, c.in-Ok-counts.ensures) at c.in-Err-write.ensures.told) c.in-Err-write.ensures.failed)
+    c.in-Ok.ensures.files

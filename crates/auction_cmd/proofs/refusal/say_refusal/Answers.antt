@@ -1,0 +1,11 @@
+use Rattle.std.proofs.Common.{◌≡◌}
+use Rattle.auction_cmd.specs.Refusals.{refusal_text}
+use Rattle.auction_cmd.proofs.refusal.say_refusal.Goals as goal
+
+pub returns-in-TooLong-clause-says : goal.returns-in-TooLong-clause-says
+unfolding refusal_text
+returns-in-TooLong-clause-says g c = rw c.in-TooLong.is c.say.ensures.says
+
+pub returns-in-MissingDomain-clause-says : goal.returns-in-MissingDomain-clause-says
+unfolding refusal_text
+returns-in-MissingDomain-clause-says g c = rw c.in-MissingDomain.is (rw c.format.ensures.text at c.say-in-MissingDomain.ensures.says)

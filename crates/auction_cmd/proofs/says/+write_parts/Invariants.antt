@@ -1,0 +1,8 @@
+use Rattle.std.proofs.Common.{length, ◌≤◌, ◌≡◌, ℕ, ◌+◌, ◌-◌, ◌*◌, ◌<◌}
+use Rattle.std.specs.List.{flat_map}
+use Rattle.auction_cmd.specs.Says.{Says}
+use Rattle.auction_cmd.proofs.says.+write_parts.Given as goal
+
+-- proposed from what the function passes where it calls itself
+abbrev pub decreases-write_parts : goal.decreases-write_parts
+decreases-write_parts g l = length l.parts.now

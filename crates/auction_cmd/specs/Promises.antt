@@ -1,0 +1,142 @@
+-- What may be relied on of the program, a clause each: by what the words ask for, what the folder and the sink tell
+-- before and after, the status and the record.
+use Rattle.std.specs.Prelude.{◌≡◌, ◌≢◌, ◌⊎◌, ◌≤◌, ℕ, List, [], ◌∷◌, length, Option, Some, None, Ok, Err, IsSome, IsTrue, MatchOption, true, ⊤}
+use Rattle.pack_defs.specs.Lists.{is_in}
+use Rattle.pack_defs.specs.ClockRule.{on_air_set}
+use Rattle.pack_defs.specs.Packing.{IsPacking}
+use Rattle.outside_io.specs.Faults.{HasRisen}
+use Rattle.outside_io.specs.Files.{OthersStand, Puts, StoredFile, bytes_of}
+use Rattle.outside_io.specs.Loads.{Writes}
+use Rattle.auction_cmd.specs.declared.inputs.Inputs.{Inputs}
+use Rattle.auction_cmd.specs.declared.inputs.Stop.TheVariants.{CannotRead, Refused}
+use Rattle.auction_cmd.specs.declared.record.Ending.TheVariants.{Done}
+use Rattle.auction_cmd.specs.declared.record.Record.{Record}
+use Rattle.auction_cmd.specs.declared.refusal.Input.{Input}
+use Rattle.auction_cmd.specs.declared.refusal.Refusal.{Refusal}
+use Rattle.auction_cmd.specs.Backed.{IsBacked}
+use Rattle.auction_cmd.specs.Counts.{counts_text}
+use Rattle.auction_cmd.specs.Ends.{IsRecordOf, StartFits, StartUnfit, outcome, result_of, summary_of}
+use Rattle.auction_cmd.specs.Inputs.{inputs_of}
+use Rattle.auction_cmd.specs.Outside.{Outside, IsSaid}
+use Rattle.auction_cmd.specs.Plan.{Plan, no_command, repeats, runs, checks}
+use Rattle.auction_cmd.specs.Refusals.{line_of, name_of}
+use Rattle.auction_cmd.specs.Says.{memory_line, twice_line, unfit_line, unread_line, unwritten_line}
+use Rattle.auction_cmd.specs.Words.{InputNames, RunNames}
+
+-- the inputs that a plan reads, if it reads any
+abbrev pub inputs_read : Plan → Option InputNames
+inputs_read no_command = None
+inputs_read (repeats name) = None
+inputs_read (runs names) = Some names.inputs
+inputs_read (checks names) = Some names
+
+-- the three input files are there
+pub record AreThere (files : List StoredFile) (names : InputNames) : Type 0 where
+  pub domains : IsSome (bytes_of files names.domains)
+  pub rows : IsSome (bytes_of files names.rows)
+  pub scenario : IsSome (bytes_of files names.scenario)
+
+-- The auction of these inputs was carried out: RESULT holds the text of the clock rule's result and every other file
+-- stands, the sink grew by the summary, and the record is the auction's.
+pub record IsDone (files : List StoredFile) (names : RunNames) (before after : Outside) (found : Option Record) : Type 0 where
+  pub inputs : Inputs
+  pub accepted : inputs_of files names.inputs ≡ Ok inputs
+  pub result : MatchOption after.files ⊥ (λ new. Puts files new names.result (result_of inputs))
+  pub summary : Writes before.held after.held (summary_of inputs) (Ok tt)
+  pub recorded : MatchOption found ⊥ (IsRecordOf inputs)
+
+-- Something could not be written: the store failed, of a folder that isn't steady, and the line names RESULT; or RESULT
+-- holds the text of the result of the inputs that the files hold, and of the summary no more than some was written.
+abbrev pub IsUnwritten : List StoredFile → RunNames → Outside → Outside → Type 0
+IsUnwritten files names before after =
+    (HasRisen before.faults after.faults × (before.steady ≢ true) × IsSaid before after (unwritten_line names.result))
+    ⊎ ((inputs : Inputs) × (inputs_of files names.inputs ≡ Ok inputs)
+    × MatchOption after.files ⊥ (λ new. Puts files new names.result (result_of inputs))
+    × HasRisen before.cuts after.cuts × IsSaid before after (summary_of inputs))
+
+-- A record is backed, by the inputs of some auction; where that was carried through, its map is clean and of exactly the
+-- stations on air at the end.
+pub record IsSomeRecord (rec : Record) : Type 0 where
+  pub inputs : Inputs
+  pub backed : IsBacked inputs.scenario inputs.book rec
+  pub packing : rec.ending ≡ Done → IsPacking inputs.book (on_air_set inputs.scenario (outcome inputs)) rec.map
+
+-- where an input is not accepted, or a start set is not as asked, the status is another one only for want of memory or by
+-- a fault of a folder that isn't steady
+abbrev pub IsOr : ℕ → Outside → ℕ → Type 0
+IsOr wanted before status = (status ≡ wanted) ⊎ ((status ≡ 8) ⊎ ((status ≡ 3) × (before.steady ≢ true)))
+
+pub record Promises (plan : Plan) (before after : Outside) (status : ℕ) (found : Option Record) : Type 0 where
+  pub statuses : IsTrue (is_in (0 ∷ 2 ∷ 3 ∷ 4 ∷ 5 ∷ 6 ∷ 8 ∷ []) status)
+  -- Status 2 comes exactly where the words are no command, but for want of memory.
+  pub usage : plan ≡ no_command → (status ≡ 2) ⊎ (status ≡ 8)
+  pub usage_only : status ≡ 2 → plan ≡ no_command
+  -- An output name that is given twice is refused before any file is read, and the line names it.
+  pub twice : (name : List ℕ) → plan ≡ repeats name →
+      ((status ≡ 5) × IsSaid before after (twice_line name)) ⊎ (status ≡ 8)
+  -- At status 0 `run` has carried out the auction of the inputs that the files hold, and `check` has counted them.
+  pub done : (files : List StoredFile) (names : RunNames) →
+      before.files ≡ Some files → plan ≡ runs names → status ≡ 0 → IsDone files names before after found
+  pub counted : (files : List StoredFile) (names : InputNames) →
+      before.files ≡ Some files → plan ≡ checks names → status ≡ 0 →
+      (inputs : Inputs) × (inputs_of files names ≡ Ok inputs)
+      × Writes before.held after.held (counts_text inputs) (Ok tt)
+  -- The record: backed, also where the folder tells nothing. It is there for `run` at 0, 4 and 6, and never at 2, 3 and 5,
+  -- nor for `check`.
+  pub backed : MatchOption found ⊤ IsSomeRecord
+  pub recorded : (names : RunNames) → plan ≡ runs names → IsTrue (is_in (0 ∷ 4 ∷ 6 ∷ []) status) → IsSome found
+  pub unrecorded : IsTrue (is_in (2 ∷ 3 ∷ 5 ∷ []) status) → found ≡ None
+  pub no_record : (names : InputNames) → plan ≡ checks names → found ≡ None
+  -- Status 5, beside a name given twice, comes exactly where an input is too long or refused, and the line names the file
+  -- and the cause. Before that memory may run out, and a folder that isn't steady may fail.
+  pub refused : (files : List StoredFile) (names : InputNames) →
+      before.files ≡ Some files → inputs_read plan ≡ Some names → status ≡ 5 →
+      (why : Refusal) × (inputs_of files names ≡ Err (Refused why)) × IsSaid before after (line_of names why)
+  pub refuses : (files : List StoredFile) (names : InputNames) (why : Refusal) →
+      before.files ≡ Some files → inputs_read plan ≡ Some names → inputs_of files names ≡ Err (Refused why) →
+      IsOr 5 before status
+  -- Status 3 comes only where the folder's count of faults rose, and never over a steady folder that has the inputs. Over a
+  -- steady folder that lacks one, the line names the first that is missing.
+  pub unread : status ≡ 3 → HasRisen before.faults after.faults
+  pub surely_read : (files : List StoredFile) (names : InputNames) →
+      before.files ≡ Some files → inputs_read plan ≡ Some names → before.steady ≡ true → AreThere files names → status ≢ 3
+  pub missing : (files : List StoredFile) (names : InputNames) (input : Input) →
+      before.files ≡ Some files → inputs_read plan ≡ Some names → before.steady ≡ true →
+      inputs_of files names ≡ Err (CannotRead input) →
+      (status ≡ 8) ⊎ ((status ≡ 3) × IsSaid before after (unread_line (name_of names input)))
+  -- Status 6 comes exactly where the start set of accepted inputs doesn't fit, but for want of memory and a folder that
+  -- isn't steady.
+  pub unfit : (files : List StoredFile) (names : RunNames) →
+      before.files ≡ Some files → plan ≡ runs names → status ≡ 6 →
+      (inputs : Inputs) × (inputs_of files names.inputs ≡ Ok inputs) × StartUnfit inputs × IsSaid before after unfit_line
+  pub unfits : (files : List StoredFile) (names : RunNames) (inputs : Inputs) →
+      before.files ≡ Some files → plan ≡ runs names → inputs_of files names.inputs ≡ Ok inputs → StartUnfit inputs →
+      IsOr 6 before status
+  pub run_only : (names : InputNames) → plan ≡ checks names → status ≢ 6
+  -- Status 4 comes only where a count of faults rose: for `run`, the store failed, or RESULT holds its text and no more than
+  -- some of the summary was written. It never comes over a steady folder and a sink that surely takes the summary, or the
+  -- counts.
+  pub unwritten : status ≡ 4 → HasRisen before.faults after.faults ⊎ HasRisen before.cuts after.cuts
+  pub stored : (files : List StoredFile) (names : RunNames) →
+      before.files ≡ Some files → plan ≡ runs names → status ≡ 4 → IsUnwritten files names before after
+  pub surely_written : (files : List StoredFile) (names : RunNames) →
+      before.files ≡ Some files → plan ≡ runs names → before.steady ≡ true →
+      ((inputs : Inputs) → inputs_of files names.inputs ≡ Ok inputs → length (summary_of inputs) ≤ before.sure) → status ≢ 4
+  pub surely_counted : (files : List StoredFile) (names : InputNames) →
+      before.files ≡ Some files → plan ≡ checks names →
+      ((inputs : Inputs) → inputs_of files names ≡ Ok inputs → length (counts_text inputs) ≤ before.sure) → status ≢ 4
+  -- No file is touched but RESULT, and that only where there is a record of an auction that was carried through.
+  pub others : (files : List StoredFile) (names : RunNames) →
+      before.files ≡ Some files → plan ≡ runs names → MatchOption after.files ⊥ (λ new. OthersStand files new names.result)
+  pub untouched : found ≡ None → after.files ≡ before.files
+  pub unfit_untouched : status ≡ 6 → after.files ≡ before.files
+  -- Accepted inputs are carried through, where the start set fits, and counted, but for want of memory and faults of the
+  -- outside.
+  pub complete : (files : List StoredFile) (names : RunNames) (inputs : Inputs) →
+      before.files ≡ Some files → plan ≡ runs names → inputs_of files names.inputs ≡ Ok inputs → StartFits inputs →
+      IsOr 0 before status ⊎ (status ≡ 4)
+  pub counts : (files : List StoredFile) (names : InputNames) (inputs : Inputs) →
+      before.files ≡ Some files → plan ≡ checks names → inputs_of files names ≡ Ok inputs →
+      IsOr 0 before status ⊎ (status ≡ 4)
+  -- At status 8 the line says that memory ran out.
+  pub memory : status ≡ 8 → IsSaid before after memory_line

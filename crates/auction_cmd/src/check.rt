@@ -1,0 +1,55 @@
+//! The command `check`: the inputs are read and counted.
+
+ghost use Rattle.std.specs.Prelude.{◌≡◌, IfOk};
+ghost use Rattle.auction_cmd.specs.Counts.{counts_text};
+ghost use Rattle.auction_cmd.specs.Ends.{CheckEnds};
+ghost use Rattle.auction_cmd.specs.Outside.{outside};
+ghost use Rattle.auction_cmd.specs.Words.{inputs_seen};
+
+use crate::explain::{explain, starve};
+use crate::finish::Finish;
+use crate::inputs::{Inputs, read_inputs};
+use crate::result_text::push_count;
+use crate::words::InputArgs;
+use outside_io::folder::Folder;
+use outside_io::sink::Sink;
+use std::alloc::{AllocError as NoMemory, Global};
+
+// The counts of the inputs, each on a line of its own.
+#[tactic(auto, unfolding(crate::specs::Counts::counts_text))]
+fn counts(alloc: Global, inputs: &Inputs) -> Result<Vec<u8>, NoMemory>
+    ensures { IfOk result (λ text. text.items ≡ counts_text inputs.now) }
+{
+    let mut text = Vec::new(alloc);
+    push_count(&mut text, "stations", u64::from(inputs.book.len()))?;
+    push_count(&mut text, "pairs", inputs.book.pairs().len() as u64)?;
+    push_count(&mut text, "self-pairs", inputs.self_pairs)?;
+    push_count(&mut text, "strangers", inputs.strangers)?;
+    Ok(text)
+}
+
+/// Reads the inputs and writes how many stations and pairs the book has, and how many fields of the rows file pair a
+/// station with itself, and name one without a domain row. It stores nothing.
+pub fn check<F: Folder, K: Sink>(
+    alloc: Global,
+    files: &InputArgs<'_>,
+    folder: &mut F,
+    out: &mut K,
+) -> Finish
+    ensures { CheckEnds (inputs_seen files.now)
+        (outside (F.files folder.old) (F.faults folder.old) (F.steady folder.old) (K.held out.old) (K.faults out.old) (K.sure out.old))
+        (outside (F.files folder.new) (F.faults folder.new) (F.steady folder.new) (K.held out.new) (K.faults out.new) (K.sure out.new))
+        result.status result.result }
+{
+    let inputs = match read_inputs(alloc, folder, files) {
+        Ok(inputs) => inputs,
+        Err(stop) => return Finish::without_record(explain(out, files, stop)),
+    };
+    let Ok(text) = counts(alloc, &inputs) else {
+        return starve(out);
+    };
+    match out.write(&text) {
+        Ok(()) => Finish::without_record(0),
+        Err(_) => Finish::without_record(4),
+    }
+}

@@ -1,0 +1,44 @@
+//! The lines of a reading that stopped, and of want of memory.
+
+ghost use Rattle.std.specs.Prelude.{◌≡◌, ◌≤◌, None};
+ghost use Rattle.auction_cmd.specs.Ends.{Explains};
+ghost use Rattle.auction_cmd.specs.Says.{Says, memory_line};
+ghost use Rattle.auction_cmd.specs.Words.{inputs_seen};
+
+use crate::finish::Finish;
+use crate::inputs::Stop;
+use crate::refusal::say_refused;
+use crate::says::say;
+use crate::words::InputArgs;
+use outside_io::sink::Sink;
+
+/// Says why these inputs were not read, and gives the status for it. It takes no memory.
+pub fn explain<K: Sink>(out: &mut K, files: &InputArgs<'_>, stop: Stop) -> u8
+    ensures explains { Explains (inputs_seen files.now) stop (K.held out.old) (K.held out.new) (K.faults out.old) (K.faults out.new) result }
+    ensures counted { K.faults out.old ≤ K.faults out.new }
+{
+    match stop {
+        Stop::CannotRead(input) => {
+            say(out, &["cannot read ", files.of(input), "\n"]);
+            3
+        }
+        Stop::Refused(why) => {
+            say_refused(out, files, why);
+            5
+        }
+        Stop::NoMemory => {
+            say(out, &["out of memory\n"]);
+            8
+        }
+    }
+}
+
+/// The end where memory ran out and nothing was stored.
+pub fn starve<K: Sink>(out: &mut K) -> Finish
+    ensures status { result.status ≡ 8 }
+    ensures none { result.result ≡ None }
+    ensures line { Says (K.held out.old) (K.held out.new) (K.faults out.old) (K.faults out.new) memory_line }
+{
+    say(out, &["out of memory\n"]);
+    Finish::without_record(8)
+}

@@ -1,0 +1,36 @@
+ghost use Rattle.std.specs.Prelude.{◌≡◌, None, Some};
+
+use crate::record::Record;
+
+/// How the program ended.
+#[derive(Debug, Drop)]
+pub struct Finish {
+    /// The exit status.
+    pub status: u8,
+    /// The record of the auction, where there was one.
+    pub result: Option<Record>,
+}
+
+impl Finish {
+    /// An end without a record.
+    pub fn without_record(status: u8) -> Finish
+        ensures status { result.status ≡ status }
+        ensures none { result.result ≡ None }
+    {
+        Finish {
+            status,
+            result: None,
+        }
+    }
+
+    /// An end with this record.
+    pub fn with_record(status: u8, kept: Record) -> Finish
+        ensures status { result.status ≡ status }
+        ensures kept { result.result ≡ Some kept }
+    {
+        Finish {
+            status,
+            result: Some(kept),
+        }
+    }
+}
