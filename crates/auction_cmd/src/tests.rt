@@ -1,15 +1,21 @@
 //! Runs of the whole program over a folder and a sink in memory.
 
+mod checked;
+mod refused;
 mod settled;
 mod stopped;
+mod words;
 
-use crate::auction::{Finish, auction_main};
+use crate::auction::auction_main;
+use crate::finish::Finish;
 use outside_io::memory_folder::{MemoryFile, MemoryFolder};
 use outside_io::memory_sink::MemorySink;
 use std::alloc::{AllocError as NoMemory, Global};
 use std::test::Fail;
 
 const COMMAND: &str = "repack run d.csv r.csv s.json out.csv chan.csv tr.txt";
+
+const CHECK: &str = "repack check d.csv r.csv s.json";
 
 // Three stations on two channels, of which no two may share one.
 const DOMAINS: &str = "DOMAIN,1,14,15\nDOMAIN,2,14,15\nDOMAIN,3,14,15\n";
@@ -18,6 +24,10 @@ const ROWS: &str = "CO,14,14,1,2,3\nCO,14,14,2,3\nCO,15,15,1,2,3\nCO,15,15,2,3\n
 
 const SCENARIO: &str =
     "{\"version\":1,\"top\":15,\"opening\":100,\"decrements\":[40,40],\"stations\":[{\"id\":1,\"volume\":1,\"value\":50},{\"id\":2,\"volume\":1,\"value\":70},{\"id\":3,\"volume\":1,\"value\":10}],\"workers\":[{\"kind\":\"cdcl\",\"budget\":1000}]}";
+
+// The scenario's stations.
+const THREE: &str =
+    "{\"id\":1,\"volume\":1,\"value\":50},{\"id\":2,\"volume\":1,\"value\":70},{\"id\":3,\"volume\":1,\"value\":10}";
 
 // What a run left.
 #[derive(Drop)]
@@ -66,13 +76,31 @@ fn run(
 ) -> Result<Ended, NoMemory> {
     let words = words_of(alloc, line)?;
     let mut folder = folder;
-    let mut sink = MemorySink::new(alloc, 999, failing.to_vec(alloc)?)?;
+    let mut sink = MemorySink::new(alloc, 9_999, failing.to_vec(alloc)?)?;
     let finish = auction_main(alloc, &words, &mut folder, &mut sink);
     Ok(Ended {
         finish,
         folder,
         sink,
     })
+}
+
+// Runs it on this command line and these three texts.
+fn run_on(
+    alloc: Global,
+    line: &str,
+    domains: &str,
+    rows: &str,
+    scenario: &str,
+) -> Result<Ended, NoMemory> {
+    let folder = folder_of(
+        alloc,
+        domains.as_bytes(),
+        rows.as_bytes(),
+        scenario.as_bytes(),
+        &[],
+    )?;
+    run(alloc, line, folder, &[])
 }
 
 // Whether a file of this name holds these bytes.
@@ -88,4 +116,11 @@ fn has_no_output(folder: &MemoryFolder) -> bool {
     folder.bytes("out.csv").is_none()
         && folder.bytes("chan.csv").is_none()
         && folder.bytes("tr.txt").is_none()
+}
+
+// Whether the run ended at this status, said this, and stored nothing.
+fn stops(ended: &Ended, status: u8, said: &str) -> bool {
+    ended.finish.status == status
+        && ended.sink.bytes() == said.as_bytes()
+        && has_no_output(&ended.folder)
 }

@@ -1,10 +1,7 @@
-use super::{COMMAND, DOMAINS, Ended, ROWS, SCENARIO, changed, folder_of, is_held, run};
+use super::{COMMAND, DOMAINS, Ended, ROWS, SCENARIO, THREE, changed, is_held, run_on, stops};
+use crate::record::{Ending, Shown};
 use std::alloc::{AllocError as NoMemory, Global};
 use std::test::Fail;
-
-// The scenario's stations.
-const THREE: &str =
-    "{\"id\":1,\"volume\":1,\"value\":50},{\"id\":2,\"volume\":1,\"value\":70},{\"id\":3,\"volume\":1,\"value\":10}";
 
 // One station, and no decrement.
 const ONE: &str =
@@ -13,17 +10,6 @@ const ONE: &str =
 // The same at the greatest opening and volume.
 const GREATEST: &str =
     "{\"version\":1,\"top\":36,\"opening\":1000000,\"decrements\":[],\"stations\":[{\"id\":1,\"volume\":1000000,\"value\":10}],\"workers\":[{\"kind\":\"cdcl\",\"budget\":1000}]}";
-
-fn run_on(alloc: Global, domains: &str, rows: &str, scenario: &str) -> Result<Ended, NoMemory> {
-    let folder = folder_of(
-        alloc,
-        domains.as_bytes(),
-        rows.as_bytes(),
-        scenario.as_bytes(),
-        &[],
-    )?;
-    run(alloc, COMMAND, folder, &[])
-}
 
 // Whether the run stored these rows under a header, and summed up these four numbers.
 fn settles(alloc: Global, ended: &Ended, rows: &str, counts: [u64; 4]) -> Result<bool, NoMemory> {
@@ -42,7 +28,7 @@ fn settles(alloc: Global, ended: &Ended, rows: &str, counts: [u64; 4]) -> Result
 #[test]
 fn three_stations_on_two_channels(rt: HostRuntime) -> Result<(), Fail> {
     let alloc = rt.alloc();
-    let ended = run_on(alloc, DOMAINS, ROWS, SCENARIO)?;
+    let ended = run_on(alloc, COMMAND, DOMAINS, ROWS, SCENARIO)?;
     let rows = "1,exit,2,0\n2,exit,1,0\n3,frozen,2,60\n";
     assert!(rt; settles(alloc, &ended, rows, [3, 2, 1, 60])?);
     assert!(rt; ended.folder.bytes("chan.csv").is_none());
@@ -56,7 +42,7 @@ fn three_stations_on_two_channels(rt: HostRuntime) -> Result<(), Fail> {
 #[test]
 fn the_record_has_each_test(rt: HostRuntime) -> Result<(), Fail> {
     let alloc = rt.alloc();
-    let ended = run_on(alloc, DOMAINS, ROWS, SCENARIO)?;
+    let ended = run_on(alloc, COMMAND, DOMAINS, ROWS, SCENARIO)?;
     let record = ended.finish.result.ok_or("no record")?;
     assert_eq!(rt; record.total, 60);
     assert_eq!(rt; record.map.len(), 2);
@@ -93,10 +79,17 @@ fn three_stations_at_other_values(rt: HostRuntime) -> Result<(), Fail> {
             "1,exit,1,0\n2,exit,1,0\n3,frozen,1,100\n",
             [3, 2, 1, 100],
         ),
+        // A station that starts on air goes on air in round 0.
+        (
+            "\"value\":70",
+            "\"value\":101",
+            "1,exit,2,0\n2,start,0,0\n3,frozen,2,60\n",
+            [3, 2, 1, 60],
+        ),
         (THREE, "", "", [0, 0, 0, 0]),
     ] {
         let scenario = changed(alloc, part, other)?;
-        let ended = run_on(alloc, DOMAINS, ROWS, &scenario)?;
+        let ended = run_on(alloc, COMMAND, DOMAINS, ROWS, &scenario)?;
         assert!(rt; settles(alloc, &ended, rows, counts)?, "{other}");
     }
     Ok(())
@@ -116,8 +109,66 @@ fn one_station(rt: HostRuntime) -> Result<(), Fail> {
             [1, 0, 1, 1_000_000_000_000],
         ),
     ] {
-        let ended = run_on(alloc, domains, "", scenario)?;
+        let ended = run_on(alloc, COMMAND, domains, "", scenario)?;
         assert!(rt; settles(alloc, &ended, rows, counts)?, "{rows}");
     }
+    Ok(())
+}
+
+// The three stations' scenario with stations of these numbers alone, without values.
+fn without_values(alloc: Global, stations: &[u32]) -> Result<String, Fail> {
+    let mut list = String::new(alloc);
+    for id in stations {
+        if !list.is_empty() {
+            list.push_str(",")?;
+        }
+        list.push_str(&format!(in alloc; "{{\"id\":{id},\"volume\":1}}")?)?;
+    }
+    changed(alloc, THREE, &list)
+}
+
+#[test]
+fn a_start_set_that_fits(rt: HostRuntime) -> Result<(), Fail> {
+    let alloc = rt.alloc();
+    let rows = "CO,14,14,1,2\nCO,15,15,1,2\nADJ+1,14,15,1,2\n";
+    let scenario = without_values(alloc, &[1, 2])?;
+    let ended = run_on(alloc, COMMAND, DOMAINS, rows, &scenario)?;
+    let text = "1,start,0,0\n2,start,0,0\n";
+    assert!(rt; settles(alloc, &ended, text, [2, 2, 0, 0])?);
+    let record = ended.finish.result.ok_or("no record")?;
+    assert_eq!(rt; record.ending, Ending::Done);
+    assert_eq!(rt; record.map.get(1), Some(15));
+    assert_eq!(rt; record.map.get(2), Some(14));
+    Ok(())
+}
+
+#[test]
+fn a_start_set_that_does_not_fit(rt: HostRuntime) -> Result<(), Fail> {
+    let alloc = rt.alloc();
+    let apart = "CO,14,14,1,2\nCO,15,15,1,2\nADJ+1,14,15,1,2\nADJ-1,15,14,1,2\n";
+    for (stations, rows) in [([1, 2, 3].as_slice(), ROWS), ([1, 2].as_slice(), apart)] {
+        let scenario = without_values(alloc, stations)?;
+        let ended = run_on(alloc, COMMAND, DOMAINS, rows, &scenario)?;
+        assert!(rt; stops(&ended, 6, "the start set does not fit\n"), "{rows}");
+        let record = ended.finish.result.ok_or("no record")?;
+        assert_eq!(rt; record.ending, Ending::StartRefuted);
+        assert!(rt; matches!(record.start, Shown::Unfit));
+        assert_eq!(rt; record.steps.as_slice().len(), 0);
+        assert_eq!(rt; record.map.len(), 0);
+        assert_eq!(rt; record.total, 0);
+    }
+    Ok(())
+}
+
+#[test]
+fn a_start_station_without_a_channel(rt: HostRuntime) -> Result<(), Fail> {
+    let alloc = rt.alloc();
+    let domains = "DOMAIN,1,14\nDOMAIN,2,16\nDOMAIN,3\n";
+    let scenario = without_values(alloc, &[1, 2, 3])?;
+    let ended = run_on(alloc, COMMAND, domains, "", &scenario)?;
+    assert!(rt; stops(&ended, 6, "the start set does not fit\n"));
+    let record = ended.finish.result.ok_or("no record")?;
+    assert_eq!(rt; record.ending, Ending::StartRefuted);
+    assert!(rt; matches!(record.start, Shown::NoChannel(2)));
     Ok(())
 }
