@@ -4,6 +4,7 @@ use crate::error::ScenarioErr;
 use crate::name::Name;
 use crate::scenario::read_scenario;
 use crate::tests::{TEXT, changed, outside, refusal, wrong};
+use std::alloc::AllocError;
 use std::test::Fail;
 
 #[test]
@@ -28,13 +29,16 @@ fn bytes_that_are_no_json(rt: HostRuntime) {
     }
 }
 
+// The start of an object with lists that nest so deep in a member that is passed over.
+fn nested(rt: &HostRuntime, depth: usize) -> Result<String, AllocError> {
+    let before = "[".repeat(rt.alloc(), depth)?;
+    let after = "]".repeat(rt.alloc(), depth)?;
+    format!(in rt.alloc(); "{{\"band\":{before}{after},")
+}
+
 #[test]
 fn texts_that_are_no_json(rt: HostRuntime) -> Result<(), Fail> {
-    let deep = format!(in rt.alloc();
-        "{{\"band\":{}{},",
-        "[".repeat(rt.alloc(), 200)?,
-        "]".repeat(rt.alloc(), 200)?
-    )?;
+    let (deep, deeper) = (nested(&rt, 127)?, nested(&rt, 200)?);
     for (part, other) in [
         ("}]}", "}]"),
         ("}]}", "}]}x"),
@@ -43,6 +47,7 @@ fn texts_that_are_no_json(rt: HostRuntime) -> Result<(), Fail> {
         ("{", r#"{"band":"\ud800","#),
         ("{", r#"{"band":NaN,"#),
         ("{", deep.as_str()),
+        ("{", deeper.as_str()),
         (r#""top":15"#, r#""top":+15"#),
         (r#""top":15"#, r#""top":015"#),
     ] {
@@ -58,11 +63,7 @@ fn texts_that_are_no_json(rt: HostRuntime) -> Result<(), Fail> {
 
 #[test]
 fn texts_written_otherwise(rt: HostRuntime) -> Result<(), Fail> {
-    let deep = format!(in rt.alloc();
-        "{{\"band\":{}{},",
-        "[".repeat(rt.alloc(), 100)?,
-        "]".repeat(rt.alloc(), 100)?
-    )?;
+    let deep = nested(&rt, 126)?;
     for (part, other) in [
         ("{", " \r\n\t{"),
         ("}]}", "} ] }\n"),
