@@ -32,7 +32,8 @@ fn decrements_from(alloc: Global, items: &[Value]) -> Result<Items<u32>, Scenari
 {
     let mut decrements = Vec::with_capacity(alloc, items.len())?;
     for (i, item) in items.iter().enumerate() {
-        decrements.push(decrement_in(item, i as u64 + 1)?)?;
+        let decrement = decrement_in(item, i as u64 + 1)?;
+        decrements.push(decrement)?;
     }
     Ok(Items::from_vec(decrements))
 }

@@ -10,4 +10,6 @@ pub mod name;
 mod roster;
 pub mod scenario;
 mod stations;
+#[cfg(test)]
+mod tests;
 mod workers;

@@ -15,7 +15,28 @@ use pack_defs::scenario::Scenario;
 use serde_json::Value;
 use std::alloc::Global;
 
-/// Reads a scenario: a JSON object with these members, in this order.
+/// Reads the scenario that the bytes of a file hold: a JSON object with these members. Members of other names are passed
+/// over, and of a name that stands twice the last counts. A number is a whole one from 0 to 2^64 - 1, written without
+/// point or exponent.
+///
+/// - `version`: 1.
+/// - `top`: the top channel, 14 to 51.
+/// - `opening`: the opening price, 1 to 1,000,000 cents per unit of volume.
+/// - `decrements`: a list of at most 1,000 numbers, each 1 to 1,000,000, together at most the opening price.
+/// - `stations`: a list of at most 4,096 objects, in any order. `id`: 0 to 4,294,967,295, each once. `volume`: 1 to
+///   1,000,000. `value`: 0 to 10^15 cents; null or absent for a station without a value.
+/// - `workers`: a list of 1 to 16 objects. `kind`: "cdcl". `budget`: 1 to 100,000 proof lines. `seed`: a number; 0 where
+///   it is absent.
+///
+/// Kind "walk", with a budget of 1 to 1,000,000 moves, is not taken yet. One worker at least has to be of kind "cdcl".
+///
+/// # Errors
+///
+/// The first refusal in the order of this list: `Syntax` for the bytes as a whole; then for each member `MissingField`,
+/// `WrongKind` and `OutOfLimit`, in this order. A list's length is looked at before its items, and the items in their
+/// order, each with its members in the order above. `SumOverOpening` comes after the last decrement, `RepeatedStation`
+/// after an id's limits, and `NoProver` after the last worker. A decrement that is no number, and a station or a worker
+/// that is no object, has its list's name and its place. `NoMemory` comes for want of memory alone.
 #[tactic(auto, unfolding(crate::specs::ScenarioOf::scenario_of))]
 pub fn read_scenario(alloc: Global, bytes: &[u8]) -> Result<Scenario, ScenarioErr>
     ensures reads { Reads (scenario_of bytes.now) result }

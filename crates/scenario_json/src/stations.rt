@@ -26,7 +26,8 @@ fn stations_from(alloc: Global, items: &[Value]) -> Result<Items<Station>, Scena
 {
     let mut roster = Roster::new(alloc);
     for (i, item) in items.iter().enumerate() {
-        roster.place(station_in(&roster, item, i as u64 + 1)?)?;
+        let station = station_in(&roster, item, i as u64 + 1)?;
+        roster.place(station)?;
     }
     Ok(Items::from_vec(roster.into_stations(alloc)?))
 }

@@ -31,7 +31,8 @@ fn workers_from(alloc: Global, items: &[Value]) -> Result<Items<Worker>, Scenari
 {
     let mut workers = Vec::with_capacity(alloc, items.len())?;
     for (i, item) in items.iter().enumerate() {
-        workers.push(worker_in(item, i as u64 + 1)?)?;
+        let worker = worker_in(item, i as u64 + 1)?;
+        workers.push(worker)?;
     }
     Ok(Items::from_vec(workers))
 }
