@@ -1,0 +1,141 @@
+-- A model of the packing formula gives a clean map of the set.
+use Rattle.std.proofs.Common.{◌≡◌, ℕ, Bool, true, false, not, cond, ◌==◌, ◌&&◌, ◌||◌, List, [], ◌∷◌, ◌++◌, map, filter, flat_map, Contains, refl, sym, ap, ◌∙◌, subst, ⊎_elim, eqb-true}
+use Rattle.std.specs.List.{list_any, list_all}
+use Rattle.std.proofs.lemmas.Bool.{and_parts, and_from, or_cases, or_left, or_right, or_from, both_ways, false_from_ne_true}
+use Rattle.std.proofs.lemmas.List.Folds.{list_all-append}
+use Rattle.clause_db.specs.declared.lit.Lit.{Lit}
+use Rattle.clause_db.specs.Clause.{lit_holds, clause_holds, Satisfies, pos_lit}
+use Rattle.pack_defs.proofs.Members.{is_in-gives}
+use Rattle.pack_defs.specs.declared.pair.Pair.{Pair}
+use Rattle.pack_defs.specs.Book.{BookView, domain_of, joins}
+use Rattle.pack_defs.specs.Lists.{is_in, has_entry, same_entry}
+use Rattle.pack_defs.specs.Packing.{IsClean, IsPacking}
+use Rattle.cnf_encode.specs.Formula.{variable_of, at_least_one, not_both, at_most_one, is_inside, packing_formula}
+use Rattle.cnf_encode.specs.Decode.{chosen, decoded}
+use Rattle.pack_defs.proofs.Words.{list_all-at, list_all-map, list_any-map, first-passes, entry, pair_same, has_entry-from_Contains}
+
+-- the three parts of the formula
+parts-hold : (book : BookView) (set : List ℕ) (model : ℕ → Bool) → Satisfies model (packing_formula book set) →
+    (list_all (clause_holds model) (map (at_least_one book set) set) ≡ true)
+    × (list_all (clause_holds model) (flat_map (λ s. at_most_one book set s (domain_of book s)) set) ≡ true)
+    × (list_all (clause_holds model) (map (λ p. not_both book set (p.f, p.a) (p.g, p.b)) (filter (is_inside set) book.pairs)) ≡ true)
+unfolding packing_formula
+parts-hold book set model h =
+    let A : List (List Lit) = map (at_least_one book set) set in
+    let B : List (List Lit) = flat_map (λ s. at_most_one book set s (domain_of book s)) set in
+    let C : List (List Lit) = map (λ p. not_both book set (p.f, p.a) (p.g, p.b)) (filter (is_inside set) book.pairs) in
+    let outer = and_parts (list_all (clause_holds model) (A ++ B)) (list_all (clause_holds model) C) (sym (list_all-append (clause_holds model) (A ++ B) C) ∙ h) in
+    let inner = and_parts (list_all (clause_holds model) A) (list_all (clause_holds model) B) (sym (list_all-append (clause_holds model) A B) ∙ outer.0) in
+    (inner.0, inner.1, outer.1)
+
+-- the chosen channel of a station of the set is of its domain, and its variable is true
+pub chosen-ok : (book : BookView) (set : List ℕ) (model : ℕ → Bool) (s : ℕ) → Satisfies model (packing_formula book set) → is_in set s ≡ true → (model (variable_of book set (s, chosen book set model s)) ≡ true) × (is_in (domain_of book s) (chosen book set model s) ≡ true)
+chosen-ok book set model s h m =
+    let all : list_all (λ s. clause_holds model (at_least_one book set s)) set ≡ true = sym (list_all-map (clause_holds model) (at_least_one book set) set) ∙ (parts-hold book set model h).0 in
+    let one : clause_holds model (at_least_one book set s) ≡ true = list_all-at (λ s. clause_holds model (at_least_one book set s)) set s all m in
+    first-passes (λ c. model (variable_of book set (s, c))) (domain_of book s) (sym (list_any-map (lit_holds model) (λ c. pos_lit (variable_of book set (s, c))) (domain_of book s)) ∙ one)
+
+-- an entry of the decoded map is a station of the set on its chosen channel
+decoded-entry : (book : BookView) (set : List ℕ) (model : ℕ → Bool) (stations : List ℕ) (x : ℕ × ℕ) → has_entry (map (λ s. (s, chosen book set model s)) stations) x ≡ true → (is_in stations x.0 ≡ true) × (x.1 ≡ chosen book set model x.0)
+decoded-entry book set model [] x h = cc
+decoded-entry book set model (s ∷ ss) x h =
+    ⊎_elim
+    (λ e.
+    let both = and_parts (s == x.0) (chosen book set model s == x.1) e in
+    let first : s ≡ x.0 = eqb-true s x.0 both.0 in
+    let second : chosen book set model s ≡ x.1 = eqb-true (chosen book set model s) x.1 both.1 in
+    (or_left (s == x.0) (is_in ss x.0) both.0, sym second ∙ ap (chosen book set model) first))
+    (λ r. let rest = decoded-entry book set model ss x r in (or_right (s == x.0) (is_in ss x.0) rest.0, rest.1))
+    (or_cases (same_entry (s, chosen book set model s) x) (has_entry (map (λ s. (s, chosen book set model s)) ss) x) h)
+
+-- the variable of an entry of the decoded map is true
+decoded-true : (book : BookView) (set : List ℕ) (model : ℕ → Bool) (x : ℕ × ℕ) → Satisfies model (packing_formula book set) → has_entry (decoded book set model) x ≡ true → model (variable_of book set x) ≡ true
+decoded-true book set model x h k =
+    let e = decoded-entry book set model set x k in
+    subst (λ c. model (variable_of book set (x.0, c)) ≡ true) (sym e.1) (chosen-ok book set model x.0 h e.0).0
+
+both-false : (v w : Bool) → v ≡ true → w ≡ true → (not v || (not w || false)) ≡ false
+both-false true true e f = refl
+both-false true false e f = cc
+both-false false w e f = cc
+
+-- the pair of two entries whose variables are true is not kept apart
+pair-false : (book : BookView) (set : List ℕ) (model : ℕ → Bool) (x y : ℕ × ℕ) (p : Pair) →
+    model (variable_of book set x) ≡ true → model (variable_of book set y) ≡ true →
+    ((p.f == x.0) && ((p.a == x.1) && ((p.g == y.0) && (p.b == y.1)))) ≡ true →
+    clause_holds model (not_both book set (p.f, p.a) (p.g, p.b)) ≡ false
+pair-false book set model x y p mx my j =
+    let a = and_parts (p.f == x.0) ((p.a == x.1) && ((p.g == y.0) && (p.b == y.1))) j in
+    let b = and_parts (p.a == x.1) ((p.g == y.0) && (p.b == y.1)) a.1 in
+    let c = and_parts (p.g == y.0) (p.b == y.1) b.1 in
+    let first : entry p.f p.a ≡ x = pair_same (entry p.f p.a) x (eqb-true p.f x.0 a.0) (eqb-true p.a x.1 b.0) in
+    let second : entry p.g p.b ≡ y = pair_same (entry p.g p.b) y (eqb-true p.g y.0 c.0) (eqb-true p.b y.1 c.1) in
+    both-false (model (variable_of book set (p.f, p.a))) (model (variable_of book set (p.g, p.b)))
+    (subst (λ z. model (variable_of book set z) ≡ true) (sym first) mx)
+    (subst (λ z. model (variable_of book set z) ≡ true) (sym second) my)
+
+swapped : (v w : Bool) → (not v || (not w || false)) ≡ (not w || (not v || false))
+swapped true true = refl
+swapped true false = refl
+swapped false true = refl
+swapped false false = refl
+
+-- the pair is within the set where it joins entries of stations of the set
+within : (set : List ℕ) (p : Pair) (x y : ℕ × ℕ) → is_in set x.0 ≡ true → is_in set y.0 ≡ true → joins p x y ≡ true → is_inside set p ≡ true
+within set p x y sx sy j =
+    ⊎_elim
+    (λ e.
+    let a = and_parts (p.f == x.0) ((p.a == x.1) && ((p.g == y.0) && (p.b == y.1))) e in
+    let b = and_parts (p.a == x.1) ((p.g == y.0) && (p.b == y.1)) a.1 in
+    let c = and_parts (p.g == y.0) (p.b == y.1) b.1 in
+    and_from (is_in set p.f) (is_in set p.g) (subst (λ z. is_in set z ≡ true) (sym (eqb-true p.f x.0 a.0)) sx) (subst (λ z. is_in set z ≡ true) (sym (eqb-true p.g y.0 c.0)) sy))
+    (λ e.
+    let a = and_parts (p.f == y.0) ((p.a == y.1) && ((p.g == x.0) && (p.b == x.1))) e in
+    let b = and_parts (p.a == y.1) ((p.g == x.0) && (p.b == x.1)) a.1 in
+    let c = and_parts (p.g == x.0) (p.b == x.1) b.1 in
+    and_from (is_in set p.f) (is_in set p.g) (subst (λ z. is_in set z ≡ true) (sym (eqb-true p.f y.0 a.0)) sy) (subst (λ z. is_in set z ≡ true) (sym (eqb-true p.g x.0 c.0)) sx))
+    (or_cases ((p.f == x.0) && ((p.a == x.1) && ((p.g == y.0) && (p.b == y.1)))) ((p.f == y.0) && ((p.a == y.1) && ((p.g == x.0) && (p.b == x.1)))) j)
+
+kept-part : (q : List Lit → Bool) (h : Pair → List Lit) (p : Pair) (rest : List Pair) (b : Bool) → list_all q (map h (cond b (p ∷ rest) rest)) ≡ true → (b ≡ true → q (h p) ≡ true) × (list_all q (map h rest) ≡ true)
+kept-part q h p rest true e = let both = and_parts (q (h p)) (list_all q (map h rest)) e in (λ _. both.0, both.1)
+kept-part q h p rest false e = (λ (f : false ≡ true). cc, e)
+
+-- no pair within the set joins two entries whose variables are true
+no-pair : (book : BookView) (set : List ℕ) (model : ℕ → Bool) (x y : ℕ × ℕ) (ps : List Pair) →
+    model (variable_of book set x) ≡ true → model (variable_of book set y) ≡ true → is_in set x.0 ≡ true → is_in set y.0 ≡ true →
+    list_all (clause_holds model) (map (λ p. not_both book set (p.f, p.a) (p.g, p.b)) (filter (is_inside set) ps)) ≡ true →
+    list_any (λ p. joins p x y) ps ≡ false
+no-pair book set model x y [] mx my sx sy h = refl
+no-pair book set model x y (p ∷ ps) mx my sx sy h =
+    let parts = kept-part (clause_holds model) (λ p. not_both book set (p.f, p.a) (p.g, p.b)) p (filter (is_inside set) ps) (is_inside set p) h in
+    let apart : joins p x y ≡ true → ⊥ = λ j.
+    let yes : clause_holds model (not_both book set (p.f, p.a) (p.g, p.b)) ≡ true = parts.0 (within set p x y sx sy j) in
+    let no : clause_holds model (not_both book set (p.f, p.a) (p.g, p.b)) ≡ false =
+    ⊎_elim (λ e. pair-false book set model x y p mx my e) (λ e. pair-false book set model y x p my mx e)
+    (or_cases ((p.f == x.0) && ((p.a == x.1) && ((p.g == y.0) && (p.b == y.1)))) ((p.f == y.0) && ((p.a == y.1) && ((p.g == x.0) && (p.b == x.1)))) j) in
+    both_ways (clause_holds model (not_both book set (p.f, p.a) (p.g, p.b))) no yes in
+    or_from (joins p x y) (list_any (λ p. joins p x y) ps) (false_from_ne_true (joins p x y) apart) (no-pair book set model x y ps mx my sx sy parts.1)
+
+stations-of : (book : BookView) (set : List ℕ) (model : ℕ → Bool) (stations : List ℕ) → map (λ x. x.0) (map (λ s. entry s (chosen book set model s)) stations) ≡ stations
+stations-of book set model [] = refl
+stations-of book set model (s ∷ ss) = ap (λ rest. s ∷ rest) (stations-of book set model ss)
+
+-- the decoded map has exactly the set's stations
+decoded-stations : (book : BookView) (set : List ℕ) (model : ℕ → Bool) → map (λ x. x.0) (decoded book set model) ≡ set
+decoded-stations book set model = stations-of book set model set
+
+-- the decoded map is clean
+decoded-clean : (book : BookView) (set : List ℕ) (model : ℕ → Bool) → Satisfies model (packing_formula book set) → IsClean book (decoded book set model)
+decoded-clean book set model h = record {
+  on_domain = λ x c.
+      let e = decoded-entry book set model set x (has_entry-from_Contains (decoded book set model) x c) in
+      subst (λ d. Contains (domain_of book x.0) d) (sym e.1) (is_in-gives (domain_of book x.0) (chosen book set model x.0) (chosen-ok book set model x.0 h e.0).1);
+  apart = λ x y c d.
+      let hx = has_entry-from_Contains (decoded book set model) x c in
+      let hy = has_entry-from_Contains (decoded book set model) y d in
+      no-pair book set model x y book.pairs (decoded-true book set model x h hx) (decoded-true book set model y h hy) (decoded-entry book set model set x hx).0 (decoded-entry book set model set y hy).0 (parts-hold book set model h).2;
+}
+
+-- the map that a model says is clean and of exactly the set
+pub decoded-packing : (book : BookView) (set : List ℕ) (model : ℕ → Bool) → Satisfies model (packing_formula book set) → IsPacking book set (decoded book set model)
+decoded-packing book set model h = record { stations = decoded-stations book set model; clean = decoded-clean book set model h }
