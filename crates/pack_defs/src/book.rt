@@ -1,6 +1,7 @@
-ghost use Rattle.std.specs.Prelude.{◌≡◌, ◌≤◌, ◌<◌, IfOk, IsTrue, IsFalse, MatchOption, length, slice_index, map, filter};
+ghost use Rattle.std.specs.Prelude.{◌≡◌, ◌≤◌, ◌<◌, ◌==◌, IfOk, IsTrue, IsFalse, MatchOption, length, slice_index, map, filter};
+ghost use Rattle.std.specs.List.Sorted.{IsNonDecreasingBy};
 ghost use Rattle.pack_defs.specs.Lists.{is_ascending, is_in};
-ghost use Rattle.pack_defs.specs.Book.{AreInOrder, IsInOrder, channels_in, cut_book, cut_domain, domain_of, is_forbidden, is_within, pairs_ascend, stations_of};
+ghost use Rattle.pack_defs.specs.Book.{AreInOrder, IsBySecond, IsInOrder, channels_in, cut_book, cut_domain, domain_of, is_forbidden, is_within, pairs_ascend, stations_of};
 
 use crate::domain::Domain;
 use crate::items::Items;
@@ -15,17 +16,19 @@ pub struct Book {
     top: u8,
     domains: Vec<Domain>,
     pairs: Vec<Pair>,
+    // The same pairs, by second station, so that those of one station stand together from either end.
+    by_second: Vec<Pair>,
 }
 
 impl Model for Book {
     ghost use Rattle.std.specs.Prelude.{length, ◌≤◌};
-    ghost use Rattle.pack_defs.specs.Book.{BookView, IsInOrder};
+    ghost use Rattle.pack_defs.specs.Book.{BookView, IsBySecond, IsInOrder};
 
     ghost Value = { BookView };
 
     ghost view = { λ b. record { top = b.top; domains = b.domains.items; pairs = b.pairs.items } };
 
-    ghost invariant = { λ b. IsInOrder (record { top = b.top; domains = b.domains.items; pairs = b.pairs.items }) × (length b.domains.items ≤ 8192) };
+    ghost invariant = { λ b. IsInOrder (record { top = b.top; domains = b.domains.items; pairs = b.pairs.items }) × (length b.domains.items ≤ 8192) × IsBySecond b.pairs.items b.by_second.items };
 }
 
 impl Book {
@@ -50,10 +53,12 @@ impl Book {
             cut.push(cut_domain(alloc, top, *id, domains)?)?;
         }
         let kept = pairs_within(alloc, &cut, pairs)?;
+        let by_second = sorted_by_second(alloc, &kept)?;
         Ok(Book {
             top,
             domains: cut,
             pairs: kept,
+            by_second,
         })
     }
 
@@ -104,6 +109,20 @@ impl Book {
         ensures { result.now ≡ self.now.pairs }
     {
         &self.pairs
+    }
+
+    /// The pairs whose first station is `f`, ascending. It searches by halves, twice.
+    pub fn pairs_from(&self, f: u32) -> &[Pair]
+        ensures { result.now ≡ filter (λ p. p.f == f) self.now.pairs }
+    {
+        first_is(&self.pairs, f)
+    }
+
+    /// The pairs whose second station is `g`, ascending. It searches by halves, twice.
+    pub fn pairs_to(&self, g: u32) -> &[Pair]
+        ensures { result.now ≡ filter (λ p. p.g == g) self.now.pairs }
+    {
+        second_is(&self.by_second, g)
     }
 
     /// Whether station `s` on channel `a` and station `t` on channel `b` may not stand together, that is, whether the book
@@ -170,6 +189,37 @@ fn pairs_within(alloc: Global, domains: &[Domain], pairs: &[Pair]) -> Result<Vec
         }
     }
     Ok(kept)
+}
+
+// The pairs by second station, those of each in the order that they have.
+fn sorted_by_second(alloc: Global, pairs: &[Pair]) -> Result<Vec<Pair>, NoMemory>
+    ensures { IfOk result (λ sorted. IsBySecond pairs.now sorted.items) }
+{
+    let mut sorted = Vec::from_slice(alloc, pairs)?;
+    sorted.sort_by_key(|p| p.g)?;
+    Ok(sorted)
+}
+
+// Those whose first station is `f`, of pairs whose first station doesn't fall, by halves.
+fn first_is(pairs: &[Pair], f: u32) -> &[Pair]
+    requires { IsNonDecreasingBy (λ p. p.f) pairs.now }
+    ensures { result.now ≡ filter (λ p. p.f == f) pairs.now }
+{
+    let begin = pairs.partition_point(|p| p.f < f);
+    let rest = &pairs[begin..];
+    let count = rest.partition_point(|p| p.f <= f);
+    &rest[..count]
+}
+
+// Those whose second station is `g`, of pairs whose second station doesn't fall, by halves.
+fn second_is(pairs: &[Pair], g: u32) -> &[Pair]
+    requires { IsNonDecreasingBy (λ p. p.g) pairs.now }
+    ensures { result.now ≡ filter (λ p. p.g == g) pairs.now }
+{
+    let begin = pairs.partition_point(|p| p.g < g);
+    let rest = &pairs[begin..];
+    let count = rest.partition_point(|p| p.g <= g);
+    &rest[..count]
 }
 
 #[cfg(test)]
