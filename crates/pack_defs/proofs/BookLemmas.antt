@@ -7,7 +7,7 @@ use Rattle.pack_defs.specs.declared.pair.Pair.{Pair}
 use Rattle.pack_defs.specs.Book.{BookView, AreInOrder, IsInOrder, channels_in, cut_book, cut_domain, is_forbidden, is_within, joins, pairs_ascend}
 use Rattle.pack_defs.specs.Lists.{is_ascending, is_in}
 use Rattle.pack_defs.proofs.Chains.{ascending-filter, pairs_ascend-filter}
-use Rattle.pack_defs.proofs.Members.{Contains-cons_cases, Contains-map, Contains-nil, is_in-from}
+use Rattle.pack_defs.proofs.Members.{Contains-cons_cases, Contains-from_filter, Contains-map, Contains-nil, is_in-from, list_all-from}
 use Rattle.pack_defs.proofs.Searches.{is_pair}
 use Rattle.pack_defs.proofs.Words.{below-later, ascending-rest}
 
@@ -78,10 +78,14 @@ channels-cut top domains (x ∷ xs) h =
 pub cut-in_order : (top : ℕ) (ids : List ℕ) (domains : List Domain) → is_ascending ids ≡ true → AreInOrder domains → AreInOrder (map (cut_domain top domains) ids)
 cut-in_order top ids domains a o = record { stations = rw (stations-cut top domains ids) a; channels = channels-cut top domains ids o.channels }
 
+list_all-filter_itself : {X : Type 0} (p : X → Bool) (xs : List X) → list_all p (filter p xs) ≡ true
+list_all-filter_itself p xs = list_all-from p (filter p xs) (λ x c. (Contains-from_filter p xs x c).1)
+
 pub cut_book-in_order : (top : ℕ) (ids : List ℕ) (domains : List Domain) (pairs : List Pair) → is_ascending ids ≡ true → AreInOrder domains → pairs_ascend pairs ≡ true → IsInOrder (cut_book top ids domains pairs)
 cut_book-in_order top ids domains pairs a o p = record {
   domains = cut-in_order top ids domains a o;
   pairs = pairs_ascend-filter (is_within (map (cut_domain top domains) ids)) pairs p;
+  on_domains = list_all-filter_itself (is_within (map (cut_domain top domains) ids)) pairs;
 }
 
 four : (a b c d : Bool) → ((a || b) || (c || d)) ≡ ((a || c) || (b || d))

@@ -52,15 +52,20 @@ pairs_ascend [] = true
 pairs_ascend (p ∷ []) = true
 pairs_ascend (p ∷ q ∷ ps) = comes_before p q && pairs_ascend (q ∷ ps)
 
+-- both entries of the pair are on channels of these domains
+abbrev pub is_within : List Domain → Pair → Bool
+is_within domains p = is_in (channels_in domains p.f) p.a && is_in (channels_in domains p.g) p.b
+
 -- domains ascend by station, and the channels of each ascend
 pub record AreInOrder (domains : List Domain) : Type 0 where
   pub stations : IsTrue (is_ascending (map (λ d. d.station) domains))
   pub channels : IsTrue (list_all (λ d. is_ascending d.channels) domains)
 
--- a book's domains and pairs are in order
+-- a book's domains and pairs are in order, and each pair stands on the domains
 pub record IsInOrder (book : BookView) : Type 0 where
   pub domains : AreInOrder book.domains
   pub pairs : IsTrue (pairs_ascend book.pairs)
+  pub on_domains : IsTrue (list_all (is_within book.domains) book.pairs)
 
 -- the same pairs by second station: it doesn't fall, and those of each stand in the order that they have in the one list
 pub record IsBySecond (pairs sorted : List Pair) : Type 0 where
@@ -70,10 +75,6 @@ pub record IsBySecond (pairs sorted : List Pair) : Type 0 where
 -- a station with its channels up to the top one (the domain constraint of the SATFC papers, under a clearing target)
 abbrev pub cut_domain : ℕ → List Domain → ℕ → Domain
 cut_domain top domains s = record { station = s; channels = filter (λ c. nat_le c top) (channels_in domains s) }
-
--- both entries of the pair are on channels of these domains
-abbrev pub is_within : List Domain → Pair → Bool
-is_within domains p = is_in (channels_in domains p.f) p.a && is_in (channels_in domains p.g) p.b
 
 -- The book of these stations: their domains up to the top channel, and the pairs that stand on them (the repacking
 -- problem of the SATFC papers).

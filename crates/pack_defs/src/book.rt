@@ -62,7 +62,8 @@ impl Book {
         })
     }
 
-    /// The number of stations. Each book is in order: its stations, the channels of each, and its pairs ascend.
+    /// The number of stations. Each book is in order: its stations, the channels of each, and its pairs ascend, and each
+    /// pair is of channels of its two stations.
     pub fn len(&self) -> u32
         ensures count { result ≡ length self.now.domains }
         ensures few { result ≤ 8192 }
