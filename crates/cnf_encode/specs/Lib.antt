@@ -1,3 +1,4 @@
 pub mod Formula
+pub mod Numbering
 pub mod Decode
 pub mod Examples
