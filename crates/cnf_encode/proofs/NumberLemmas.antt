@@ -1,9 +1,9 @@
 -- The number of a choice: the variables of the stations before, and the place of its channel.
-use Rattle.std.proofs.Common.{◌≡◌, ℕ, zero, suc, ◌+◌, ◌*◌, ◌<◌, ◌≤◌, Bool, true, false, ◌==◌, ◌&&◌, ◌||◌, if◌then◌else◌, List, [], ◌∷◌, ◌++◌, cond, map, length, get_or, take, refl, sym, ap, ◌∙◌, arith, subst, ⊎_elim, eqb-true, eq-eqb, ne_eqb, length-append, sum_by}
+use Rattle.std.proofs.Common.{◌≡◌, ℕ, zero, suc, ◌+◌, ◌*◌, ◌<◌, ◌≤◌, Bool, true, false, ◌==◌, ◌&&◌, ◌||◌, if◌then◌else◌, List, [], ◌∷◌, ◌++◌, cond, map, length, get_or, take, refl, sym, ap, ap₂, ◌∙◌, arith, subst, ⊎_elim, eqb-true, eq-eqb, ne_eqb, length-append, sum_by}
 use Rattle.std.specs.List.{count_by, list_any, flat_map}
 use Rattle.std.proofs.Math.Bool.{and-false}
 use Rattle.std.proofs.lemmas.Bool.{and_parts, and_from, both_ways, cases_lt, cond-true, cond-false, or_cases, or_from, or_left, or_parts, or_right}
-use Rattle.std.proofs.lemmas.List.{get_or_append_left, get_or_push, length-map, take_more}
+use Rattle.std.proofs.lemmas.List.{get_or_default, length-map, map-append, take_all, take_more}
 use Rattle.std.proofs.lemmas.List.Folds.{list_any_at}
 use Rattle.std.proofs.lemmas.List.Concat.{flat_map-append}
 use Rattle.std.proofs.lemmas.List.Sums.{sum_by-append}
@@ -12,7 +12,7 @@ use Rattle.pack_defs.specs.Lists.{is_in, is_ascending, same_entry, has_entry}
 use Rattle.pack_defs.proofs.BookLemmas.{channels_in-none}
 use Rattle.pack_defs.proofs.Words.{below-later, ascending-rest, entry, same_entry-itself}
 use Rattle.cnf_encode.specs.Formula.{choices, number_of, variable_of, variables_in}
-use Rattle.cnf_encode.specs.Numbering.{AreOffsets, IsCount}
+use Rattle.cnf_encode.specs.ByStation.{AreOffsets, IsCount}
 use Rattle.cnf_encode.proofs.AscendingLemmas.{ascending-take, count-most}
 
 -- the choices of one station
@@ -114,3 +114,14 @@ pub variable-read : (book : BookView) (set channels : List ℕ) (before i j s c 
 variable-read book set channels before i j s c own a d l e k f counted =
     let at = variable-at book set i j s c a (subst (λ z. is_ascending z ≡ true) own d) l e (subst (λ z. j < length z) own k) (subst (λ z. get_or z j 0 ≡ c) own f) in
     omega (arith, at)
+
+-- one variable more of a station
+pub variables-push : (f : ℕ → ℕ) (channels : List ℕ) (j v : ℕ) (variables more : List ℕ) → j < length channels → v ≡ f (get_or channels j 0) → variables ≡ map f (take j channels) → more ≡ variables ++ v ∷ [] → more ≡ map f (take (j + 1) channels)
+variables-push f channels j v variables more l own so_far e =
+    e ∙ ap₂ (λ xs x. xs ++ x ∷ []) so_far own ∙ sym (ap (map f) (take_more channels j 0 l) ∙ map-append f (take j channels) (get_or channels j 0 ∷ []))
+
+-- the last offset counts all
+pub last-offset : (book : BookView) (set offsets : List ℕ) (n : ℕ) → AreOffsets book set offsets → n ≡ get_or offsets (length set) n → n ≡ variables_in book set
+last-offset book set offsets n h e =
+    let within : length set < length offsets = omega (arith, h.one_more) in
+    e ∙ get_or_default offsets (length set) n 0 within ∙ h.before (length set) (omega arith) ∙ ap (variables_in book) (take_all (length set) set (omega arith))

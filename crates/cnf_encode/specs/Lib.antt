@@ -1,4 +1,4 @@
 pub mod Formula
-pub mod Numbering
+pub mod ByStation
 pub mod Decode
 pub mod Examples

@@ -2,7 +2,7 @@ ghost use Rattle.std.specs.Prelude.{◌≡◌, ◌+◌, ◌<◌, ◌≤◌, IfOk
 ghost use Rattle.pack_defs.specs.Lists.{is_ascending, is_in};
 ghost use Rattle.pack_defs.specs.Book.{domain_of};
 ghost use Rattle.cnf_encode.specs.Formula.{variable_of};
-ghost use Rattle.cnf_encode.specs.Numbering.{AreOffsets, IsCount};
+ghost use Rattle.cnf_encode.specs.ByStation.{AreOffsets, IsCount};
 
 use pack_defs::book::Book;
 use std::alloc::{AllocError as NoMemory, Global};

@@ -1,5 +1,5 @@
 use Rattle.std.proofs.Common.{take}
-use Rattle.cnf_encode.specs.Numbering.{IsCount}
+use Rattle.cnf_encode.specs.ByStation.{IsCount}
 use Rattle.cnf_encode.proofs.NumberLemmas.{OffsetsTo}
 use Rattle.cnf_encode.proofs.numbering.offsets.Given as goal
 

@@ -1,5 +1,5 @@
 use Rattle.std.proofs.Common.{take}
-use Rattle.cnf_encode.specs.Numbering.{IsCount}
+use Rattle.cnf_encode.specs.ByStation.{IsCount}
 use Rattle.cnf_encode.proofs.numbering.var.Given as goal
 
 abbrev pub invariant-loop-i : goal.invariant-loop-i

@@ -1,5 +1,6 @@
--- How the variables of a set are counted, station by station.
-use Rattle.std.specs.Prelude.{ℕ, ◌≡◌, ◌+◌, ◌*◌, ◌≤◌, List, length, take, slice_index, count_by}
+-- What the formula of a set has from each of its stations.
+use Rattle.std.specs.Prelude.{ℕ, ◌≡◌, ◌==◌, ◌+◌, ◌*◌, ◌≤◌, List, length, take, filter, slice_index, count_by}
+use Rattle.pack_defs.specs.declared.pair.Pair.{Pair}
 use Rattle.pack_defs.specs.Book.{BookView, stations_of}
 use Rattle.pack_defs.specs.Lists.{is_in}
 use Rattle.cnf_encode.specs.Formula.{variables_in}
@@ -15,3 +16,7 @@ pub record IsCount (book : BookView) (stations : List ℕ) (count : ℕ) : Type 
 pub record AreOffsets (book : BookView) (set offsets : List ℕ) : Type 0 where
   pub one_more : length offsets ≡ length set + 1
   pub before : (i : ℕ) → i ≤ length set → slice_index offsets i ≡ variables_in book (take i set)
+
+-- the pairs of the book from a station to one of the set
+abbrev pub pairs_inside_from : BookView → List ℕ → ℕ → List Pair
+pairs_inside_from book set f = filter (λ p. is_in set p.g) (filter (λ p. p.f == f) book.pairs)
