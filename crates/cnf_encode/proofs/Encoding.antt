@@ -4,7 +4,7 @@ use Rattle.std.specs.List.{list_any, list_all}
 use Rattle.std.proofs.lemmas.Bool.{and_parts, and_from, or_cases, or_left, or_right, both_ways}
 use Rattle.std.proofs.lemmas.List.Folds.{list_all-append, list_any-append}
 use Rattle.clause_db.specs.declared.lit.Lit.{Lit}
-use Rattle.clause_db.specs.Clause.{lit_holds, clause_holds, Satisfies, pos_lit}
+use Rattle.clause_db.specs.Clause.{clause_holds, Satisfies}
 use Rattle.pack_defs.proofs.Members.{is_in-from, list_all-from}
 use Rattle.pack_defs.specs.declared.pair.Pair.{Pair}
 use Rattle.pack_defs.specs.Book.{BookView, IsInOrder, domain_of, is_forbidden}
@@ -14,7 +14,7 @@ use Rattle.pack_defs.proofs.BookLemmas.{channels_in-ascend}
 use Rattle.cnf_encode.specs.Formula.{choices, number_of, variable_of, station_variables, at_least_one, not_both, at_most_one, is_inside, pair_clause, packing_formula}
 use Rattle.cnf_encode.specs.Decode.{model_of}
 use Rattle.cnf_encode.proofs.Decoding.{some-holds}
-use Rattle.pack_defs.proofs.Words.{list_all-map, list_any-map, list_all-flat_map, same_entry-same, same_entry-itself, Contains-from_has_entry, below-later, ascending-rest, station-in, one-entry, pair-forbids}
+use Rattle.pack_defs.proofs.Words.{list_all-map, list_all-flat_map, same_entry-same, same_entry-itself, Contains-from_has_entry, below-later, ascending-rest, station-in, one-entry, pair-forbids}
 
 -- a clean map of exactly an ascending set, where domains ascend
 record IsMapOf (book : BookView) (set : List ℕ) (entries : List (ℕ × ℕ)) : Type 0 where
