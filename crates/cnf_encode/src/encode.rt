@@ -1,5 +1,6 @@
 ghost use Rattle.std.specs.Prelude.{◌≡◌, ◌<◌, ◌++◌, IfOk, IsTrue, OnOk, filter, length, map, slice_index};
 ghost use Rattle.std.specs.List.{flat_map};
+ghost use Rattle.clause_db.specs.Clause.{neg_lit};
 ghost use Rattle.clause_db.specs.Clauses.{ClausesWithin};
 ghost use Rattle.pack_defs.specs.Book.{IsInOrder, domain_of};
 ghost use Rattle.pack_defs.specs.Lists.{is_ascending, is_in};
@@ -14,8 +15,9 @@ use std::alloc::{AllocError as NoMemory, Global};
 
 /// The packing formula of an ascending set of stations: each is on some channel of its domain, none is on two, and no pair
 /// of the book between two of them stands. These are the clauses of the SATFC papers (Fréchette, Newman and
-/// Leyton-Brown), over variables numbered from 1 as in DIMACS CNF. It looks only at the set's own domains and pairs, and
-/// costs what the formula does. The only error is want of memory.
+/// Leyton-Brown), over variables numbered from 1 as in DIMACS CNF, and each literal is of one of these. It reads the
+/// domains of these stations and the pairs from them, found by halves, and nothing else of the book. The only error is
+/// want of memory.
 pub fn encode(alloc: Global, book: &Book, set: &[u32]) -> Result<ClauseList, NoMemory>
     requires { IsTrue (is_ascending set.now) }
     ensures clauses { IfOk result (λ formula. formula.list ≡ packing_formula book.now set.now) }
@@ -152,16 +154,17 @@ fn add_not_both(v: u64, others: &[u64], formula: &mut ClauseList) -> Result<(), 
 fn not_both(v: u64, w: u64) -> [Lit; 2]
     ensures { result ≡ not_both v w }
 {
-    [
-        Lit {
-            var: v,
-            positive: false,
-        },
-        Lit {
-            var: w,
-            positive: false,
-        },
-    ]
+    [negative(v), negative(w)]
+}
+
+// The literal that is true where the variable is false.
+fn negative(var: u64) -> Lit
+    ensures { result ≡ neg_lit var }
+{
+    Lit {
+        var,
+        positive: false,
+    }
 }
 
 // No pair of the book from the station at place `i` of the set to another one of the set stands.
