@@ -13,7 +13,7 @@ use Rattle.cnf_encode.specs.Formula.{at_least_one, at_most_one, choices, is_insi
 use Rattle.cnf_encode.proofs.Encoding.{choices-have}
 
 -- one of so many variables
-abbrev VarWithin : ℕ → ℕ → Type 0
+abbrev pub VarWithin : ℕ → ℕ → Type 0
 VarWithin vars v = (1 ≤ v) × (v ≤ vars)
 
 number-within : (ys : List (ℕ × ℕ)) (x : ℕ × ℕ) → has_entry ys x ≡ true → VarWithin (length ys) (number_of ys x)
@@ -26,7 +26,8 @@ number-within (y ∷ ys) x h =
           (omega arith, omega (arith, rest.1))
     ]) refl
 
-variable-within : (book : BookView) (set : List ℕ) (s c : ℕ) → is_in set s ≡ true → is_in (domain_of book s) c ≡ true → VarWithin (variables_in book set) (variable_of book set (s, c))
+-- the variable of a choice is one of the formula's
+pub variable-within : (book : BookView) (set : List ℕ) (s c : ℕ) → is_in set s ≡ true → is_in (domain_of book s) c ≡ true → VarWithin (variables_in book set) (variable_of book set (s, c))
 variable-within book set s c h k = number-within (choices book set) (s, c) (choices-have book set s c h k)
 
 station-within : (book : BookView) (set : List ℕ) (s : ℕ) → Contains set s → All (VarWithin (variables_in book set)) (station_variables book set s)

@@ -24,7 +24,7 @@ pub fn encode(alloc: Global, book: &Book, set: &[u32]) -> Result<ClauseList, NoM
     ensures variables { IfOk result (λ formula. formula.vars ≡ variables_in book.now set.now) }
     ensures within { IfOk result (λ formula. ClausesWithin formula.vars formula.list) }
 {
-    // A book is in order.
+    // Each book is in order, as `len` says.
     let _stations = book.len();
     let offsets = offsets(alloc, book, set)?;
     let mut formula = ClauseList::new(alloc, offsets[set.len()]);
