@@ -94,7 +94,7 @@ four false true true d = refl
 four false true false d = refl
 four false false c d = refl
 
-list_any-or : {X : Type 0} (p q : X → Bool) (xs : List X) → list_any (λ x. p x || q x) xs ≡ (list_any p xs || list_any q xs)
+pub list_any-or : {X : Type 0} (p q : X → Bool) (xs : List X) → list_any (λ x. p x || q x) xs ≡ (list_any p xs || list_any q xs)
 list_any-or p q [] = refl
 list_any-or p q (x ∷ xs) =
     ap (λ b. (p x || q x) || b) (list_any-or p q xs) ∙ four (p x) (q x) (list_any p xs) (list_any q xs)
@@ -103,7 +103,7 @@ list_any-or p q (x ∷ xs) =
 pub is_forbidden-either : (book : BookView) (s a t b : ℕ) → is_forbidden book (s, a) (t, b) ≡ (list_any (is_pair (record { f = s; a = a; g = t; b = b })) book.pairs || list_any (is_pair (record { f = t; a = b; g = s; b = a })) book.pairs)
 is_forbidden-either book s a t b = list_any-or (is_pair (record { f = s; a = a; g = t; b = b })) (is_pair (record { f = t; a = b; g = s; b = a })) book.pairs
 
-list_any-same : {X : Type 0} (p q : X → Bool) → ((x : X) → p x ≡ q x) → (xs : List X) → list_any p xs ≡ list_any q xs
+pub list_any-same : {X : Type 0} (p q : X → Bool) → ((x : X) → p x ≡ q x) → (xs : List X) → list_any p xs ≡ list_any q xs
 list_any-same p q h [] = refl
 list_any-same p q h (x ∷ xs) = ap₂ (λ (b c : Bool). b || c) (h x) (list_any-same p q h xs)
 
