@@ -10,6 +10,7 @@ use Rattle.clause_db.specs.declared.lit.Lit.{Lit}
 use Rattle.pack_defs.specs.declared.pair.Pair.{Pair}
 use Rattle.pack_defs.specs.Book.{BookView, IsInOrder, domain_of, is_within, pairs_ascend}
 use Rattle.pack_defs.specs.Lists.{is_in, is_ascending}
+use Rattle.pack_defs.proofs.BookLemmas.{list_all-filter_itself}
 use Rattle.pack_defs.proofs.Members.{Contains-from_filter, list_all-from, list_all-gives, Contains-here, Contains-there}
 use Rattle.pack_defs.proofs.Spans.{firsts-rise}
 use Rattle.pack_defs.proofs.Words.{below-later, ascending-rest}
@@ -22,9 +23,6 @@ station_clauses book set s = map (pair_clause book set) (pairs_inside_from book 
 
 pub list_all-filter : {A : Type 0} (q w : A → Bool) (xs : List A) → list_all q xs ≡ true → list_all q (filter w xs) ≡ true
 list_all-filter q w xs h = list_all-from q (filter w xs) (λ x c. list_all-gives q xs x h (Contains-from_filter w xs x c).0)
-
-pub list_all-filter_itself : {A : Type 0} (p : A → Bool) (xs : List A) → list_all p (filter p xs) ≡ true
-list_all-filter_itself p xs = list_all-from p (filter p xs) (λ x c. (Contains-from_filter p xs x c).1)
 
 -- what holds of all holds of the one at a place
 pub list_all-get : {A : Type 0} (q : A → Bool) (xs : List A) (k : ℕ) (d : A) → list_all q xs ≡ true → k < length xs → q (get_or xs k d) ≡ true

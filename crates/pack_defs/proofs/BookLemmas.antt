@@ -74,12 +74,12 @@ channels-cut top domains [] h = refl
 channels-cut top domains (x ∷ xs) h =
     and_from _ _ (ascending-filter (λ c. nat_le c top) (channels_in domains x) (channels_in-ascend domains x h)) (channels-cut top domains xs h)
 
+pub list_all-filter_itself : {X : Type 0} (p : X → Bool) (xs : List X) → list_all p (filter p xs) ≡ true
+list_all-filter_itself p xs = list_all-from p (filter p xs) (λ x c. (Contains-from_filter p xs x c).1)
+
 -- cut domains are in order, and a cut book
 pub cut-in_order : (top : ℕ) (ids : List ℕ) (domains : List Domain) → is_ascending ids ≡ true → AreInOrder domains → AreInOrder (map (cut_domain top domains) ids)
 cut-in_order top ids domains a o = record { stations = rw (stations-cut top domains ids) a; channels = channels-cut top domains ids o.channels }
-
-list_all-filter_itself : {X : Type 0} (p : X → Bool) (xs : List X) → list_all p (filter p xs) ≡ true
-list_all-filter_itself p xs = list_all-from p (filter p xs) (λ x c. (Contains-from_filter p xs x c).1)
 
 pub cut_book-in_order : (top : ℕ) (ids : List ℕ) (domains : List Domain) (pairs : List Pair) → is_ascending ids ≡ true → AreInOrder domains → pairs_ascend pairs ≡ true → IsInOrder (cut_book top ids domains pairs)
 cut_book-in_order top ids domains pairs a o p = record {

@@ -1,6 +1,6 @@
 use Rattle.std.proofs.Common.{◌≡◌, ◌∙◌, ◌∷◌, []}
 use Rattle.std.proofs.lemmas.Result.{IfOk-weaker}
-use Rattle.pack_defs.specs.Book.{BookView, cut_book}
+use Rattle.pack_defs.specs.Book.{cut_book}
 use Rattle.pack_defs.specs.Examples.{pair, three_stations}
 use Rattle.cnf_encode.proofs.ExampleLemmas.{built-three, example_domain}
 use Rattle.cnf_encode.proofs.tests.three_stations.Goals as goal
