@@ -14,3 +14,4 @@ pub mod Searches
 pub mod Chains
 pub mod BookLemmas
 pub mod MapLemmas
+pub mod Spans

@@ -1,8 +1,9 @@
 -- What the auction's stations may do: the channels of each, and the pairs that interfere. The domains are laid out as
 -- in the FCC's file Domain.csv, and the pairs as in its Interference_Paired.csv. That stations are packed under these
 -- two kinds of constraint is of the SATFC papers (Fréchette, Newman and Leyton-Brown).
-use Rattle.std.specs.Prelude.{ℕ, Bool, true, ◌&&◌, ◌||◌, ◌==◌, nat_lt, nat_le, if◌then◌else◌, List, [], ◌∷◌, map, filter, IsTrue}
+use Rattle.std.specs.Prelude.{◌≡◌, ℕ, Bool, true, ◌&&◌, ◌||◌, ◌==◌, nat_lt, nat_le, if◌then◌else◌, List, [], ◌∷◌, map, filter, IsTrue}
 use Rattle.std.specs.List.{list_any, list_all}
+use Rattle.std.specs.List.Sorted.{IsNonDecreasingBy}
 use Rattle.pack_defs.specs.declared.domain.Domain.{Domain}
 use Rattle.pack_defs.specs.declared.pair.Pair.{Pair}
 use Rattle.pack_defs.specs.Lists.{is_in, is_ascending}
@@ -51,23 +52,29 @@ pairs_ascend [] = true
 pairs_ascend (p ∷ []) = true
 pairs_ascend (p ∷ q ∷ ps) = comes_before p q && pairs_ascend (q ∷ ps)
 
+-- both entries of the pair are on channels of these domains
+abbrev pub is_within : List Domain → Pair → Bool
+is_within domains p = is_in (channels_in domains p.f) p.a && is_in (channels_in domains p.g) p.b
+
 -- domains ascend by station, and the channels of each ascend
 pub record AreInOrder (domains : List Domain) : Type 0 where
   pub stations : IsTrue (is_ascending (map (λ d. d.station) domains))
   pub channels : IsTrue (list_all (λ d. is_ascending d.channels) domains)
 
--- a book's domains and pairs are in order
+-- a book's domains and pairs are in order, and each pair stands on the domains
 pub record IsInOrder (book : BookView) : Type 0 where
   pub domains : AreInOrder book.domains
   pub pairs : IsTrue (pairs_ascend book.pairs)
+  pub on_domains : IsTrue (list_all (is_within book.domains) book.pairs)
+
+-- the same pairs by second station: it doesn't fall, and those of each stand in the order that they have in the one list
+pub record IsBySecond (pairs sorted : List Pair) : Type 0 where
+  pub rises : IsNonDecreasingBy (λ p. p.g) sorted
+  pub same : (g : ℕ) → filter (λ p. p.g == g) sorted ≡ filter (λ p. p.g == g) pairs
 
 -- a station with its channels up to the top one (the domain constraint of the SATFC papers, under a clearing target)
 abbrev pub cut_domain : ℕ → List Domain → ℕ → Domain
 cut_domain top domains s = record { station = s; channels = filter (λ c. nat_le c top) (channels_in domains s) }
-
--- both entries of the pair are on channels of these domains
-abbrev pub is_within : List Domain → Pair → Bool
-is_within domains p = is_in (channels_in domains p.f) p.a && is_in (channels_in domains p.g) p.b
 
 -- The book of these stations: their domains up to the top channel, and the pairs that stand on them (the repacking
 -- problem of the SATFC papers).

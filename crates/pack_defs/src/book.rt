@@ -1,6 +1,7 @@
-ghost use Rattle.std.specs.Prelude.{◌≡◌, ◌≤◌, ◌<◌, IfOk, IsTrue, IsFalse, MatchOption, length, slice_index, map, filter};
+ghost use Rattle.std.specs.Prelude.{◌≡◌, ◌≤◌, ◌<◌, ◌==◌, IfOk, IsTrue, IsFalse, MatchOption, length, slice_index, map, filter};
+ghost use Rattle.std.specs.List.Sorted.{IsNonDecreasingBy};
 ghost use Rattle.pack_defs.specs.Lists.{is_ascending, is_in};
-ghost use Rattle.pack_defs.specs.Book.{AreInOrder, IsInOrder, channels_in, cut_book, cut_domain, domain_of, is_forbidden, is_within, pairs_ascend, stations_of};
+ghost use Rattle.pack_defs.specs.Book.{AreInOrder, IsBySecond, IsInOrder, channels_in, cut_book, cut_domain, domain_of, is_forbidden, is_within, pairs_ascend, stations_of};
 
 use crate::domain::Domain;
 use crate::items::Items;
@@ -15,17 +16,19 @@ pub struct Book {
     top: u8,
     domains: Vec<Domain>,
     pairs: Vec<Pair>,
+    // The same pairs, by second station, so that those of one station stand together from either end.
+    by_second: Vec<Pair>,
 }
 
 impl Model for Book {
     ghost use Rattle.std.specs.Prelude.{length, ◌≤◌};
-    ghost use Rattle.pack_defs.specs.Book.{BookView, IsInOrder};
+    ghost use Rattle.pack_defs.specs.Book.{BookView, IsBySecond, IsInOrder};
 
     ghost Value = { BookView };
 
     ghost view = { λ b. record { top = b.top; domains = b.domains.items; pairs = b.pairs.items } };
 
-    ghost invariant = { λ b. IsInOrder (record { top = b.top; domains = b.domains.items; pairs = b.pairs.items }) × (length b.domains.items ≤ 8192) };
+    ghost invariant = { λ b. IsInOrder (record { top = b.top; domains = b.domains.items; pairs = b.pairs.items }) × (length b.domains.items ≤ 8192) × IsBySecond b.pairs.items b.by_second.items };
 }
 
 impl Book {
@@ -50,14 +53,17 @@ impl Book {
             cut.push(cut_domain(alloc, top, *id, domains)?)?;
         }
         let kept = pairs_within(alloc, &cut, pairs)?;
+        let by_second = sorted_by_second(alloc, &kept)?;
         Ok(Book {
             top,
             domains: cut,
             pairs: kept,
+            by_second,
         })
     }
 
-    /// The number of stations. Each book is in order: its stations, the channels of each, and its pairs ascend.
+    /// The number of stations. Each book is in order: its stations, the channels of each, and its pairs ascend, and each
+    /// pair is of channels of its two stations.
     pub fn len(&self) -> u32
         ensures count { result ≡ length self.now.domains }
         ensures few { result ≤ 8192 }
@@ -104,6 +110,20 @@ impl Book {
         ensures { result.now ≡ self.now.pairs }
     {
         &self.pairs
+    }
+
+    /// The pairs whose first station is `f`, ascending. It searches by halves, twice.
+    pub fn pairs_from(&self, f: u32) -> &[Pair]
+        ensures { result.now ≡ filter (λ p. p.f == f) self.now.pairs }
+    {
+        first_is(&self.pairs, f)
+    }
+
+    /// The pairs whose second station is `g`, ascending. It searches by halves, twice.
+    pub fn pairs_to(&self, g: u32) -> &[Pair]
+        ensures { result.now ≡ filter (λ p. p.g == g) self.now.pairs }
+    {
+        second_is(&self.by_second, g)
     }
 
     /// Whether station `s` on channel `a` and station `t` on channel `b` may not stand together, that is, whether the book
@@ -172,6 +192,37 @@ fn pairs_within(alloc: Global, domains: &[Domain], pairs: &[Pair]) -> Result<Vec
     Ok(kept)
 }
 
+// The pairs by second station, those of each in the order that they have.
+fn sorted_by_second(alloc: Global, pairs: &[Pair]) -> Result<Vec<Pair>, NoMemory>
+    ensures { IfOk result (λ sorted. IsBySecond pairs.now sorted.items) }
+{
+    let mut sorted = Vec::from_slice(alloc, pairs)?;
+    sorted.sort_by_key(|p| p.g)?;
+    Ok(sorted)
+}
+
+// Those whose first station is `f`, of pairs whose first station doesn't fall, by halves.
+fn first_is(pairs: &[Pair], f: u32) -> &[Pair]
+    requires { IsNonDecreasingBy (λ p. p.f) pairs.now }
+    ensures { result.now ≡ filter (λ p. p.f == f) pairs.now }
+{
+    let begin = pairs.partition_point(|p| p.f < f);
+    let rest = &pairs[begin..];
+    let count = rest.partition_point(|p| p.f <= f);
+    &rest[..count]
+}
+
+// Those whose second station is `g`, of pairs whose second station doesn't fall, by halves.
+fn second_is(pairs: &[Pair], g: u32) -> &[Pair]
+    requires { IsNonDecreasingBy (λ p. p.g) pairs.now }
+    ensures { result.now ≡ filter (λ p. p.g == g) pairs.now }
+{
+    let begin = pairs.partition_point(|p| p.g < g);
+    let rest = &pairs[begin..];
+    let count = rest.partition_point(|p| p.g <= g);
+    &rest[..count]
+}
+
 #[cfg(test)]
 mod tests {
     use super::*;
@@ -216,6 +267,54 @@ mod tests {
         );
         assert!(rt; book.forbids(3, 14, 1, 14));
         assert!(rt; !book.forbids(1, 15, 3, 15));
+        Ok(())
+    }
+
+    // Five stations on two channels, of which the last interferes with none.
+    fn five_stations(alloc: Global) -> Result<Book, NoMemory> {
+        let domains = [
+            on_both(alloc, 10)?,
+            on_both(alloc, 20)?,
+            on_both(alloc, 30)?,
+            on_both(alloc, 40)?,
+            on_both(alloc, 50)?,
+        ];
+        let pairs = [
+            on_one(10, 20, 14),
+            on_one(10, 30, 14),
+            on_one(10, 30, 15),
+            on_one(20, 30, 14),
+            on_one(20, 40, 14),
+            on_one(30, 40, 15),
+        ];
+        Book::build(alloc, 15, &[10, 20, 30, 40, 50], &domains, &pairs)
+    }
+
+    #[test]
+    fn pairs_from_each_station(rt: HostRuntime) -> Result<(), Fail> {
+        let book = five_stations(rt.alloc())?;
+        let of_first = [on_one(10, 20, 14), on_one(10, 30, 14), on_one(10, 30, 15)];
+        assert_eq!(rt; book.pairs_from(10), of_first.as_slice());
+        let of_second = [on_one(20, 30, 14), on_one(20, 40, 14)];
+        assert_eq!(rt; book.pairs_from(20), of_second.as_slice());
+        assert_eq!(rt; book.pairs_from(30), [on_one(30, 40, 15)].as_slice());
+        assert_eq!(rt; book.pairs_from(40), [].as_slice());
+        assert_eq!(rt; book.pairs_from(50), [].as_slice());
+        assert_eq!(rt; book.pairs_from(25), [].as_slice());
+        Ok(())
+    }
+
+    #[test]
+    fn pairs_to_each_station(rt: HostRuntime) -> Result<(), Fail> {
+        let book = five_stations(rt.alloc())?;
+        assert_eq!(rt; book.pairs_to(10), [].as_slice());
+        assert_eq!(rt; book.pairs_to(20), [on_one(10, 20, 14)].as_slice());
+        let to_third = [on_one(10, 30, 14), on_one(10, 30, 15), on_one(20, 30, 14)];
+        assert_eq!(rt; book.pairs_to(30), to_third.as_slice());
+        let to_fourth = [on_one(20, 40, 14), on_one(30, 40, 15)];
+        assert_eq!(rt; book.pairs_to(40), to_fourth.as_slice());
+        assert_eq!(rt; book.pairs_to(50), [].as_slice());
+        assert_eq!(rt; book.pairs_to(35), [].as_slice());
         Ok(())
     }
 }

@@ -1,0 +1,42 @@
+//! What holds of the packing formula of every book and every set of stations.
+
+ghost use Rattle.std.specs.Prelude.{◌≡◌, ◌↔◌, ℕ, Bool, List, [], ◌∷◌, IsTrue};
+ghost use Rattle.clause_db.specs.Clause.{Satisfies};
+ghost use Rattle.clause_db.specs.Clauses.{ClausesWithin};
+ghost use Rattle.pack_defs.specs.Examples.{three_stations};
+ghost use Rattle.pack_defs.specs.Book.{BookView, IsInOrder};
+ghost use Rattle.pack_defs.specs.Lists.{is_ascending};
+ghost use Rattle.pack_defs.specs.Packing.{Fits, IsPacking};
+ghost use Rattle.cnf_encode.specs.Decode.{decoded, model_of, HasModel};
+ghost use Rattle.cnf_encode.specs.Formula.{packing_formula, variables_in};
+ghost use Rattle.cnf_encode.specs.Examples.{three_clauses};
+
+/// The formula of the three-station example has six variables and twelve clauses.
+pub fn formula_of_three_stations()
+    ensures variables { variables_in three_stations (1 ∷ 2 ∷ 3 ∷ []) ≡ 6 }
+    ensures clauses { packing_formula three_stations (1 ∷ 2 ∷ 3 ∷ []) ≡ three_clauses }
+{}
+
+/// A model of the formula says a clean map of exactly the set.
+pub fn a_model_gives_a_map()
+    ensures { (book : BookView) (set : List ℕ) (model : ℕ → Bool) →
+        Satisfies model (packing_formula book set) → IsPacking book set (decoded book set model) }
+{}
+
+/// A clean map of exactly an ascending set says a model of the formula, in a book in order.
+pub fn a_map_gives_a_model()
+    ensures { (book : BookView) (set : List ℕ) (entries : List (ℕ × ℕ)) →
+        IsInOrder book → IsTrue (is_ascending set) → IsPacking book set entries →
+        Satisfies (model_of book set entries) (packing_formula book set) }
+{}
+
+/// An ascending set fits exactly where its formula has a model, in a book in order.
+pub fn fits_where_it_has_a_model()
+    ensures { (book : BookView) (set : List ℕ) →
+        IsInOrder book → IsTrue (is_ascending set) → (Fits book set ↔ HasModel (packing_formula book set)) }
+{}
+
+/// Each literal of the formula is of a variable from 1 to their number, in a book in order.
+pub fn literals_are_of_its_variables()
+    ensures { (book : BookView) (set : List ℕ) → IsInOrder book → ClausesWithin (variables_in book set) (packing_formula book set) }
+{}
