@@ -73,7 +73,7 @@ fn violation(book: &Book, map: &ChannelMap) -> Option<MapFault>
     requires { IsAscending map.now }
     ensures { result ≡ violation book.now map.now }
 {
-    // What a book says with its length: its pairs ascend, so the first station with a violated one has the first.
+    // With its length a book says that its pairs ascend: the first station with a violated one has the first of all.
     let _stations = book.len();
     for x in map.entries() {
         if let Some(pair) = violated_from(book, map, *x) {

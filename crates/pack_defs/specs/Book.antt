@@ -1,9 +1,8 @@
 -- What the auction's stations may do: the channels of each, and the pairs that interfere. The domains are laid out as
 -- in the FCC's file Domain.csv, and the pairs as in its Interference_Paired.csv. That stations are packed under these
 -- two kinds of constraint is of the SATFC papers (Fréchette, Newman and Leyton-Brown).
-use Rattle.std.specs.Prelude.{◌≡◌, ℕ, Bool, true, ◌&&◌, ◌||◌, ◌==◌, nat_lt, nat_le, if◌then◌else◌, List, [], ◌∷◌, map, filter, IsTrue}
+use Rattle.std.specs.Prelude.{ℕ, Bool, true, ◌&&◌, ◌||◌, ◌==◌, nat_lt, nat_le, if◌then◌else◌, List, [], ◌∷◌, map, filter, IsTrue}
 use Rattle.std.specs.List.{list_any, list_all}
-use Rattle.std.specs.List.Sorted.{IsNonDecreasingBy}
 use Rattle.pack_defs.specs.declared.domain.Domain.{Domain}
 use Rattle.pack_defs.specs.declared.pair.Pair.{Pair}
 use Rattle.pack_defs.specs.Lists.{is_in, is_ascending}
@@ -66,11 +65,6 @@ pub record IsInOrder (book : BookView) : Type 0 where
   pub domains : AreInOrder book.domains
   pub pairs : IsTrue (pairs_ascend book.pairs)
   pub on_domains : IsTrue (list_all (is_within book.domains) book.pairs)
-
--- the same pairs by second station: it doesn't fall, and those of each stand in the order that they have in the one list
-pub record IsBySecond (pairs sorted : List Pair) : Type 0 where
-  pub rises : IsNonDecreasingBy (λ p. p.g) sorted
-  pub same : (g : ℕ) → filter (λ p. p.g == g) sorted ≡ filter (λ p. p.g == g) pairs
 
 -- a station with its channels up to the top one (the domain constraint of the SATFC papers, under a clearing target)
 abbrev pub cut_domain : ℕ → List Domain → ℕ → Domain

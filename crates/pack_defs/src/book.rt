@@ -1,7 +1,8 @@
 ghost use Rattle.std.specs.Prelude.{◌≡◌, ◌≤◌, ◌<◌, ◌==◌, IfOk, IsTrue, IsFalse, MatchOption, length, slice_index, map, filter};
 ghost use Rattle.std.specs.List.Sorted.{IsNonDecreasingBy};
 ghost use Rattle.pack_defs.specs.Lists.{is_ascending, is_in};
-ghost use Rattle.pack_defs.specs.Book.{AreInOrder, IsBySecond, IsInOrder, channels_in, cut_book, cut_domain, domain_of, is_forbidden, is_within, pairs_ascend, stations_of};
+ghost use Rattle.pack_defs.specs.Book.{AreInOrder, IsInOrder, channels_in, cut_book, cut_domain, domain_of, is_forbidden, is_within, pairs_ascend, stations_of};
+ghost use Rattle.pack_defs.specs.PairOrders.{IsBySecond};
 
 use crate::domain::Domain;
 use crate::items::Items;
@@ -10,7 +11,7 @@ use std::alloc::{AllocError as NoMemory, Global};
 use std::marker::Model;
 
 /// The stations of an auction, their channels up to its top one, and the pairs that interfere: what the FCC's files
-/// Domain.csv and Interference_Paired.csv say of these stations.
+/// Domain.csv and Interference_Paired.csv say of these stations. It holds each pair twice, in two orders.
 #[derive(Debug, Drop)]
 pub struct Book {
     top: u8,
@@ -22,7 +23,8 @@ pub struct Book {
 
 impl Model for Book {
     ghost use Rattle.std.specs.Prelude.{length, ◌≤◌};
-    ghost use Rattle.pack_defs.specs.Book.{BookView, IsBySecond, IsInOrder};
+    ghost use Rattle.pack_defs.specs.Book.{BookView, IsInOrder};
+    ghost use Rattle.pack_defs.specs.PairOrders.{IsBySecond};
 
     ghost Value = { BookView };
 
@@ -34,7 +36,8 @@ impl Model for Book {
 impl Book {
     /// The book of these stations, ascending by facility: their domains cut at the top channel, and the pairs that stand
     /// on them. A station that `domains` lacks has no channel, and a pair is kept where both of its channels are left. It
-    /// searches by halves, once for each station and twice for each pair. The only error is want of memory.
+    /// searches by halves, once for each station and twice for each pair, and sorts the pairs that it keeps by second
+    /// station. The only error is want of memory.
     pub fn build(
         alloc: Global,
         top: u8,

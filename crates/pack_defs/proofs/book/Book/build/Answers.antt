@@ -1,6 +1,7 @@
 use Rattle.std.proofs.Common.{◌≡◌, ◌∙◌, map, take_all, arith, ap, subst}
 use Rattle.std.proofs.lemmas.List.{length-map}
-use Rattle.pack_defs.specs.Book.{IsBySecond, cut_domain}
+use Rattle.pack_defs.specs.Book.{cut_domain}
+use Rattle.pack_defs.specs.PairOrders.{IsBySecond}
 use Rattle.pack_defs.proofs.BookLemmas.{cut-in_order, cut_book-in_order}
 use Rattle.pack_defs.proofs.book.Book.build.Goals as goal
 
