@@ -1,0 +1,5 @@
+pub mod LineLemmas
+pub mod Meaning
+pub mod Refuting
+pub mod SpentLaws
+pub mod Validity
