@@ -1,13 +1,16 @@
 -- The first line of a log that fails a test.
-use Rattle.std.proofs.Common.{◌≡◌, ℕ, ◌+◌, ◌≤◌, Bool, true, false, ◌&&◌, if◌then◌else◌, List, [], ◌∷◌, ◌++◌, Option, Some, None, option_map, is_none, refl, sym, ap, ◌∙◌, arith, min}
+use Rattle.std.proofs.Common.{◌≡◌, ℕ, ◌+◌, ◌≤◌, Bool, true, false, ◌&&◌, if◌then◌else◌, List, [], ◌∷◌, ◌++◌, Option, Some, None, option_map, is_none, refl, sym, ap, ◌∙◌, arith, min, ◌<◌, length, take, drop, get_or}
 use Rattle.std.proofs.Math.Nat.{min-eq_left, min-eq_right}
+use Rattle.std.proofs.lemmas.List.{take_more}
+use Rattle.clause_db.proofs.Literals.{drop-from}
 use Rattle.clause_db.specs.declared.lit.Lit.{Lit}
 use Rattle.rup_check.specs.declared.line.Line.{Line}
 use Rattle.rup_check.specs.declared.error.LineErr.{LineErr}
 use Rattle.rup_check.specs.declared.error.LogErr.{LogErr}
 use Rattle.rup_check.specs.declared.error.LogErr.TheVariants.{BadLine, NoMemory}
-use Rattle.rup_check.specs.Follows.{line_fault, line_or, lines_fault}
-use Rattle.cert_types.specs.Lines.{first_line, is_shown, passes_both, lesser}
+use Rattle.rup_check.specs.Follows.{clauses_before, line_fault, line_or, lines_fault}
+use Rattle.rup_check.proofs.Reading.{clauses-more}
+use Rattle.cert_types.specs.FirstLine.{first_line, does_follow, passes_both, lesser}
 
 -- it stands at the first place or behind it
 pub first-from : (test : List (List Lit) → Line → List Line → Bool) (clauses : List (List Lit)) (place : ℕ) (lines : List Line) (n : ℕ) → first_line test clauses place lines ≡ Some n → place ≤ n
@@ -48,19 +51,41 @@ first-both one other clauses place (line ∷ lines) =
     ] in
     go (one clauses line lines) (other clauses line lines)
 
+-- one line more of a log whose lines pass so far; and the first that does not
+pub first-passed : (test : List (List Lit) → Line → List Line → Bool) (clauses : List (List Lit)) (lines : List Line) (i : ℕ) (line : Line) (whole : Option ℕ) → i < length lines → line ≡ get_or lines i line → test (clauses_before clauses (take i lines)) line (drop (i + 1) lines) ≡ true → first_line test (clauses_before clauses (take i lines)) (i + 1) (drop i lines) ≡ whole → first_line test (clauses_before clauses (take (i + 1) lines)) (i + 1 + 1) (drop (i + 1) lines) ≡ whole
+first-passed test clauses lines i line whole h r e w =
+    let before : List (List Lit) = clauses_before clauses (take i lines) in
+    let rest : List Line = drop (i + 1) lines in
+    let split : drop i lines ≡ line ∷ rest = drop-from lines i line h ∙ ap (λ (z : Line). z ∷ rest) (sym r) in
+    let more : take (i + 1) lines ≡ take i lines ++ line ∷ [] = take_more lines i line h ∙ ap (λ (z : Line). take i lines ++ z ∷ []) (sym r) in
+    ap (λ (z : List Line). first_line test (clauses_before clauses z) (i + 1 + 1) rest) more
+    ∙ ap (λ (z : List (List Lit)). first_line test z (i + 1 + 1) rest) (clauses-more clauses (take i lines) line)
+    ∙ sym (ap (λ (b : Bool). if b then first_line test (before ++ line.lits ∷ []) (i + 1 + 1) rest else Some (i + 1)) e)
+    ∙ sym (ap (first_line test before (i + 1)) split)
+    ∙ w
+
+pub first-stopped : (test : List (List Lit) → Line → List Line → Bool) (clauses : List (List Lit)) (lines : List Line) (i : ℕ) (line : Line) (whole : Option ℕ) → i < length lines → line ≡ get_or lines i line → test (clauses_before clauses (take i lines)) line (drop (i + 1) lines) ≡ false → first_line test (clauses_before clauses (take i lines)) (i + 1) (drop i lines) ≡ whole → Some (i + 1) ≡ whole
+first-stopped test clauses lines i line whole h r e w =
+    let before : List (List Lit) = clauses_before clauses (take i lines) in
+    let rest : List Line = drop (i + 1) lines in
+    let split : drop i lines ≡ line ∷ rest = drop-from lines i line h ∙ ap (λ (z : Line). z ∷ rest) (sym r) in
+    sym (ap (λ (b : Bool). if b then first_line test (before ++ line.lits ∷ []) (i + 1 + 1) rest else Some (i + 1)) e)
+    ∙ sym (ap (first_line test before (i + 1)) split)
+    ∙ w
+
 -- the line of a log's fault
 abbrev pub line_of : LogErr → ℕ
 line_of (BadLine n why) = n
 line_of NoMemory = 0
 
-shown-or : (place : ℕ) (o : Option LineErr) (rest : Option LogErr) → (if is_none o then option_map line_of rest else Some place) ≡ option_map line_of (line_or place o rest)
-shown-or place None rest = refl
-shown-or place (Some why) rest = refl
+following-or : (place : ℕ) (o : Option LineErr) (rest : Option LogErr) → (if is_none o then option_map line_of rest else Some place) ≡ option_map line_of (line_or place o rest)
+following-or place None rest = refl
+following-or place (Some why) rest = refl
 
 -- the first line that does not follow is the one that a log's fault names
-pub first-shown : (vars : ℕ) (clauses : List (List Lit)) (place : ℕ) (lines : List Line) → first_line (is_shown vars) clauses place lines ≡ option_map line_of (lines_fault vars clauses place lines)
+pub first-following : (vars : ℕ) (clauses : List (List Lit)) (place : ℕ) (lines : List Line) → first_line (does_follow vars) clauses place lines ≡ option_map line_of (lines_fault vars clauses place lines)
 unfolding lines_fault
-first-shown vars clauses place [] = refl
-first-shown vars clauses place (line ∷ lines) =
-    ap (λ o. if is_none (line_fault vars clauses line) then o else Some place) (first-shown vars (clauses ++ line.lits ∷ []) (place + 1) lines)
-    ∙ shown-or place (line_fault vars clauses line) (lines_fault vars (clauses ++ line.lits ∷ []) (place + 1) lines)
+first-following vars clauses place [] = refl
+first-following vars clauses place (line ∷ lines) =
+    ap (λ o. if is_none (line_fault vars clauses line) then o else Some place) (first-following vars (clauses ++ line.lits ∷ []) (place + 1) lines)
+    ∙ following-or place (line_fault vars clauses line) (lines_fault vars (clauses ++ line.lits ∷ []) (place + 1) lines)

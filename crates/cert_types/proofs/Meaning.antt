@@ -19,7 +19,7 @@ use Rattle.cert_types.specs.declared.answer.Refutation.TheVariants.{Proof}
 use Rattle.cert_types.specs.declared.answer.Receipt.TheVariants.{Lines}
 use Rattle.cert_types.specs.declared.answer.Place.{Place}
 use Rattle.cert_types.specs.declared.answer.Place.TheVariants.{Count, Subset, LineAt}
-use Rattle.cert_types.specs.Lines.{first_line}
+use Rattle.cert_types.specs.FirstLine.{first_line}
 use Rattle.cert_types.specs.Spent.{is_spent_line}
 use Rattle.cert_types.specs.Refutes.{is_subset, is_proof_line}
 use Rattle.cert_types.specs.Valid.{answer_fault, place_of, unless, IsValid, IsProof, IsSpentLog}

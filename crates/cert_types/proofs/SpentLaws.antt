@@ -6,7 +6,7 @@ use Rattle.clause_db.specs.Clause.{is_empty_clause}
 use Rattle.rup_check.specs.declared.line.Line.{Line}
 use Rattle.rup_check.specs.declared.error.LineErr.{LineErr}
 use Rattle.rup_check.specs.Follows.{line_fault}
-use Rattle.cert_types.specs.Lines.{first_line}
+use Rattle.cert_types.specs.FirstLine.{first_line}
 use Rattle.cert_types.specs.Spent.{is_spent_line, IsSpentLine, AreSpentLines}
 use Rattle.cert_types.proofs.Validity.{none_is, if_none}
 

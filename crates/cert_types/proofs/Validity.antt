@@ -19,7 +19,7 @@ use Rattle.cert_types.specs.declared.answer.Refutation.{Refutation}
 use Rattle.cert_types.specs.declared.answer.Refutation.TheVariants.{Proof}
 use Rattle.cert_types.specs.declared.answer.Place.{Place}
 use Rattle.cert_types.specs.declared.answer.Place.TheVariants.{Count, Subset, LineAt}
-use Rattle.cert_types.specs.Lines.{first_line}
+use Rattle.cert_types.specs.FirstLine.{first_line}
 use Rattle.cert_types.specs.Refutes.{Refutes, ByLog, is_subset, is_proof_line}
 use Rattle.cert_types.specs.Valid.{answer_fault, fit_fault, place_of, unless}
 

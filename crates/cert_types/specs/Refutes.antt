@@ -7,7 +7,7 @@ use Rattle.pack_defs.specs.Lists.{is_in, is_ascending}
 use Rattle.cnf_encode.specs.Formula.{packing_formula, variables_in}
 use Rattle.rup_check.specs.declared.line.Line.{Line}
 use Rattle.rup_check.specs.Follows.{Follows, ends_empty}
-use Rattle.cert_types.specs.Lines.{is_shown, ends_there, passes_both}
+use Rattle.cert_types.specs.FirstLine.{does_follow, ends_there, passes_both}
 
 -- the list is of stations of the set, ascending
 abbrev pub is_subset : List ℕ → List ℕ → Bool
@@ -15,7 +15,7 @@ is_subset subset set = is_ascending subset && list_all (is_in set) subset
 
 -- a line of a proof follows, and is empty exactly where it is the last
 abbrev pub is_proof_line : ℕ → List (List Lit) → Line → List Line → Bool
-is_proof_line vars = passes_both (is_shown vars) ends_there
+is_proof_line vars = passes_both (does_follow vars) ends_there
 
 -- A set is refuted by a log over the clauses of a subset that follows and whose last line alone is empty (a refutation
 -- as in LRAT), or by a station without a channel.

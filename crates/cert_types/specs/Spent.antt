@@ -5,11 +5,11 @@ use Rattle.clause_db.specs.declared.lit.Lit.{Lit}
 use Rattle.clause_db.specs.Clause.{is_empty_clause}
 use Rattle.rup_check.specs.declared.line.Line.{Line}
 use Rattle.rup_check.specs.Follows.{line_fault}
-use Rattle.cert_types.specs.Lines.{is_shown, has_literal, passes_both}
+use Rattle.cert_types.specs.FirstLine.{does_follow, has_literal, passes_both}
 
 -- a line of a receipt follows and is not empty
 abbrev pub is_spent_line : ℕ → List (List Lit) → Line → List Line → Bool
-is_spent_line vars = passes_both (is_shown vars) has_literal
+is_spent_line vars = passes_both (does_follow vars) has_literal
 
 -- ---- the same in plain statements
 

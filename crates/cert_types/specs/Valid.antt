@@ -17,7 +17,7 @@ use Rattle.cert_types.specs.declared.answer.Refutation.TheVariants.{Proof}
 use Rattle.cert_types.specs.declared.answer.Receipt.TheVariants.{Lines}
 use Rattle.cert_types.specs.declared.answer.Place.{Place}
 use Rattle.cert_types.specs.declared.answer.Place.TheVariants.{Count, Subset, Station, PairOf, LineAt}
-use Rattle.cert_types.specs.Lines.{first_line}
+use Rattle.cert_types.specs.FirstLine.{first_line}
 use Rattle.cert_types.specs.Spent.{is_spent_line, AreSpentLines}
 use Rattle.cert_types.specs.Refutes.{is_subset, is_proof_line}
 
@@ -45,8 +45,8 @@ proof_fault book task worker subset lines =
     (option_map LineAt (first_line (is_proof_line (variables_in book subset)) (packing_formula book subset) 1 lines)))
 
 -- the fault of a receipt of lines: their number, the first line that is no receipt's
-abbrev pub lines_fault : BookView → Task → Worker → List Line → Option Place
-lines_fault book task worker lines =
+abbrev pub spent_lines_fault : BookView → Task → Worker → List Line → Option Place
+spent_lines_fault book task worker lines =
     unless (length lines == worker.budget) Count
     (option_map LineAt (first_line (is_spent_line (variables_in book task.set)) (packing_formula book task.set) 1 lines))
 
@@ -54,7 +54,7 @@ lines_fault book task worker lines =
 unfoldable pub answer_fault : BookView → Task → Worker → Answer → Option Place
 answer_fault book task worker (Fit delta) = fit_fault book task delta
 answer_fault book task worker (Refuted (Proof subset log)) = proof_fault book task worker subset log.lines
-answer_fault book task worker (Spent (Lines log)) = lines_fault book task worker log.lines
+answer_fault book task worker (Spent (Lines log)) = spent_lines_fault book task worker log.lines
 
 -- the answer has no fault
 abbrev pub IsValid : BookView → Task → Worker → Answer → Type 0

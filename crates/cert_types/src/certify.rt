@@ -1,10 +1,10 @@
 ghost use Rattle.std.specs.Prelude.{◌≡◌, IfErr, IfOk, option_map};
 ghost use Rattle.cert_types.specs.Certificate.{IsTaskOf, Tells};
-ghost use Rattle.cert_types.specs.Valid.{IsValid, answer_fault, fit_fault, lines_fault, place_of, proof_fault};
+ghost use Rattle.cert_types.specs.Valid.{IsValid, answer_fault, fit_fault, spent_lines_fault, place_of, proof_fault};
 
 use crate::answer::{Answer, CertifyFault, CertifyWhy, Place, Receipt, Refutation};
 use crate::certified::Certified;
-use crate::lines::{first_empty, first_misplaced, first_not_shown, lesser};
+use crate::first_line::{first_empty, first_misplaced, first_not_following, lesser};
 use crate::subset::is_subset;
 use crate::task::Task;
 use assign_check::check::first_fault;
@@ -66,7 +66,7 @@ fn fault_of(
         Answer::Refuted(Refutation::Proof { subset, log }) => {
             proof_fault(alloc, book, task, worker, subset.as_slice(), log)
         }
-        Answer::Spent(Receipt::Lines(log)) => lines_fault(alloc, book, task, worker, log),
+        Answer::Spent(Receipt::Lines(log)) => spent_lines_fault(alloc, book, task, worker, log),
     }
 }
 
@@ -119,12 +119,12 @@ fn proof_fault(
         return Ok(Some(Place::Subset));
     }
     let clauses = encode(alloc, book, subset)?;
-    let not_shown = first_not_shown(alloc, &clauses, log)?;
-    Ok(line_at(lesser(not_shown, first_misplaced(lines))))
+    let not_following = first_not_following(alloc, &clauses, log)?;
+    Ok(line_at(lesser(not_following, first_misplaced(lines))))
 }
 
 // The first fault of a receipt of lines.
-fn lines_fault(
+fn spent_lines_fault(
     alloc: Global,
     book: &Book,
     task: &Task,
@@ -132,15 +132,15 @@ fn lines_fault(
     log: &Log,
 ) -> Result<Option<Place>, NoMemory>
     requires { IsTaskOf book.now task.now }
-    ensures { IfOk result (λ fault. fault ≡ lines_fault book.now task.now worker.now log.now.lines) }
+    ensures { IfOk result (λ fault. fault ≡ spent_lines_fault book.now task.now worker.now log.now.lines) }
 {
     let lines = log.lines.as_slice();
     if lines.len() as u64 != worker.budget as u64 {
         return Ok(Some(Place::Count));
     }
     let clauses = encode(alloc, book, task.set.as_slice())?;
-    let not_shown = first_not_shown(alloc, &clauses, log)?;
-    Ok(line_at(lesser(not_shown, first_empty(lines))))
+    let not_following = first_not_following(alloc, &clauses, log)?;
+    Ok(line_at(lesser(not_following, first_empty(lines))))
 }
 
 // The line as a place.

@@ -12,7 +12,7 @@ ghost use Rattle.assign_check.specs.Fault.{IsCleanOn};
 ghost use Rattle.cnf_encode.specs.Examples.{three_clauses};
 ghost use Rattle.rup_check.specs.Follows.{line_fault, Follows, ends_empty};
 ghost use Rattle.cert_types.specs.Examples.{not_one, the_end, out_of_turn, learner, fifth, log};
-ghost use Rattle.cert_types.specs.Lines.{first_line, is_shown, ends_there, has_literal, lesser};
+ghost use Rattle.cert_types.specs.FirstLine.{first_line, does_follow, ends_there, has_literal, lesser};
 ghost use Rattle.cert_types.specs.Refutes.{Refutes, is_proof_line};
 ghost use Rattle.cert_types.specs.Spent.{is_spent_line, AreSpentLines};
 ghost use Rattle.cert_types.specs.Valid.{answer_fault, IsValid, IsProof, IsSpentLog};
@@ -69,6 +69,6 @@ pub fn receipts_are_spent()
 /// The first line of a proof, or of a receipt, that is at fault is the lesser of the first that does not follow and the
 /// first that is empty, or is not, where it should be otherwise.
 pub fn first_line_at_fault()
-    ensures proof { (vars : ℕ) (clauses : List (List Lit)) (place : ℕ) (lines : List Line) → first_line (is_proof_line vars) clauses place lines ≡ lesser (first_line (is_shown vars) clauses place lines) (first_line ends_there clauses place lines) }
-    ensures receipt { (vars : ℕ) (clauses : List (List Lit)) (place : ℕ) (lines : List Line) → first_line (is_spent_line vars) clauses place lines ≡ lesser (first_line (is_shown vars) clauses place lines) (first_line has_literal clauses place lines) }
+    ensures proof { (vars : ℕ) (clauses : List (List Lit)) (place : ℕ) (lines : List Line) → first_line (is_proof_line vars) clauses place lines ≡ lesser (first_line (does_follow vars) clauses place lines) (first_line ends_there clauses place lines) }
+    ensures receipt { (vars : ℕ) (clauses : List (List Lit)) (place : ℕ) (lines : List Line) → first_line (is_spent_line vars) clauses place lines ≡ lesser (first_line (does_follow vars) clauses place lines) (first_line has_literal clauses place lines) }
 {}

@@ -4,7 +4,11 @@
 pub mod answer;
 pub mod certified;
 pub mod certify;
+mod first_line;
 pub mod laws;
-mod lines;
+#[cfg(test)]
+mod samples;
 mod subset;
 pub mod task;
+#[cfg(test)]
+mod tests;

@@ -14,8 +14,8 @@ first_line test clauses place (line ∷ lines) =
     if test clauses line lines then first_line test (clauses ++ line.lits ∷ []) (place + 1) lines else Some place
 
 -- a line follows from the clauses and lines before it
-abbrev pub is_shown : ℕ → List (List Lit) → Line → List Line → Bool
-is_shown vars clauses line rest = is_none (line_fault vars clauses line)
+abbrev pub does_follow : ℕ → List (List Lit) → Line → List Line → Bool
+does_follow vars clauses line rest = is_none (line_fault vars clauses line)
 
 -- a line is empty exactly where it is the last, as in a refutation
 abbrev pub ends_there : List (List Lit) → Line → List Line → Bool

@@ -1,6 +1,6 @@
 ghost use Rattle.std.specs.Prelude.{◌≡◌, IfOk, List, option_map};
 ghost use Rattle.clause_db.specs.declared.lit.Lit.{Lit};
-ghost use Rattle.cert_types.specs.Lines.{ends_there, first_line, has_literal, is_shown, lesser};
+ghost use Rattle.cert_types.specs.FirstLine.{ends_there, first_line, has_literal, does_follow, lesser};
 
 use clause_db::list::ClauseList;
 use rup_check::LogErr;
@@ -9,12 +9,12 @@ use rup_check::line::{Line, Log};
 use std::alloc::{AllocError as NoMemory, Global};
 
 /// The first line, from 1, that does not follow from the clauses and the lines before it.
-pub(crate) fn first_not_shown(
+pub(crate) fn first_not_following(
     alloc: Global,
     clauses: &ClauseList,
     log: &Log,
 ) -> Result<Option<u64>, NoMemory>
-    ensures { IfOk result (λ place. place ≡ first_line (is_shown clauses.now.vars) clauses.now.list 1 log.now.lines) }
+    ensures { IfOk result (λ place. place ≡ first_line (does_follow clauses.now.vars) clauses.now.list 1 log.now.lines) }
 {
     match check_log(alloc, clauses, log) {
         Ok(()) => Ok(None),
