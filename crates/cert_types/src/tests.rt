@@ -33,159 +33,114 @@ fn fault(alloc: Global, budget: u32, answer: Answer) -> Result<Option<Place>, No
     }
 }
 
-fn proof_fault(
+// The first of these proofs that is not at fault where it should be, by its place from 0. Each has a budget, a subset and
+// the lines of its log.
+fn wrong_proof(
     alloc: Global,
-    budget: u32,
-    subset: &[u32],
-    texts: &[Text],
-) -> Result<Option<Place>, NoMemory> {
-    fault(alloc, budget, proof(alloc, subset, texts)?)
+    cases: &[(u32, &[u32], &[Text], Option<Place>)],
+) -> Result<Option<usize>, NoMemory> {
+    for (i, (budget, subset, lines, want)) in cases.iter().enumerate() {
+        if fault(alloc, *budget, proof(alloc, subset, lines)?)? != *want {
+            return Ok(Some(i));
+        }
+    }
+    Ok(None)
 }
 
-fn receipt_fault(alloc: Global, budget: u32, texts: &[Text]) -> Result<Option<Place>, NoMemory> {
-    fault(alloc, budget, receipt(alloc, texts)?)
-}
-
-fn fit_fault(alloc: Global, delta: &[(u32, u8)]) -> Result<Option<Place>, NoMemory>
-    requires { IsAscending delta.now }
-{
-    fault(alloc, 1, fit(alloc, delta)?)
+// The same of receipts.
+fn wrong_receipt(
+    alloc: Global,
+    cases: &[(u32, &[Text], Option<Place>)],
+) -> Result<Option<usize>, NoMemory> {
+    for (i, (budget, lines, want)) in cases.iter().enumerate() {
+        if fault(alloc, *budget, receipt(alloc, lines)?)? != *want {
+            return Ok(Some(i));
+        }
+    }
+    Ok(None)
 }
 
 #[test]
-fn number_of_lines(rt: HostRuntime) -> Result<(), Fail> {
-    let alloc = rt.alloc();
-    let count = Some(Place::Count);
-    assert_eq!(rt; proof_fault(alloc, 1000, &[1, 2, 3], &[])?, count);
-    assert_eq!(rt;
-        proof_fault(alloc, 1, &[1, 2, 3], &[NOT_ONE, THE_END])?,
-        count
-    );
-    assert_eq!(rt;
-        proof_fault(alloc, 2, &[1, 2, 3], &[NOT_ONE, THE_END])?,
-        None
-    );
-    assert_eq!(rt; receipt_fault(alloc, 2, &[NOT_ONE])?, count);
-    assert_eq!(rt; receipt_fault(alloc, 1, &[NOT_ONE, NOT_ONE])?, count);
-    assert_eq!(rt; receipt_fault(alloc, 1, &[NOT_ONE])?, None);
+fn faults_of_proofs(rt: HostRuntime) -> Result<(), Fail> {
+    let all = &[1, 2, 3];
+    let (count, subset) = (Some(Place::Count), Some(Place::Subset));
+    let (first, second) = (Some(Place::LineAt(1)), Some(Place::LineAt(2)));
+    let cases: [(u32, &[u32], &[Text], Option<Place>); 11] = [
+        // The number of lines.
+        (1000, all, &[], count),
+        (1, all, &[NOT_ONE, THE_END], count),
+        (2, all, &[NOT_ONE, THE_END], None),
+        // The subset: out of order, one station twice, a stranger; and one whose clauses have other numbers.
+        (2, &[1, 3, 2], &[NOT_ONE, THE_END], subset),
+        (2, &[1, 1, 2], &[NOT_ONE, THE_END], subset),
+        (2, &[1, 2, 4], &[NOT_ONE, THE_END], subset),
+        (2, &[1, 2], &[NOT_ONE, THE_END], first),
+        // A line that does not follow, a last line that is not empty, an empty line before the last.
+        (9, all, &[OUT_OF_TURN, THE_END], first),
+        (9, all, &[NOT_ONE, OUT_OF_TURN, THE_END], second),
+        (9, all, &[NOT_ONE], first),
+        (9, all, &[NOT_ONE, THE_END, EMPTY_AGAIN], second),
+    ];
+    assert_eq!(rt; wrong_proof(rt.alloc(), &cases)?, None);
     Ok(())
 }
 
 #[test]
-fn subset_of_the_set(rt: HostRuntime) -> Result<(), Fail> {
-    let alloc = rt.alloc();
-    let subset = Some(Place::Subset);
-    assert_eq!(rt;
-        proof_fault(alloc, 2, &[1, 3, 2], &[NOT_ONE, THE_END])?,
-        subset
-    );
-    assert_eq!(rt;
-        proof_fault(alloc, 2, &[1, 1, 2], &[NOT_ONE, THE_END])?,
-        subset
-    );
-    assert_eq!(rt;
-        proof_fault(alloc, 2, &[1, 2, 4], &[NOT_ONE, THE_END])?,
-        subset
-    );
-    assert_eq!(rt;
-        proof_fault(alloc, 2, &[1, 2], &[NOT_ONE, THE_END])?,
-        Some(Place::LineAt(1))
-    );
+fn faults_of_receipts(rt: HostRuntime) -> Result<(), Fail> {
+    let cases: [(u32, &[Text], Option<Place>); 5] = [
+        (1, &[NOT_ONE], None),
+        (2, &[NOT_ONE], Some(Place::Count)),
+        (1, &[NOT_ONE, NOT_ONE], Some(Place::Count)),
+        (1, &[OUT_OF_TURN], Some(Place::LineAt(1))),
+        (2, &[NOT_ONE, THE_END], Some(Place::LineAt(2))),
+    ];
+    assert_eq!(rt; wrong_receipt(rt.alloc(), &cases)?, None);
     Ok(())
 }
 
 #[test]
-fn map_of_a_fit(rt: HostRuntime) -> Result<(), Fail> {
-    let alloc = rt.alloc();
-    assert_eq!(rt; fit_fault(alloc, &[])?, Some(Place::Station(3)));
-    assert_eq!(rt;
-        fit_fault(alloc, &[(3, 15), (4, 14)])?,
-        Some(Place::Station(4))
-    );
-    assert_eq!(rt; fit_fault(alloc, &[(3, 16)])?, Some(Place::Station(3)));
-    assert_eq!(rt;
-        fit_fault(alloc, &[(3, 15)])?,
-        Some(Place::PairOf(on_one(1, 3, 15)))
-    );
-    Ok(())
-}
-
-#[test]
-fn lines_of_a_proof(rt: HostRuntime) -> Result<(), Fail> {
-    let alloc = rt.alloc();
-    let set = [1, 2, 3];
-    let first = Some(Place::LineAt(1));
-    assert_eq!(rt;
-        proof_fault(alloc, 1000, &set, &[OUT_OF_TURN, THE_END])?,
-        first
-    );
-    assert_eq!(rt; proof_fault(alloc, 1000, &set, &[NOT_ONE])?, first);
-    let again = [NOT_ONE, THE_END, EMPTY_AGAIN];
-    assert_eq!(rt;
-        proof_fault(alloc, 1000, &set, &again)?,
-        Some(Place::LineAt(2))
-    );
-    let second = proof_fault(alloc, 1000, &set, &[NOT_ONE, OUT_OF_TURN, THE_END])?;
-    assert_eq!(rt; second, Some(Place::LineAt(2)));
-    Ok(())
-}
-
-#[test]
-fn lines_of_a_receipt(rt: HostRuntime) -> Result<(), Fail> {
-    let alloc = rt.alloc();
-    assert_eq!(rt;
-        receipt_fault(alloc, 1, &[OUT_OF_TURN])?,
-        Some(Place::LineAt(1))
-    );
-    assert_eq!(rt;
-        receipt_fault(alloc, 2, &[NOT_ONE, THE_END])?,
-        Some(Place::LineAt(2))
-    );
+fn faults_of_fits(rt: HostRuntime) -> Result<(), Fail> {
+    let cases: [(&[(u32, u8)], Place); 6] = [
+        (&[], Place::Station(3)),
+        (&[(3, 15), (4, 14)], Place::Station(4)),
+        (&[(3, 16)], Place::Station(3)),
+        (&[(3, 15)], Place::PairOf(on_one(1, 3, 15))),
+        // A station missing and one too many; a station off its domain and a pair.
+        (&[(4, 14)], Place::Station(3)),
+        (&[(1, 16), (3, 14)], Place::Station(1)),
+    ];
+    for (delta, want) in cases {
+        let answer = fit(rt.alloc(), delta)?;
+        assert_eq!(rt; fault(rt.alloc(), 1, answer)?, Some(want));
+    }
     Ok(())
 }
 
 #[test]
 fn first_of_two_faults(rt: HostRuntime) -> Result<(), Fail> {
-    let alloc = rt.alloc();
-    let set = [1, 2, 3];
-    // Too many lines, over no subset; over no subset, a line that does not follow.
-    assert_eq!(rt;
-        proof_fault(alloc, 1, &[4], &[OUT_OF_TURN, THE_END])?,
-        Some(Place::Count)
-    );
-    assert_eq!(rt;
-        proof_fault(alloc, 2, &[4], &[OUT_OF_TURN, THE_END])?,
-        Some(Place::Subset)
-    );
-    assert_eq!(rt;
-        receipt_fault(alloc, 3, &[OUT_OF_TURN, THE_END])?,
-        Some(Place::Count)
-    );
-    // A line that does not follow, and behind it one that is empty and not the last; and the other way round.
-    let empty_behind = [OUT_OF_TURN, EMPTY_AGAIN, NOT_ONE];
-    assert_eq!(rt;
-        proof_fault(alloc, 3, &set, &empty_behind)?,
-        Some(Place::LineAt(1))
-    );
-    assert_eq!(rt;
-        receipt_fault(alloc, 3, &empty_behind)?,
-        Some(Place::LineAt(1))
-    );
-    let empty_before = [NOT_ONE, THE_END, OUT_OF_TURN];
-    assert_eq!(rt;
-        proof_fault(alloc, 3, &set, &empty_before)?,
-        Some(Place::LineAt(2))
-    );
-    assert_eq!(rt;
-        receipt_fault(alloc, 3, &empty_before)?,
-        Some(Place::LineAt(2))
-    );
-    // A station missing and one too many; a station off its domain and a pair.
-    assert_eq!(rt; fit_fault(alloc, &[(4, 14)])?, Some(Place::Station(3)));
-    assert_eq!(rt;
-        fit_fault(alloc, &[(1, 16), (3, 14)])?,
-        Some(Place::Station(1))
-    );
+    let all = &[1, 2, 3];
+    let (first, second) = (Some(Place::LineAt(1)), Some(Place::LineAt(2)));
+    let cases: [(u32, &[u32], &[Text], Option<Place>); 4] = [
+        // Too many lines, over no subset; over no subset, a line that does not follow.
+        (1, &[4, 5], &[OUT_OF_TURN, THE_END], Some(Place::Count)),
+        (2, &[4, 5], &[OUT_OF_TURN, THE_END], Some(Place::Subset)),
+        // A line that does not follow, and behind it an empty one before the last; and the other way round.
+        (3, all, &[OUT_OF_TURN, EMPTY_AGAIN, NOT_ONE], first),
+        (3, all, &[NOT_ONE, THE_END, OUT_OF_TURN], second),
+    ];
+    assert_eq!(rt; wrong_proof(rt.alloc(), &cases)?, None);
+    Ok(())
+}
+
+#[test]
+fn first_of_two_faults_of_receipts(rt: HostRuntime) -> Result<(), Fail> {
+    let (first, second) = (Some(Place::LineAt(1)), Some(Place::LineAt(2)));
+    let cases: [(u32, &[Text], Option<Place>); 3] = [
+        (3, &[OUT_OF_TURN, THE_END], Some(Place::Count)),
+        (3, &[OUT_OF_TURN, EMPTY_AGAIN, NOT_ONE], first),
+        (3, &[NOT_ONE, THE_END, OUT_OF_TURN], second),
+    ];
+    assert_eq!(rt; wrong_receipt(rt.alloc(), &cases)?, None);
     Ok(())
 }
 
