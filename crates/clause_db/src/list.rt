@@ -1,4 +1,4 @@
-ghost use Rattle.std.specs.Prelude.{◌≡◌, ◌+◌, ◌-◌, ◌≤◌, ◌++◌, ◌∷◌, [], length, IfOk, OnOk, OnErr, Some, slice_index_or, slice_range};
+ghost use Rattle.std.specs.Prelude.{◌≡◌, ◌+◌, ◌-◌, ◌≤◌, ◌++◌, ◌∷◌, [], length, OnOk, OnErr, Some, slice_index_or, slice_range};
 ghost use Rattle.clause_db.specs.Clause.{clause_at};
 
 use crate::lit::Lit;

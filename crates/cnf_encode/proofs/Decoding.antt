@@ -10,30 +10,35 @@ use Rattle.pack_defs.specs.declared.pair.Pair.{Pair}
 use Rattle.pack_defs.specs.Book.{BookView, domain_of, joins}
 use Rattle.pack_defs.specs.Lists.{is_in, has_entry, same_entry}
 use Rattle.pack_defs.specs.Packing.{IsClean, IsPacking}
-use Rattle.cnf_encode.specs.Formula.{variable_of, at_least_one, not_both, at_most_one, is_inside, packing_formula}
+use Rattle.cnf_encode.specs.Formula.{variable_of, station_variables, at_least_one, not_both, at_most_one, is_inside, pair_clause, packing_formula}
 use Rattle.cnf_encode.specs.Decode.{chosen, decoded}
 use Rattle.pack_defs.proofs.Words.{list_all-at, list_all-map, list_any-map, first-passes, entry, pair_same, has_entry-from_Contains}
 
 -- the three parts of the formula
 parts-hold : (book : BookView) (set : List ℕ) (model : ℕ → Bool) → Satisfies model (packing_formula book set) →
-    (list_all (clause_holds model) (map (at_least_one book set) set) ≡ true)
-    × (list_all (clause_holds model) (flat_map (λ s. at_most_one book set s (domain_of book s)) set) ≡ true)
-    × (list_all (clause_holds model) (map (λ p. not_both book set (p.f, p.a) (p.g, p.b)) (filter (is_inside set) book.pairs)) ≡ true)
+    (list_all (clause_holds model) (map (λ s. at_least_one (station_variables book set s)) set) ≡ true)
+    × (list_all (clause_holds model) (flat_map (λ s. at_most_one (station_variables book set s)) set) ≡ true)
+    × (list_all (clause_holds model) (map (pair_clause book set) (filter (is_inside set) book.pairs)) ≡ true)
 unfolding packing_formula
 parts-hold book set model h =
-    let A : List (List Lit) = map (at_least_one book set) set in
-    let B : List (List Lit) = flat_map (λ s. at_most_one book set s (domain_of book s)) set in
-    let C : List (List Lit) = map (λ p. not_both book set (p.f, p.a) (p.g, p.b)) (filter (is_inside set) book.pairs) in
+    let A : List (List Lit) = map (λ s. at_least_one (station_variables book set s)) set in
+    let B : List (List Lit) = flat_map (λ s. at_most_one (station_variables book set s)) set in
+    let C : List (List Lit) = map (pair_clause book set) (filter (is_inside set) book.pairs) in
     let outer = and_parts (list_all (clause_holds model) (A ++ B)) (list_all (clause_holds model) C) (sym (list_all-append (clause_holds model) (A ++ B) C) ∙ h) in
     let inner = and_parts (list_all (clause_holds model) A) (list_all (clause_holds model) B) (sym (list_all-append (clause_holds model) A B) ∙ outer.0) in
     (inner.0, inner.1, outer.1)
 
+-- the clause for one of some variables holds where one is true
+pub some-holds : (model : ℕ → Bool) (f : ℕ → ℕ) (xs : List ℕ) → clause_holds model (at_least_one (map f xs)) ≡ list_any (λ x. model (f x)) xs
+some-holds model f xs = list_any-map (lit_holds model) pos_lit (map f xs) ∙ list_any-map (λ v. model v) f xs
+
 -- the chosen channel of a station of the set is of its domain, and its variable is true
 pub chosen-ok : (book : BookView) (set : List ℕ) (model : ℕ → Bool) (s : ℕ) → Satisfies model (packing_formula book set) → is_in set s ≡ true → (model (variable_of book set (s, chosen book set model s)) ≡ true) × (is_in (domain_of book s) (chosen book set model s) ≡ true)
 chosen-ok book set model s h m =
-    let all : list_all (λ s. clause_holds model (at_least_one book set s)) set ≡ true = sym (list_all-map (clause_holds model) (at_least_one book set) set) ∙ (parts-hold book set model h).0 in
-    let one : clause_holds model (at_least_one book set s) ≡ true = list_all-at (λ s. clause_holds model (at_least_one book set s)) set s all m in
-    first-passes (λ c. model (variable_of book set (s, c))) (domain_of book s) (sym (list_any-map (lit_holds model) (λ c. pos_lit (variable_of book set (s, c))) (domain_of book s)) ∙ one)
+    let clause : ℕ → List Lit = λ s. at_least_one (station_variables book set s) in
+    let all : list_all (λ s. clause_holds model (clause s)) set ≡ true = sym (list_all-map (clause_holds model) clause set) ∙ (parts-hold book set model h).0 in
+    let one : clause_holds model (clause s) ≡ true = list_all-at (λ s. clause_holds model (clause s)) set s all m in
+    first-passes (λ c. model (variable_of book set (s, c))) (domain_of book s) (sym (some-holds model (λ c. variable_of book set (s, c)) (domain_of book s)) ∙ one)
 
 -- an entry of the decoded map is a station of the set on its chosen channel
 decoded-entry : (book : BookView) (set : List ℕ) (model : ℕ → Bool) (stations : List ℕ) (x : ℕ × ℕ) → has_entry (map (λ s. (s, chosen book set model s)) stations) x ≡ true → (is_in stations x.0 ≡ true) × (x.1 ≡ chosen book set model x.0)
@@ -63,7 +68,7 @@ both-false false w e f = cc
 pair-false : (book : BookView) (set : List ℕ) (model : ℕ → Bool) (x y : ℕ × ℕ) (p : Pair) →
     model (variable_of book set x) ≡ true → model (variable_of book set y) ≡ true →
     ((p.f == x.0) && ((p.a == x.1) && ((p.g == y.0) && (p.b == y.1)))) ≡ true →
-    clause_holds model (not_both book set (p.f, p.a) (p.g, p.b)) ≡ false
+    clause_holds model (pair_clause book set p) ≡ false
 pair-false book set model x y p mx my j =
     let a = and_parts (p.f == x.0) ((p.a == x.1) && ((p.g == y.0) && (p.b == y.1))) j in
     let b = and_parts (p.a == x.1) ((p.g == y.0) && (p.b == y.1)) a.1 in
@@ -103,17 +108,17 @@ kept-part q h p rest false e = (λ (f : false ≡ true). cc, e)
 -- no pair within the set joins two entries whose variables are true
 no-pair : (book : BookView) (set : List ℕ) (model : ℕ → Bool) (x y : ℕ × ℕ) (ps : List Pair) →
     model (variable_of book set x) ≡ true → model (variable_of book set y) ≡ true → is_in set x.0 ≡ true → is_in set y.0 ≡ true →
-    list_all (clause_holds model) (map (λ p. not_both book set (p.f, p.a) (p.g, p.b)) (filter (is_inside set) ps)) ≡ true →
+    list_all (clause_holds model) (map (pair_clause book set) (filter (is_inside set) ps)) ≡ true →
     list_any (λ p. joins p x y) ps ≡ false
 no-pair book set model x y [] mx my sx sy h = refl
 no-pair book set model x y (p ∷ ps) mx my sx sy h =
-    let parts = kept-part (clause_holds model) (λ p. not_both book set (p.f, p.a) (p.g, p.b)) p (filter (is_inside set) ps) (is_inside set p) h in
+    let parts = kept-part (clause_holds model) (pair_clause book set) p (filter (is_inside set) ps) (is_inside set p) h in
     let apart : joins p x y ≡ true → ⊥ = λ j.
-    let yes : clause_holds model (not_both book set (p.f, p.a) (p.g, p.b)) ≡ true = parts.0 (within set p x y sx sy j) in
-    let no : clause_holds model (not_both book set (p.f, p.a) (p.g, p.b)) ≡ false =
+    let yes : clause_holds model (pair_clause book set p) ≡ true = parts.0 (within set p x y sx sy j) in
+    let no : clause_holds model (pair_clause book set p) ≡ false =
     ⊎_elim (λ e. pair-false book set model x y p mx my e) (λ e. pair-false book set model y x p my mx e)
     (or_cases ((p.f == x.0) && ((p.a == x.1) && ((p.g == y.0) && (p.b == y.1)))) ((p.f == y.0) && ((p.a == y.1) && ((p.g == x.0) && (p.b == x.1)))) j) in
-    both_ways (clause_holds model (not_both book set (p.f, p.a) (p.g, p.b))) no yes in
+    both_ways (clause_holds model (pair_clause book set p)) no yes in
     or_from (joins p x y) (list_any (λ p. joins p x y) ps) (false_from_ne_true (joins p x y) apart) (no-pair book set model x y ps mx my sx sy parts.1)
 
 stations-of : (book : BookView) (set : List ℕ) (model : ℕ → Bool) (stations : List ℕ) → map (λ x. x.0) (map (λ s. entry s (chosen book set model s)) stations) ≡ stations

@@ -11,8 +11,9 @@ use Rattle.pack_defs.specs.Book.{BookView, IsInOrder, domain_of, is_forbidden}
 use Rattle.pack_defs.specs.Lists.{is_in, has_entry, same_entry, is_ascending}
 use Rattle.pack_defs.specs.Packing.{IsPacking}
 use Rattle.pack_defs.proofs.BookLemmas.{channels_in-ascend}
-use Rattle.cnf_encode.specs.Formula.{choices, number_of, variable_of, at_least_one, not_both, at_most_one, is_inside, packing_formula}
+use Rattle.cnf_encode.specs.Formula.{choices, number_of, variable_of, station_variables, at_least_one, not_both, at_most_one, is_inside, pair_clause, packing_formula}
 use Rattle.cnf_encode.specs.Decode.{model_of}
+use Rattle.cnf_encode.proofs.Decoding.{some-holds}
 use Rattle.pack_defs.proofs.Words.{list_all-map, list_any-map, list_all-flat_map, same_entry-same, same_entry-itself, Contains-from_has_entry, below-later, ascending-rest, station-in, one-entry, pair-forbids}
 
 -- a clean map of exactly an ascending set, where domains ascend
@@ -122,44 +123,46 @@ entries-chosen book set entries h x k =
     choices-have book set x.0 x.1 s on
 
 -- two entries that don't both stand are not both true
-not-both-holds : (book : BookView) (set : List ℕ) (entries : List (ℕ × ℕ)) (x y : ℕ × ℕ) → IsMapOf book set entries → (has_entry entries x ≡ true → has_entry entries y ≡ true → ⊥) → clause_holds (model_of book set entries) (not_both book set x y) ≡ true
+not-both-holds : (book : BookView) (set : List ℕ) (entries : List (ℕ × ℕ)) (x y : ℕ × ℕ) → IsMapOf book set entries → (has_entry entries x ≡ true → has_entry entries y ≡ true → ⊥) → clause_holds (model_of book set entries) (not_both (variable_of book set x) (variable_of book set y)) ≡ true
 not-both-holds book set entries x y h f =
     not-both (model_of book set entries (variable_of book set x)) (model_of book set entries (variable_of book set y))
     (λ mx my. f (true-entry (choices book set) entries x (entries-chosen book set entries h) mx) (true-entry (choices book set) entries y (entries-chosen book set entries h) my))
 
-least-holds : (book : BookView) (set : List ℕ) (entries : List (ℕ × ℕ)) → IsMapOf book set entries → list_all (clause_holds (model_of book set entries)) (map (at_least_one book set) set) ≡ true
+least-holds : (book : BookView) (set : List ℕ) (entries : List (ℕ × ℕ)) → IsMapOf book set entries → list_all (clause_holds (model_of book set entries)) (map (λ s. at_least_one (station_variables book set s)) set) ≡ true
 least-holds book set entries h =
     let model = model_of book set entries in
-    list_all-map (clause_holds model) (at_least_one book set) set ∙
-    list_all-from (λ s. clause_holds model (at_least_one book set s)) set (λ s m.
+    let clause : ℕ → List Lit = λ s. at_least_one (station_variables book set s) in
+    list_all-map (clause_holds model) clause set ∙
+    list_all-from (λ s. clause_holds model (clause s)) set (λ s m.
     let its = its-entry entries s (subst (λ z. is_in z s ≡ true) (sym h.packing.stations) (is_in-from set s m)) in
     let on : is_in (domain_of book s) its.0 ≡ true = is_in-from (domain_of book s) its.0 (h.packing.clean.on_domain (s, its.0) (Contains-from_has_entry entries (s, its.0) its.1)) in
-    list_any-map (lit_holds model) (λ c. pos_lit (variable_of book set (s, c))) (domain_of book s) ∙
+    some-holds model (λ c. variable_of book set (s, c)) (domain_of book s) ∙
     any-at (λ c. model (variable_of book set (s, c))) (domain_of book s) its.0 on (entry-true (choices book set) entries (s, its.0) its.1))
 
-most-of : (book : BookView) (set : List ℕ) (entries : List (ℕ × ℕ)) (s : ℕ) (cs : List ℕ) → IsMapOf book set entries → is_ascending cs ≡ true → list_all (clause_holds (model_of book set entries)) (at_most_one book set s cs) ≡ true
+most-of : (book : BookView) (set : List ℕ) (entries : List (ℕ × ℕ)) (s : ℕ) (cs : List ℕ) → IsMapOf book set entries → is_ascending cs ≡ true → list_all (clause_holds (model_of book set entries)) (at_most_one (map (λ c. variable_of book set (s, c)) cs)) ≡ true
 most-of book set entries s [] h a = refl
 most-of book set entries s (c ∷ cs) h a =
-    let model = model_of book set entries in
+    let holds : List Lit → Bool = clause_holds (model_of book set entries) in
+    let f : ℕ → ℕ = λ c. variable_of book set (s, c) in
     let ascending : is_ascending (map (λ y. y.0) entries) ≡ true = subst (λ z. is_ascending z ≡ true) (sym h.packing.stations) h.rises in
-    let first : list_all (clause_holds model) (map (λ d. not_both book set (s, c) (s, d)) cs) ≡ true =
-    list_all-map (clause_holds model) (λ d. not_both book set (s, c) (s, d)) cs ∙
-    list_all-from (λ d. clause_holds model (not_both book set (s, c) (s, d))) cs (λ d m.
+    let first : list_all holds (map (not_both (f c)) (map f cs)) ≡ true =
+    list_all-map holds (not_both (f c)) (map f cs) ∙ list_all-map (λ v. holds (not_both (f c) v)) f cs ∙
+    list_all-from (λ d. holds (not_both (f c) (f d))) cs (λ d m.
     let less : c < d = below-later c cs d a (is_in-from cs d m) in
     not-both-holds book set entries (s, c) (s, d) h (λ hc hd. let same : c ≡ d = one-entry entries s c d ascending hc hd in absurd (omega arith))) in
-    list_all-append (clause_holds model) (map (λ d. not_both book set (s, c) (s, d)) cs) (at_most_one book set s cs) ∙
-    and_from (list_all (clause_holds model) (map (λ d. not_both book set (s, c) (s, d)) cs)) (list_all (clause_holds model) (at_most_one book set s cs)) first (most-of book set entries s cs h (ascending-rest c cs a))
+    list_all-append holds (map (not_both (f c)) (map f cs)) (at_most_one (map f cs)) ∙
+    and_from (list_all holds (map (not_both (f c)) (map f cs))) (list_all holds (at_most_one (map f cs))) first (most-of book set entries s cs h (ascending-rest c cs a))
 
-most-holds : (book : BookView) (set : List ℕ) (entries : List (ℕ × ℕ)) → IsMapOf book set entries → list_all (clause_holds (model_of book set entries)) (flat_map (λ s. at_most_one book set s (domain_of book s)) set) ≡ true
+most-holds : (book : BookView) (set : List ℕ) (entries : List (ℕ × ℕ)) → IsMapOf book set entries → list_all (clause_holds (model_of book set entries)) (flat_map (λ s. at_most_one (station_variables book set s)) set) ≡ true
 most-holds book set entries h =
-    list_all-flat_map (clause_holds (model_of book set entries)) (λ s. at_most_one book set s (domain_of book s)) set ∙
-    list_all-from (λ s. list_all (clause_holds (model_of book set entries)) (at_most_one book set s (domain_of book s))) set (λ s m. most-of book set entries s (domain_of book s) h (h.domains s))
+    list_all-flat_map (clause_holds (model_of book set entries)) (λ s. at_most_one (station_variables book set s)) set ∙
+    list_all-from (λ s. list_all (clause_holds (model_of book set entries)) (at_most_one (station_variables book set s))) set (λ s m. most-of book set entries s (domain_of book s) h (h.domains s))
 
-pairs-hold : (book : BookView) (set : List ℕ) (entries : List (ℕ × ℕ)) → IsMapOf book set entries → list_all (clause_holds (model_of book set entries)) (map (λ p. not_both book set (p.f, p.a) (p.g, p.b)) (filter (is_inside set) book.pairs)) ≡ true
+pairs-hold : (book : BookView) (set : List ℕ) (entries : List (ℕ × ℕ)) → IsMapOf book set entries → list_all (clause_holds (model_of book set entries)) (map (pair_clause book set) (filter (is_inside set) book.pairs)) ≡ true
 pairs-hold book set entries h =
-    list_all-map (clause_holds (model_of book set entries)) (λ p. not_both book set (p.f, p.a) (p.g, p.b)) (filter (is_inside set) book.pairs) ∙
-    list_all-filter (λ p. clause_holds (model_of book set entries) (not_both book set (p.f, p.a) (p.g, p.b))) (is_inside set) book.pairs
-    (list_all-from (λ p. clause_holds (model_of book set entries) (not_both book set (p.f, p.a) (p.g, p.b))) book.pairs (λ p m.
+    list_all-map (clause_holds (model_of book set entries)) (pair_clause book set) (filter (is_inside set) book.pairs) ∙
+    list_all-filter (λ p. clause_holds (model_of book set entries) (pair_clause book set p)) (is_inside set) book.pairs
+    (list_all-from (λ p. clause_holds (model_of book set entries) (pair_clause book set p)) book.pairs (λ p m.
     not-both-holds book set entries (p.f, p.a) (p.g, p.b) h (λ hx hy.
     both_ways (is_forbidden book (p.f, p.a) (p.g, p.b)) (h.packing.clean.apart (p.f, p.a) (p.g, p.b) (Contains-from_has_entry entries (p.f, p.a) hx) (Contains-from_has_entry entries (p.g, p.b) hy)) (pair-forbids book p m))))
 
@@ -167,9 +170,9 @@ map-satisfies : (book : BookView) (set : List ℕ) (entries : List (ℕ × ℕ))
 unfolding packing_formula
 map-satisfies book set entries h =
     let model = model_of book set entries in
-    let A : List (List Lit) = map (at_least_one book set) set in
-    let B : List (List Lit) = flat_map (λ s. at_most_one book set s (domain_of book s)) set in
-    let C : List (List Lit) = map (λ p. not_both book set (p.f, p.a) (p.g, p.b)) (filter (is_inside set) book.pairs) in
+    let A : List (List Lit) = map (λ s. at_least_one (station_variables book set s)) set in
+    let B : List (List Lit) = flat_map (λ s. at_most_one (station_variables book set s)) set in
+    let C : List (List Lit) = map (pair_clause book set) (filter (is_inside set) book.pairs) in
     list_all-append (clause_holds model) (A ++ B) C ∙
     and_from (list_all (clause_holds model) (A ++ B)) (list_all (clause_holds model) C)
     (list_all-append (clause_holds model) A B ∙ and_from (list_all (clause_holds model) A) (list_all (clause_holds model) B) (least-holds book set entries h) (most-holds book set entries h))

@@ -25,27 +25,35 @@ variable_of book set x = number_of (choices book set) x
 abbrev pub variables_in : BookView → List ℕ → ℕ
 variables_in book set = length (choices book set)
 
--- the station is on some channel of its domain
-abbrev pub at_least_one : BookView → List ℕ → ℕ → List Lit
-at_least_one book set s = map (λ c. pos_lit (variable_of book set (s, c))) (domain_of book s)
+-- the variables of a station of the set, one for each channel of its domain
+abbrev pub station_variables : BookView → List ℕ → ℕ → List ℕ
+station_variables book set s = map (λ c. variable_of book set (s, c)) (domain_of book s)
 
--- the two choices are not both made
-abbrev pub not_both : BookView → List ℕ → ℕ × ℕ → ℕ × ℕ → List Lit
-not_both book set x y = neg_lit (variable_of book set x) ∷ neg_lit (variable_of book set y) ∷ []
+-- one of the variables is true
+abbrev pub at_least_one : List ℕ → List Lit
+at_least_one vars = map pos_lit vars
 
--- the station is not on two of these channels: a clause for each two, in the list's order
-abbrev pub at_most_one : BookView → List ℕ → ℕ → List ℕ → List (List Lit)
-at_most_one book set s [] = []
-at_most_one book set s (c ∷ cs) = map (λ d. not_both book set (s, c) (s, d)) cs ++ at_most_one book set s cs
+-- the two variables are not both true
+abbrev pub not_both : ℕ → ℕ → List Lit
+not_both v w = neg_lit v ∷ neg_lit w ∷ []
+
+-- no two of the variables are true: a clause for each two, by the first and then by the second
+abbrev pub at_most_one : List ℕ → List (List Lit)
+at_most_one [] = []
+at_most_one (v ∷ vs) = map (not_both v) vs ++ at_most_one vs
 
 -- both stations of the pair are of the set
 abbrev pub is_inside : List ℕ → Pair → Bool
 is_inside set p = is_in set p.f && is_in set p.g
 
+-- the pair's two stations are not both on its channels
+abbrev pub pair_clause : BookView → List ℕ → Pair → List Lit
+pair_clause book set p = not_both (variable_of book set (p.f, p.a)) (variable_of book set (p.g, p.b))
+
 -- The formula: each station of the set is on some channel; then, none is on two; then, no pair of the book between two of
 -- them stands.
 unfoldable pub packing_formula : BookView → List ℕ → List (List Lit)
 packing_formula book set =
-    map (at_least_one book set) set
-    ++ flat_map (λ s. at_most_one book set s (domain_of book s)) set
-    ++ map (λ p. not_both book set (p.f, p.a) (p.g, p.b)) (filter (is_inside set) book.pairs)
+    map (λ s. at_least_one (station_variables book set s)) set
+    ++ flat_map (λ s. at_most_one (station_variables book set s)) set
+    ++ map (pair_clause book set) (filter (is_inside set) book.pairs)

@@ -1,3 +1,4 @@
 pub mod Formula
+pub mod ByStation
 pub mod Decode
 pub mod Examples

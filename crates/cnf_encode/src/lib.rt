@@ -4,3 +4,4 @@
 pub mod decode;
 pub mod encode;
 pub mod laws;
+pub mod numbering;

@@ -1,0 +1,81 @@
+ghost use Rattle.std.specs.Prelude.{◌≡◌, ◌+◌, ◌<◌, ◌≤◌, IfOk, IsTrue, length, slice_index, take};
+ghost use Rattle.pack_defs.specs.Lists.{is_ascending, is_in};
+ghost use Rattle.pack_defs.specs.Book.{domain_of};
+ghost use Rattle.cnf_encode.specs.Formula.{variable_of};
+ghost use Rattle.cnf_encode.specs.ByStation.{AreOffsets, IsCount};
+
+use pack_defs::book::Book;
+use std::alloc::{AllocError as NoMemory, Global};
+
+/// The variable, from 1, that is true where station `s` of an ascending set is on channel `c` of its domain, in the
+/// packing formula of the set. It adds up the domains of the stations before `s`.
+pub fn var(book: &Book, set: &[u32], s: u32, c: u8) -> u32
+    requires ascending { IsTrue (is_ascending set.now) }
+    requires of_set { IsTrue (is_in set.now s) }
+    requires on_domain { IsTrue (is_in (domain_of book.now s) c) }
+    ensures { result ≡ variable_of book.now set.now (s, c) }
+{
+    let place = set.partition_point(|t| *t < s);
+    let mut before = 0;
+    for i in 0..place {
+        before = with_station(book, set, i, before);
+    }
+    before + place_of(channels_of(book, s), c) as u32 + 1
+}
+
+// For each station of an ascending set, how many variables the stations before it have, and last how many all have.
+pub(crate) fn offsets(alloc: Global, book: &Book, set: &[u32]) -> Result<Vec<u32>, NoMemory>
+    requires { IsTrue (is_ascending set.now) }
+    ensures { IfOk result (λ offsets. AreOffsets book.now set.now offsets.items) }
+{
+    let mut offsets = Vec::new(alloc);
+    let mut before = 0;
+    offsets.push(before)?;
+    for i in 0..set.len() {
+        before = with_station(book, set, i, before);
+        offsets.push(before)?;
+    }
+    Ok(offsets)
+}
+
+// How many variables the stations up to place `i` have with this one, where those before it have `before`.
+fn with_station(book: &Book, set: &[u32], i: usize, before: u32) -> u32
+    requires ascending { IsTrue (is_ascending set.now) }
+    requires in_set { i < length set.now }
+    requires counted { IsCount book.now (take i set.now) before }
+    ensures { IsCount book.now (take (i + 1) set.now) result }
+{
+    // A book has few stations, so that the sum fits.
+    let _stations = book.len();
+    before + count_of(channels_of(book, set[i]))
+}
+
+// How many channels these are: at most 256, as they ascend.
+fn count_of(channels: &[u8]) -> u32
+    requires { IsTrue (is_ascending channels.now) }
+    ensures count { result ≡ length channels.now }
+    ensures few { result ≤ 256 }
+{
+    channels.len() as u32
+}
+
+// The channels of a station, which ascend.
+pub(crate) fn channels_of(book: &Book, s: u32) -> &[u8]
+    ensures channels { result.now ≡ domain_of book.now s }
+    ensures ascending { IsTrue (is_ascending result.now) }
+{
+    // A book is in order.
+    let _stations = book.len();
+    book.domain(s)
+}
+
+// The place of one of these ascending channels, by halves.
+pub(crate) fn place_of(channels: &[u8], c: u8) -> usize
+    requires ascending { IsTrue (is_ascending channels.now) }
+    requires has { IsTrue (is_in channels.now c) }
+    ensures within { result < length channels.now }
+    ensures few { result < 256 }
+    ensures at { slice_index channels.now result ≡ c }
+{
+    channels.partition_point(|d| *d < c)
+}
