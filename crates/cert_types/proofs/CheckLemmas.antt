@@ -1,5 +1,5 @@
 -- What the parts of the check find is the definition's fault.
-use Rattle.std.proofs.Common.{◌≡◌, ℕ, zero, suc, ◌+◌, ◌<◌, ◌≤◌, Bool, true, false, ◌==◌, ◌&&◌, List, length, Option, Some, option_map, refl, sym, ap, ◌∙◌, nat_lt, nat_le, arith, lt-ltb, le-leb, eq-eqb}
+use Rattle.std.proofs.Common.{◌≡◌, ℕ, zero, suc, ◌<◌, ◌≤◌, Bool, true, false, ◌==◌, List, length, Option, option_map, sym, ap, ◌∙◌, nat_lt, nat_le, arith, lt-ltb, le-leb, eq-eqb}
 use Rattle.std.proofs.lemmas.Bool.{and_from}
 use Rattle.clause_db.specs.declared.lit.Lit.{Lit}
 use Rattle.pack_defs.specs.declared.worker.Worker.{Worker}

@@ -1,5 +1,5 @@
 -- A set that is refuted does not fit.
-use Rattle.std.proofs.Common.{◌≡◌, ℕ, true, ◌&&◌, List, [], map, Contains, sym, subst}
+use Rattle.std.proofs.Common.{◌≡◌, ℕ, true, List, [], Contains, sym, subst}
 use Rattle.std.specs.List.{list_all}
 use Rattle.std.proofs.lemmas.Bool.{and_parts}
 use Rattle.pack_defs.specs.Book.{BookView, IsInOrder, domain_of}

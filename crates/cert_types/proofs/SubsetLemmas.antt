@@ -1,5 +1,5 @@
 -- What is left of a list decides as the whole does.
-use Rattle.std.proofs.Common.{◌≡◌, ℕ, ◌+◌, ◌-◌, ◌<◌, ◌≤◌, Bool, true, false, ◌&&◌, cond, List, [], ◌∷◌, length, drop, get_or, nat_lt, refl, sym, ap, ◌∙◌, arith, length-drop, lt-ltb, le-ltb}
+use Rattle.std.proofs.Common.{◌≡◌, ℕ, ◌+◌, ◌-◌, ◌<◌, ◌≤◌, Bool, true, false, ◌&&◌, List, [], ◌∷◌, length, drop, get_or, refl, sym, ap, ◌∙◌, arith, length-drop, lt-ltb, le-ltb}
 use Rattle.std.specs.List.{list_all}
 use Rattle.clause_db.proofs.Literals.{drop-from}
 use Rattle.pack_defs.specs.Lists.{is_ascending}
