@@ -16,9 +16,10 @@ use pack_defs::worker::Worker;
 use rup_check::line::Log;
 use std::alloc::{AllocError as NoMemory, Global};
 
-/// Lets an answer through exactly where it is valid for this book, task and worker: where it is a fit, by the map that it
-/// leaves; where it is a proof or a receipt, by its log, line for line over the clauses of its set. It costs what the set,
-/// its pairs and the log cost, and copies neither the answer nor the clauses.
+/// Lets an answer through exactly where it is valid for this book, task and worker. A fit is judged by the map that it
+/// leaves; a proof and a receipt by their number of lines, and line for line over the clauses of a proof's subset or of
+/// the task's set, which costs what these clauses and the literals and hints of the log cost. No code of a solver is
+/// asked, and neither the answer nor the clauses are copied.
 ///
 /// # Errors
 ///
@@ -38,15 +39,16 @@ pub fn certify(
 {
     match fault_of(alloc, book, task, worker, &answer) {
         Ok(None) => Ok(Certified::new(book, task, worker, answer)),
-        Ok(Some(place)) => Err(CertifyFault {
-            why: CertifyWhy::Rejected(place),
-            answer,
-        }),
-        Err(_) => Err(CertifyFault {
-            why: CertifyWhy::NoMemory,
-            answer,
-        }),
+        Ok(Some(place)) => Err(refused(CertifyWhy::Rejected(place), answer)),
+        Err(_) => Err(refused(CertifyWhy::NoMemory, answer)),
     }
+}
+
+// The answer, handed back.
+fn refused(why: CertifyWhy, answer: Answer) -> CertifyFault
+    ensures { result ≡ record { why = why; answer = answer } }
+{
+    CertifyFault { why, answer }
 }
 
 // The first place at which an answer is at fault.

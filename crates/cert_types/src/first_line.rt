@@ -1,4 +1,4 @@
-ghost use Rattle.std.specs.Prelude.{◌≡◌, IfOk, List, option_map};
+ghost use Rattle.std.specs.Prelude.{◌≡◌, IfOk, List};
 ghost use Rattle.clause_db.specs.declared.lit.Lit.{Lit};
 ghost use Rattle.cert_types.specs.FirstLine.{ends_there, first_line, has_literal, does_follow, lesser};
 

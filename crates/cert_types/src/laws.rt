@@ -1,6 +1,6 @@
 //! What it says that an answer is valid, about the definitions alone.
 
-ghost use Rattle.std.specs.Prelude.{◌≡◌, ◌↔◌, ℕ, List, [], ◌∷◌, map, Some, None, true, IsTrue};
+ghost use Rattle.std.specs.Prelude.{◌≡◌, ◌↔◌, ℕ, List, [], ◌∷◌, map, Some, None, IsTrue};
 ghost use Rattle.std.specs.List.{list_all};
 ghost use Rattle.clause_db.specs.declared.lit.Lit.{Lit};
 ghost use Rattle.pack_defs.specs.Examples.{three_stations, pair};

@@ -1,5 +1,3 @@
-ghost use Rattle.pack_defs.specs.ChannelMap.{IsAscending};
-
 use crate::answer::{Answer, CertifyFault, CertifyWhy, Place, Receipt, Refutation};
 use crate::certified::Certified;
 use crate::certify::certify;
