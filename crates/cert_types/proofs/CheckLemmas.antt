@@ -1,0 +1,40 @@
+-- What the parts of the check find is the definition's fault.
+use Rattle.std.proofs.Common.{◌≡◌, ℕ, zero, suc, ◌<◌, ◌≤◌, Bool, true, false, ◌==◌, List, length, Option, option_map, sym, ap, ◌∙◌, nat_lt, nat_le, arith, lt-ltb, le-leb, eq-eqb}
+use Rattle.std.proofs.lemmas.Bool.{and_from}
+use Rattle.clause_db.specs.declared.lit.Lit.{Lit}
+use Rattle.pack_defs.specs.declared.worker.Worker.{Worker}
+use Rattle.pack_defs.specs.Book.{BookView}
+use Rattle.cnf_encode.specs.Formula.{packing_formula, variables_in}
+use Rattle.rup_check.specs.declared.line.Line.{Line}
+use Rattle.cert_types.specs.declared.task.Task.{Task}
+use Rattle.cert_types.specs.declared.answer.Place.{Place}
+use Rattle.cert_types.specs.declared.answer.Place.TheVariants.{Count, Subset, LineAt}
+use Rattle.cert_types.specs.FirstLine.{first_line, does_follow, passes_both, lesser}
+use Rattle.cert_types.specs.Refutes.{is_subset, is_proof_line}
+use Rattle.cert_types.specs.Spent.{is_spent_line}
+use Rattle.cert_types.specs.Valid.{proof_fault, spent_lines_fault, unless}
+use Rattle.cert_types.proofs.LineLemmas.{first-both}
+
+-- the lesser of what the two scans of a log find is the first line at fault
+pub first-checked : (other : List (List Lit) → Line → List Line → Bool) (vars vars2 : ℕ) (clauses formula : List (List Lit)) (lines seen : List Line) (one two both : Option ℕ) → vars ≡ vars2 → clauses ≡ formula → seen ≡ lines → one ≡ first_line (does_follow vars) clauses 1 lines → two ≡ first_line other formula 1 seen → both ≡ lesser one two → both ≡ first_line (passes_both (does_follow vars2) other) formula 1 lines
+first-checked other vars vars2 clauses formula lines seen one two both v f s e g h =
+    let first : one ≡ first_line (does_follow vars2) formula 1 lines = e ∙ (λ i. first_line (does_follow (v i)) (f i) 1 lines) in
+    let second : two ≡ first_line other formula 1 lines = g ∙ ap (first_line other formula 1) s in
+    h ∙ (λ i. lesser (first i) (second i)) ∙ sym (first-both (does_follow vars2) other formula 1 lines)
+
+-- a log of lines within the budget, over a subset: its first line at fault decides
+pub proof-counted : (book : BookView) (task : Task) (worker : Worker) (subset : List ℕ) (lines : List Line) → 0 < length lines → length lines ≤ worker.budget → is_subset subset task.set ≡ true → option_map LineAt (first_line (is_proof_line (variables_in book subset)) (packing_formula book subset) 1 lines) ≡ proof_fault book task worker subset lines
+proof-counted book task worker subset lines some few sub =
+    let rest : Option Place = option_map LineAt (first_line (is_proof_line (variables_in book subset)) (packing_formula book subset) 1 lines) in
+    sym (ap (λ (b : Bool). unless b Count (unless (is_subset subset task.set) Subset rest)) (and_from (nat_lt 0 (length lines)) (nat_le (length lines) worker.budget) (lt-ltb 0 (length lines) some) (le-leb (length lines) worker.budget few))
+    ∙ ap (λ (b : Bool). unless b Subset rest) sub)
+
+-- a receipt of as many lines as the budget has
+pub lines-counted : (book : BookView) (task : Task) (worker : Worker) (lines : List Line) → length lines ≡ worker.budget → option_map LineAt (first_line (is_spent_line (variables_in book task.set)) (packing_formula book task.set) 1 lines) ≡ spent_lines_fault book task worker lines
+lines-counted book task worker lines all =
+    sym (ap (λ (b : Bool). unless b Count (option_map LineAt (first_line (is_spent_line (variables_in book task.set)) (packing_formula book task.set) 1 lines))) (eq-eqb (length lines) worker.budget all))
+
+-- a number that is not nought
+pub not-nought : (n : ℕ) → (n == 0) ≡ false → 0 < n
+not-nought zero e = cc
+not-nought (suc n) e = omega arith

@@ -1,0 +1,9 @@
+-- The first line at fault is the first of those that are left.
+use Rattle.std.proofs.Common.{◌≡◌, ◌+◌, List, take, drop}
+use Rattle.clause_db.specs.declared.lit.Lit.{Lit}
+use Rattle.rup_check.specs.Follows.{clauses_before}
+use Rattle.cert_types.specs.FirstLine.{first_line, has_literal}
+use Rattle.cert_types.proofs.first_line.first_empty.Given as goal
+
+abbrev pub invariant-loop-i : goal.invariant-loop-i
+invariant-loop-i l = (clauses : List (List Lit)) → first_line has_literal (clauses_before clauses (take l.i l.lines)) (l.i + 1) (drop l.i l.lines) ≡ first_line has_literal clauses 1 l.lines

@@ -1,0 +1,28 @@
+-- Each side computes.
+use Rattle.std.proofs.Common.{refl}
+use Rattle.pack_defs.specs.Examples.{three_stations}
+use Rattle.assign_check.specs.Fault.{first_fault}
+use Rattle.cnf_encode.specs.Formula.{packing_formula}
+use Rattle.rup_check.specs.Follows.{line_fault}
+use Rattle.cert_types.specs.Valid.{answer_fault}
+use Rattle.cert_types.proofs.laws.answers_of_three_stations.Goals as goal
+
+pub returns-clause-proof : goal.returns-clause-proof
+unfolding answer_fault first_fault packing_formula line_fault three_stations
+returns-clause-proof c = refl
+
+pub returns-clause-out_of_turn : goal.returns-clause-out_of_turn
+unfolding answer_fault first_fault packing_formula line_fault three_stations
+returns-clause-out_of_turn c = refl
+
+pub returns-clause-spent : goal.returns-clause-spent
+unfolding answer_fault first_fault packing_formula line_fault three_stations
+returns-clause-spent c = refl
+
+pub returns-clause-violates : goal.returns-clause-violates
+unfolding answer_fault first_fault packing_formula line_fault three_stations
+returns-clause-violates c = refl
+
+pub returns-clause-missing : goal.returns-clause-missing
+unfolding answer_fault first_fault packing_formula line_fault three_stations
+returns-clause-missing c = refl

@@ -1,0 +1,12 @@
+-- By the lemmas, both ways.
+use Rattle.cert_types.proofs.Meaning.{fit-means, means-fit, proof-means, means-proof, lines-means, means-lines}
+use Rattle.cert_types.proofs.laws.what_valid_means.Goals as goal
+
+pub returns-clause-fit : goal.returns-clause-fit
+returns-clause-fit c book task worker delta = (λ e. fit-means book task worker delta e, λ h. means-fit book task worker delta h)
+
+pub returns-clause-proof : goal.returns-clause-proof
+returns-clause-proof c book task worker subset log = (λ e. proof-means book task worker subset log e, λ h. means-proof book task worker subset log h)
+
+pub returns-clause-lines : goal.returns-clause-lines
+returns-clause-lines c book task worker log = (λ e. lines-means book task worker log e, λ h. means-lines book task worker log h)

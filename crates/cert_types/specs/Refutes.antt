@@ -1,0 +1,24 @@
+-- What shows that a set of stations does not fit.
+use Rattle.std.specs.Prelude.{ℕ, Bool, ◌&&◌, ◌≡◌, IsTrue, List, []}
+use Rattle.std.specs.List.{list_all}
+use Rattle.clause_db.specs.declared.lit.Lit.{Lit}
+use Rattle.pack_defs.specs.Book.{BookView, domain_of}
+use Rattle.pack_defs.specs.Lists.{is_in, is_ascending}
+use Rattle.cnf_encode.specs.Formula.{packing_formula, variables_in}
+use Rattle.rup_check.specs.declared.line.Line.{Line}
+use Rattle.rup_check.specs.Follows.{Follows, ends_empty}
+use Rattle.cert_types.specs.FirstLine.{does_follow, ends_there, passes_both}
+
+-- the list is of stations of the set, ascending
+abbrev pub is_subset : List ℕ → List ℕ → Bool
+is_subset subset set = is_ascending subset && list_all (is_in set) subset
+
+-- a line of a proof follows, and is empty exactly where it is the last
+abbrev pub is_proof_line : ℕ → List (List Lit) → Line → List Line → Bool
+is_proof_line vars = passes_both (does_follow vars) ends_there
+
+-- A set is refuted by a log over the clauses of a subset that follows and whose last line alone is empty (a refutation
+-- as in LRAT), or by a station without a channel.
+pub data Refutes (book : BookView) (set : List ℕ) : Type 0 where
+  ByLog : (subset : List ℕ) (lines : List Line) → IsTrue (is_subset subset set) → Follows (variables_in book subset) (packing_formula book subset) lines → IsTrue (ends_empty lines) → Refutes book set
+  ByStation : (s : ℕ) → IsTrue (is_in set s) → domain_of book s ≡ [] → Refutes book set

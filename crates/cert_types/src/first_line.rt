@@ -1,0 +1,62 @@
+ghost use Rattle.std.specs.Prelude.{◌≡◌, IfOk, List};
+ghost use Rattle.clause_db.specs.declared.lit.Lit.{Lit};
+ghost use Rattle.cert_types.specs.FirstLine.{ends_there, first_line, has_literal, does_follow, lesser};
+
+use clause_db::list::ClauseList;
+use rup_check::LogErr;
+use rup_check::check::check_log;
+use rup_check::line::{Line, Log};
+use std::alloc::{AllocError as NoMemory, Global};
+
+/// The first line, from 1, that does not follow from the clauses and the lines before it.
+pub(crate) fn first_not_following(
+    alloc: Global,
+    clauses: &ClauseList,
+    log: &Log,
+) -> Result<Option<u64>, NoMemory>
+    ensures { IfOk result (λ place. place ≡ first_line (does_follow clauses.now.vars) clauses.now.list 1 log.now.lines) }
+{
+    match check_log(alloc, clauses, log) {
+        Ok(()) => Ok(None),
+        Err(LogErr::BadLine { line, why: _ }) => Ok(Some(line)),
+        Err(LogErr::NoMemory) => Err(NoMemory),
+    }
+}
+
+/// The first line, from 1, that is empty and not the last, or is the last and not empty. It depends on no clauses.
+pub(crate) fn first_misplaced(lines: &[Line]) -> Option<u64>
+    ensures { (clauses : List (List Lit)) → result ≡ first_line ends_there clauses 1 lines.now }
+{
+    for (i, line) in lines.iter().enumerate() {
+        let is_last = i + 1 == lines.len();
+        if line.lits.as_slice().is_empty() != is_last {
+            return Some(i as u64 + 1);
+        }
+    }
+    None
+}
+
+/// The first line, from 1, that is empty. It depends on no clauses.
+pub(crate) fn first_empty(lines: &[Line]) -> Option<u64>
+    ensures { (clauses : List (List Lit)) → result ≡ first_line has_literal clauses 1 lines.now }
+{
+    for (i, line) in lines.iter().enumerate() {
+        if line.lits.as_slice().is_empty() {
+            return Some(i as u64 + 1);
+        }
+    }
+    None
+}
+
+/// The lesser of two places, of which each may be missing.
+pub(crate) fn lesser(one: Option<u64>, other: Option<u64>) -> Option<u64>
+    ensures { result ≡ lesser one other }
+{
+    match one {
+        None => other,
+        Some(m) => match other {
+            None => Some(m),
+            Some(n) => Some(m.min(n)),
+        },
+    }
+}

@@ -1,0 +1,14 @@
+//! Answers to a packing test, when each is valid, and the check that lets only valid ones through.
+#![tactic(auto)]
+
+pub mod answer;
+pub mod certified;
+pub mod certify;
+mod first_line;
+pub mod laws;
+#[cfg(test)]
+mod samples;
+mod subset;
+pub mod task;
+#[cfg(test)]
+mod tests;

@@ -1,0 +1,37 @@
+ghost use Rattle.std.specs.Prelude.{◌≡◌, IsTrue};
+ghost use Rattle.std.specs.List.{list_all};
+ghost use Rattle.pack_defs.specs.Lists.{is_ascending, is_in};
+ghost use Rattle.cert_types.specs.Refutes.{is_subset};
+
+/// Whether a list ascends and is of stations of an ascending set. It searches by halves, once for each station.
+pub(crate) fn is_subset(subset: &[u32], set: &[u32]) -> bool
+    requires { IsTrue (is_ascending set.now) }
+    ensures { result ≡ is_subset subset.now set.now }
+{
+    ascends(subset) && are_in(subset, set)
+}
+
+// Whether each number is above the one before it.
+fn ascends(numbers: &[u32]) -> bool
+    ensures { result ≡ is_ascending numbers.now }
+{
+    for i in 1..numbers.len() {
+        if numbers[i - 1] >= numbers[i] {
+            return false;
+        }
+    }
+    true
+}
+
+// Whether each number is in the ascending set, by halves.
+fn are_in(numbers: &[u32], set: &[u32]) -> bool
+    requires { IsTrue (is_ascending set.now) }
+    ensures { result ≡ list_all (is_in set.now) numbers.now }
+{
+    for number in numbers {
+        if set.binary_search(number).is_err() {
+            return false;
+        }
+    }
+    true
+}

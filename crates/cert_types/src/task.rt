@@ -1,0 +1,17 @@
+use pack_defs::channel_map::ChannelMap;
+use pack_defs::items::Items;
+
+/// A query: is there a channel map of exactly this set that violates no pair of the book?
+#[derive(Debug, Drop)]
+pub struct Task {
+    /// The number of the query, from 1.
+    pub number: u64,
+    /// The round of the clock; 0 for the test of the stations that start on air.
+    pub round: u32,
+    /// The station that is tested, if it is not the start.
+    pub station: Option<u32>,
+    /// The stations asked about, ascending.
+    pub set: Items<u32>,
+    /// The auction's channel map, cut to the set.
+    pub last: ChannelMap,
+}
