@@ -1,2 +1,3 @@
 pub mod Faultless
 pub mod Finds
+pub mod Violations

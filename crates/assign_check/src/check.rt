@@ -1,16 +1,19 @@
-ghost use Rattle.std.specs.Prelude.{◌≡◌, IfOk, IsTrue};
+ghost use Rattle.std.specs.Prelude.{◌≡◌, ◌==◌, IfOk, IsTrue, filter, find};
 ghost use Rattle.pack_defs.specs.ChannelMap.{IsAscending};
 ghost use Rattle.pack_defs.specs.Lists.{has_entry, is_ascending};
-ghost use Rattle.assign_check.specs.Fault.{extra, first_fault, missing, off_domain, violation};
+ghost use Rattle.assign_check.specs.Fault.{extra, first_fault, is_violated, missing, off_domain, violation};
 
 use crate::fault::MapFault;
 use pack_defs::book::Book;
 use pack_defs::channel_map::ChannelMap;
+use pack_defs::pair::Pair;
 
 /// What is wrong first with a channel map on a set of stations, ascending: the least station of the set that has no
 /// channel, else the least one with a channel that isn't in the set, else the least one off its domain, else the first
 /// pair of the book of which both entries stand in the map. None says that the map is clean and has exactly these
-/// stations. It searches by halves, once for each station and at most twice for each pair of the book.
+/// stations. It takes no memory, and costs what the map and its stations' pairs cost: a search by halves in the map for
+/// each station of the set; for each station of the map one in the set, one for its domain and a pass over that, two for
+/// the pairs from it and a pass over those, and one in the map for each of those that is on the station's channel.
 pub fn first_fault(book: &Book, set: &[u32], map: &ChannelMap) -> Option<MapFault>
     requires { IsTrue (is_ascending set.now) }
     ensures { result ≡ first_fault book.now set.now map.now }
@@ -70,9 +73,25 @@ fn violation(book: &Book, map: &ChannelMap) -> Option<MapFault>
     requires { IsAscending map.now }
     ensures { result ≡ violation book.now map.now }
 {
-    for p in book.pairs() {
-        if stands(map, p.f, p.a) && stands(map, p.g, p.b) {
-            return Some(MapFault::Violates(*p));
+    // What a book says with its length: its pairs ascend, so the first station with a violated one has the first.
+    let _stations = book.len();
+    for x in map.entries() {
+        if let Some(pair) = violated_from(book, map, *x) {
+            return Some(MapFault::Violates(pair));
+        }
+    }
+    None
+}
+
+// The first of the pairs from this entry's station of which both entries stand in the map.
+fn violated_from(book: &Book, map: &ChannelMap, own: (u32, u8)) -> Option<Pair>
+    requires ascending { IsAscending map.now }
+    requires own { IsTrue (has_entry map.now own) }
+    ensures { result ≡ find (is_violated map.now) (filter (λ p. p.f == own.0) book.now.pairs) }
+{
+    for p in book.pairs_from(own.0) {
+        if p.a == own.1 && stands(map, p.g, p.b) {
+            return Some(*p);
         }
     }
     None
@@ -91,7 +110,6 @@ mod tests {
     use super::*;
     use pack_defs::domain::Domain;
     use pack_defs::items::Items;
-    use pack_defs::pair::Pair;
     use std::alloc::{AllocError, Global};
     use std::test::Fail;
 
@@ -158,6 +176,19 @@ mod tests {
             first_fault(&book, &[1, 2, 3], &all),
             Some(MapFault::OffDomain(1))
         );
+        Ok(())
+    }
+
+    #[test]
+    fn violated_pair_of_a_later_station(rt: HostRuntime) -> Result<(), Fail> {
+        let alloc = rt.alloc();
+        let book = three_stations(alloc)?;
+        let last_two = ChannelMap::of(alloc, &[(1, 14), (2, 15), (3, 15)])?;
+        let fault = Some(MapFault::Violates(on_one(2, 3, 15)));
+        assert_eq!(rt; first_fault(&book, &[1, 2, 3], &last_two), fault);
+        let without_second = ChannelMap::of(alloc, &[(1, 15), (3, 15)])?;
+        let fault = Some(MapFault::Violates(on_one(1, 3, 15)));
+        assert_eq!(rt; first_fault(&book, &[1, 3], &without_second), fault);
         Ok(())
     }
 

@@ -1,6 +1,6 @@
 -- Ascending lists: a search by halves, their length, and how many of one stand in another.
-use Rattle.std.proofs.Common.{◌≡◌, ℕ, zero, suc, ◌+◌, ◌<◌, ◌≤◌, Bool, true, false, ◌==◌, ◌||◌, nat_lt, List, [], ◌∷◌, cond, length, get_or, take, refl, sym, ap, ◌∙◌, arith, ⊎_elim, eqb-true, eq-eqb, ne_eqb, map-id, Fits, w8}
-use Rattle.std.specs.List.{count_by, sum_by}
+use Rattle.std.proofs.Common.{◌≡◌, ℕ, zero, suc, ◌+◌, ◌<◌, ◌≤◌, Bool, true, false, ◌==◌, ◌||◌, nat_lt, List, [], ◌∷◌, cond, length, get_or, take, refl, arith, ⊎_elim, eqb-true, eq-eqb, ne_eqb, map-id, Fits, w8}
+use Rattle.std.specs.List.{count_by}
 use Rattle.std.specs.List.Sorted.{IsNonDecreasingBy, IsPartitionPoint}
 use Rattle.std.specs.Ordering.{nat_cmp, is_lt}
 use Rattle.std.proofs.lemmas.Bool.{and_parts, and_from, cond-true, cond-false, or_cases, or_left, or_right}

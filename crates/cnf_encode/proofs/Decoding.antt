@@ -1,17 +1,20 @@
 -- A model of the packing formula gives a clean map of the set.
-use Rattle.std.proofs.Common.{◌≡◌, ℕ, Bool, true, false, not, cond, ◌==◌, ◌&&◌, ◌||◌, List, [], ◌∷◌, ◌++◌, map, filter, flat_map, Contains, refl, sym, ap, ◌∙◌, subst, ⊎_elim, eqb-true}
+use Rattle.std.proofs.Common.{◌≡◌, ℕ, ◌+◌, ◌<◌, Bool, true, false, not, cond, ◌==◌, ◌&&◌, ◌||◌, List, [], ◌∷◌, ◌++◌, map, filter, flat_map, Contains, refl, sym, ap, ◌∙◌, subst, ⊎_elim, eqb-true, eq-eqb, find, drop, get_or, length, Some, None, arith, take, take_all, ◌≤◌}
 use Rattle.std.specs.List.{list_any, list_all}
-use Rattle.std.proofs.lemmas.Bool.{and_parts, and_from, or_cases, or_left, or_right, or_from, both_ways, false_from_ne_true}
-use Rattle.std.proofs.lemmas.List.Folds.{list_all-append}
+use Rattle.std.proofs.lemmas.Bool.{and_parts, and_from, or_cases, or_left, or_right, or_from, both_ways, cond-true, cond-false, false_from_ne_true}
+use Rattle.std.proofs.lemmas.List.{drop_more}
+use Rattle.std.proofs.lemmas.List.Folds.{list_all-append, list_any_at}
 use Rattle.clause_db.specs.declared.lit.Lit.{Lit}
 use Rattle.clause_db.specs.Clause.{lit_holds, clause_holds, Satisfies, pos_lit}
 use Rattle.pack_defs.proofs.Members.{is_in-gives}
 use Rattle.pack_defs.specs.declared.pair.Pair.{Pair}
 use Rattle.pack_defs.specs.Book.{BookView, domain_of, joins}
-use Rattle.pack_defs.specs.Lists.{is_in, has_entry, same_entry}
+use Rattle.pack_defs.specs.Lists.{is_in, is_ascending, has_entry, same_entry}
 use Rattle.pack_defs.specs.Packing.{IsClean, IsPacking}
-use Rattle.cnf_encode.specs.Formula.{variable_of, station_variables, at_least_one, not_both, at_most_one, is_inside, pair_clause, packing_formula}
+use Rattle.cnf_encode.specs.Formula.{variable_of, station_variables, at_least_one, at_most_one, is_inside, pair_clause, packing_formula}
 use Rattle.cnf_encode.specs.Decode.{chosen, decoded}
+use Rattle.cnf_encode.specs.ByStation.{AreOffsets}
+use Rattle.cnf_encode.proofs.NumberLemmas.{variable-read}
 use Rattle.pack_defs.proofs.Words.{list_all-at, list_all-map, list_any-map, first-passes, entry, pair_same, has_entry-from_Contains}
 
 -- the three parts of the formula
@@ -32,13 +35,18 @@ parts-hold book set model h =
 pub some-holds : (model : ℕ → Bool) (f : ℕ → ℕ) (xs : List ℕ) → clause_holds model (at_least_one (map f xs)) ≡ list_any (λ x. model (f x)) xs
 some-holds model f xs = list_any-map (lit_holds model) pos_lit (map f xs) ∙ list_any-map (λ v. model v) f xs
 
--- the chosen channel of a station of the set is of its domain, and its variable is true
-pub chosen-ok : (book : BookView) (set : List ℕ) (model : ℕ → Bool) (s : ℕ) → Satisfies model (packing_formula book set) → is_in set s ≡ true → (model (variable_of book set (s, chosen book set model s)) ≡ true) × (is_in (domain_of book s) (chosen book set model s) ≡ true)
-chosen-ok book set model s h m =
+-- a station of the set is on some channel of its domain
+some-on : (book : BookView) (set : List ℕ) (model : ℕ → Bool) (s : ℕ) → Satisfies model (packing_formula book set) → is_in set s ≡ true → list_any (λ c. model (variable_of book set (s, c))) (domain_of book s) ≡ true
+some-on book set model s h m =
     let clause : ℕ → List Lit = λ s. at_least_one (station_variables book set s) in
     let all : list_all (λ s. clause_holds model (clause s)) set ≡ true = sym (list_all-map (clause_holds model) clause set) ∙ (parts-hold book set model h).0 in
     let one : clause_holds model (clause s) ≡ true = list_all-at (λ s. clause_holds model (clause s)) set s all m in
-    first-passes (λ c. model (variable_of book set (s, c))) (domain_of book s) (sym (some-holds model (λ c. variable_of book set (s, c)) (domain_of book s)) ∙ one)
+    sym (some-holds model (λ c. variable_of book set (s, c)) (domain_of book s)) ∙ one
+
+-- the chosen channel is of the station's domain, and its variable is true
+chosen-ok : (book : BookView) (set : List ℕ) (model : ℕ → Bool) (s : ℕ) → Satisfies model (packing_formula book set) → is_in set s ≡ true → (model (variable_of book set (s, chosen book set model s)) ≡ true) × (is_in (domain_of book s) (chosen book set model s) ≡ true)
+chosen-ok book set model s h m =
+    first-passes (λ c. model (variable_of book set (s, c))) (domain_of book s) (some-on book set model s h m)
 
 -- an entry of the decoded map is a station of the set on its chosen channel
 decoded-entry : (book : BookView) (set : List ℕ) (model : ℕ → Bool) (stations : List ℕ) (x : ℕ × ℕ) → has_entry (map (λ s. (s, chosen book set model s)) stations) x ≡ true → (is_in stations x.0 ≡ true) × (x.1 ≡ chosen book set model x.0)
@@ -126,7 +134,7 @@ stations-of book set model [] = refl
 stations-of book set model (s ∷ ss) = ap (λ rest. s ∷ rest) (stations-of book set model ss)
 
 -- the decoded map has exactly the set's stations
-decoded-stations : (book : BookView) (set : List ℕ) (model : ℕ → Bool) → map (λ x. x.0) (decoded book set model) ≡ set
+pub decoded-stations : (book : BookView) (set : List ℕ) (model : ℕ → Bool) → map (λ x. x.0) (decoded book set model) ≡ set
 decoded-stations book set model = stations-of book set model set
 
 -- the decoded map is clean
@@ -144,3 +152,46 @@ decoded-clean book set model h = record {
 -- the map that a model says is clean and of exactly the set
 pub decoded-packing : (book : BookView) (set : List ℕ) (model : ℕ → Bool) → Satisfies model (packing_formula book set) → IsPacking book set (decoded book set model)
 decoded-packing book set model h = record { stations = decoded-stations book set model; clean = decoded-clean book set model h }
+
+-- the model has the station on the channel
+abbrev pub is_on : BookView → List ℕ → (ℕ → Bool) → ℕ → ℕ → Bool
+is_on book set model s c = model (variable_of book set (s, c))
+
+-- a search that has come to a place ends there, or goes on behind it
+pub find-here : (p : ℕ → Bool) (xs : List ℕ) (i : ℕ) → i < length xs → p (get_or xs i 0) ≡ true → find p (drop i xs) ≡ Some (get_or xs i 0)
+find-here p xs i l t =
+    ap (find p) (drop_more xs i 0 l) ∙ cond-true (p (get_or xs i 0)) (Some (get_or xs i 0)) (find p (drop (i + 1) xs)) t
+
+pub find-later : (p : ℕ → Bool) (xs : List ℕ) (i : ℕ) → i < length xs → p (get_or xs i 0) ≡ false → find p (drop i xs) ≡ find p (drop (i + 1) xs)
+find-later p xs i l f =
+    ap (find p) (drop_more xs i 0 l) ∙ cond-false (p (get_or xs i 0)) (Some (get_or xs i 0)) (find p (drop (i + 1) xs)) f
+
+find-some : (p : ℕ → Bool) (xs : List ℕ) → list_any p xs ≡ true → find p xs ≡ None → ⊥
+find-some p [] h e = cc
+find-some p (x ∷ xs) h e =
+    (elim (p x) as (λ b. (b || list_any p xs) ≡ true → cond b (Some x) (find p xs) ≡ None → ⊥) [
+      | true ↦ λ h e. cc
+      | false ↦ λ h e. find-some p xs h e
+    ]) h e
+
+-- a model has a station of the set on one of its channels
+pub none-chosen : (book : BookView) (set channels : List ℕ) (model : ℕ → Bool) (i s : ℕ) → Satisfies model (packing_formula book set) → i < length set → get_or set i 0 ≡ s → channels ≡ domain_of book s → find (is_on book set model s) channels ≡ None → ⊥
+none-chosen book set channels model i s h l e own none =
+    let member : is_in set s ≡ true = list_any_at (λ y. y == s) set i 0 l (eq-eqb (get_or set i 0) s e) in
+    find-some (is_on book set model s) (domain_of book s) (some-on book set model s h member) (subst (λ xs. find (is_on book set model s) xs ≡ None) own none)
+
+-- what the code reads of the model at a place of the domain
+pub on-read : (book : BookView) (set channels offsets : List ℕ) (model : ℕ → Bool) (i j : ℕ) (r : Bool) → channels ≡ domain_of book (get_or set i 0) → is_ascending set ≡ true → is_ascending channels ≡ true → AreOffsets book set offsets → i < length set → j < length channels → r ≡ model (get_or offsets i 0 + j + 1) → r ≡ is_on book set model (get_or set i 0) (get_or channels j 0)
+on-read book set channels offsets model i j r own a d h l k e =
+    let counted = h.before i (omega arith) in
+    e ∙ ap model (variable-read book set channels (get_or offsets i 0) i j (get_or set i 0) (get_or channels j 0) own a d l refl k refl counted)
+
+abbrev decoded_on : BookView → List ℕ → (ℕ → Bool) → List ℕ → List (ℕ × ℕ)
+decoded_on book set model stations = map (λ s. (s, chosen book set model s)) stations
+
+-- the entries, once every station has its own
+pub decoded-whole : (book : BookView) (set : List ℕ) (model : ℕ → Bool) (entries : List (ℕ × ℕ)) (i : ℕ) → length set ≤ i → entries ≡ map (λ s. (s, chosen book set model s)) (take i set) → entries ≡ decoded book set model
+decoded-whole book set model entries i l e = e ∙ ap (λ xs. decoded_on book set model xs) (take_all i set l)
+
+pub whole-ascends : (book : BookView) (set : List ℕ) (model : ℕ → Bool) (entries : List (ℕ × ℕ)) → is_ascending set ≡ true → entries ≡ decoded book set model → is_ascending (map (λ x. x.0) entries) ≡ true
+whole-ascends book set model entries a e = rw e (subst (λ xs. is_ascending xs ≡ true) (sym (decoded-stations book set model)) a)

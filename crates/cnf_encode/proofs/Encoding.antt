@@ -1,12 +1,11 @@
 -- A clean map of the set gives a model of the packing formula.
-use Rattle.std.proofs.Common.{◌≡◌, ℕ, ◌+◌, ◌<◌, ◌≤◌, Bool, true, false, not, cond, ◌==◌, ◌||◌, if◌then◌else◌, List, [], ◌∷◌, ◌++◌, map, filter, flat_map, refl, sym, ap, ◌∙◌, subst, ⊎_elim, eqb-true, eq-eqb, arith}
+use Rattle.std.proofs.Common.{◌≡◌, ℕ, ◌+◌, ◌<◌, ◌≤◌, Bool, true, false, not, ◌==◌, ◌||◌, if◌then◌else◌, List, [], ◌∷◌, ◌++◌, map, filter, flat_map, refl, sym, ap, ◌∙◌, subst, ⊎_elim, eqb-true, eq-eqb, arith}
 use Rattle.std.specs.List.{list_any, list_all}
-use Rattle.std.proofs.lemmas.Bool.{and_parts, and_from, or_cases, or_left, or_right, both_ways}
+use Rattle.std.proofs.lemmas.Bool.{and_from, or_cases, or_left, or_right, both_ways}
 use Rattle.std.proofs.lemmas.List.Folds.{list_all-append, list_any-append}
 use Rattle.clause_db.specs.declared.lit.Lit.{Lit}
-use Rattle.clause_db.specs.Clause.{lit_holds, clause_holds, Satisfies, pos_lit}
+use Rattle.clause_db.specs.Clause.{clause_holds, Satisfies}
 use Rattle.pack_defs.proofs.Members.{is_in-from, list_all-from}
-use Rattle.pack_defs.specs.declared.pair.Pair.{Pair}
 use Rattle.pack_defs.specs.Book.{BookView, IsInOrder, domain_of, is_forbidden}
 use Rattle.pack_defs.specs.Lists.{is_in, has_entry, same_entry, is_ascending}
 use Rattle.pack_defs.specs.Packing.{IsPacking}
@@ -14,7 +13,8 @@ use Rattle.pack_defs.proofs.BookLemmas.{channels_in-ascend}
 use Rattle.cnf_encode.specs.Formula.{choices, number_of, variable_of, station_variables, at_least_one, not_both, at_most_one, is_inside, pair_clause, packing_formula}
 use Rattle.cnf_encode.specs.Decode.{model_of}
 use Rattle.cnf_encode.proofs.Decoding.{some-holds}
-use Rattle.pack_defs.proofs.Words.{list_all-map, list_any-map, list_all-flat_map, same_entry-same, same_entry-itself, Contains-from_has_entry, below-later, ascending-rest, station-in, one-entry, pair-forbids}
+use Rattle.cnf_encode.proofs.PairLemmas.{list_all-filter}
+use Rattle.pack_defs.proofs.Words.{list_all-map, list_all-flat_map, same_entry-same, same_entry-itself, Contains-from_has_entry, below-later, ascending-rest, station-in, one-entry, pair-forbids}
 
 -- a clean map of exactly an ascending set, where domains ascend
 record IsMapOf (book : BookView) (set : List ℕ) (entries : List (ℕ × ℕ)) : Type 0 where
@@ -107,14 +107,6 @@ not-both : (v w : Bool) → (v ≡ true → w ≡ true → ⊥) → (not v || (n
 not-both true true f = absurd (f refl refl)
 not-both true false f = refl
 not-both false w f = refl
-
-list_all-filter : (q : Pair → Bool) (w : Pair → Bool) (ps : List Pair) → list_all q ps ≡ true → list_all q (filter w ps) ≡ true
-list_all-filter q w [] h = refl
-list_all-filter q w (p ∷ ps) h =
-    let parts = and_parts (q p) (list_all q ps) h in
-    let rest = list_all-filter q w ps parts.1 in
-    let go : (b : Bool) → list_all q (cond b (p ∷ filter w ps) (filter w ps)) ≡ true = λ b. elim b as (λ b. list_all q (cond b (p ∷ filter w ps) (filter w ps)) ≡ true) [ true ↦ and_from (q p) (list_all q (filter w ps)) parts.0 rest | false ↦ rest ] in
-    go (w p)
 
 entries-chosen : (book : BookView) (set : List ℕ) (entries : List (ℕ × ℕ)) → IsMapOf book set entries → (x : ℕ × ℕ) → has_entry entries x ≡ true → has_entry (choices book set) x ≡ true
 entries-chosen book set entries h x k =

@@ -1,16 +1,15 @@
 -- The number of a choice: the variables of the stations before, and the place of its channel.
-use Rattle.std.proofs.Common.{◌≡◌, ℕ, zero, suc, ◌+◌, ◌*◌, ◌<◌, ◌≤◌, Bool, true, false, ◌==◌, ◌&&◌, ◌||◌, if◌then◌else◌, List, [], ◌∷◌, ◌++◌, cond, map, length, get_or, take, refl, sym, ap, ap₂, ◌∙◌, arith, subst, ⊎_elim, eqb-true, eq-eqb, ne_eqb, length-append, sum_by}
-use Rattle.std.specs.List.{count_by, list_any, flat_map}
+use Rattle.std.proofs.Common.{◌≡◌, ℕ, zero, suc, ◌+◌, ◌*◌, ◌<◌, ◌≤◌, Bool, true, false, ◌==◌, ◌&&◌, if◌then◌else◌, List, [], ◌∷◌, ◌++◌, cond, map, length, get_or, take, refl, sym, ap, ap₂, ◌∙◌, arith, subst, ⊎_elim, eq-eqb, ne_eqb, length-append}
+use Rattle.std.specs.List.{count_by}
 use Rattle.std.proofs.Math.Bool.{and-false}
-use Rattle.std.proofs.lemmas.Bool.{and_parts, and_from, both_ways, cases_lt, cond-true, cond-false, or_cases, or_from, or_left, or_parts, or_right}
+use Rattle.std.proofs.lemmas.Bool.{and_from, both_ways, cond-true, cond-false, or_cases, or_from, or_left, or_parts, or_right}
 use Rattle.std.proofs.lemmas.List.{get_or_default, length-map, map-append, take_all, take_more}
 use Rattle.std.proofs.lemmas.List.Folds.{list_any_at}
-use Rattle.std.proofs.lemmas.List.Concat.{flat_map-append}
 use Rattle.std.proofs.lemmas.List.Sums.{sum_by-append}
 use Rattle.pack_defs.specs.Book.{BookView, domain_of, stations_of}
 use Rattle.pack_defs.specs.Lists.{is_in, is_ascending, same_entry, has_entry}
 use Rattle.pack_defs.proofs.BookLemmas.{channels_in-none}
-use Rattle.pack_defs.proofs.Words.{below-later, ascending-rest, entry, same_entry-itself}
+use Rattle.pack_defs.proofs.Words.{below-later, ascending-rest, entry}
 use Rattle.cnf_encode.specs.Formula.{choices, number_of, variable_of, variables_in}
 use Rattle.cnf_encode.specs.ByStation.{AreOffsets, IsCount}
 use Rattle.cnf_encode.proofs.AscendingLemmas.{ascending-take, count-most}

@@ -1,5 +1,5 @@
 -- The pairs within a set, station by station.
-use Rattle.std.proofs.Common.{◌≡◌, ℕ, zero, suc, ◌+◌, ◌<◌, ◌≤◌, Bool, true, false, ◌==◌, ◌&&◌, ◌||◌, cond, nat_lt, List, [], ◌∷◌, ◌++◌, Contains, filter, map, flat_map, length, get_or, take, refl, sym, ap, ap₂, ◌∙◌, arith, subst, ⊎_elim, eqb-true, eq-eqb, ne_eqb}
+use Rattle.std.proofs.Common.{◌≡◌, ℕ, suc, ◌+◌, ◌<◌, ◌≤◌, Bool, true, false, ◌==◌, ◌&&◌, ◌||◌, cond, List, [], ◌∷◌, ◌++◌, Contains, filter, map, flat_map, length, get_or, take, refl, sym, ap, ap₂, ◌∙◌, arith, subst, ⊎_elim, eqb-true, ne_eqb}
 use Rattle.std.specs.List.{list_all}
 use Rattle.std.specs.List.Sorted.{IsNonDecreasingBy}
 use Rattle.std.proofs.lemmas.Bool.{and_parts, cases_lt, cond-true, cond-false, false_from_ne_true}
@@ -8,8 +8,9 @@ use Rattle.std.proofs.lemmas.List.{append-nil, append_assoc, flat_map_more, get_
 use Rattle.std.proofs.lemmas.List.Elements.{filter_more}
 use Rattle.clause_db.specs.declared.lit.Lit.{Lit}
 use Rattle.pack_defs.specs.declared.pair.Pair.{Pair}
-use Rattle.pack_defs.specs.Book.{BookView, domain_of, is_within, pairs_ascend}
+use Rattle.pack_defs.specs.Book.{BookView, IsInOrder, domain_of, is_within, pairs_ascend}
 use Rattle.pack_defs.specs.Lists.{is_in, is_ascending}
+use Rattle.pack_defs.proofs.BookLemmas.{list_all-filter_itself}
 use Rattle.pack_defs.proofs.Members.{Contains-from_filter, list_all-from, list_all-gives, Contains-here, Contains-there}
 use Rattle.pack_defs.proofs.Spans.{firsts-rise}
 use Rattle.pack_defs.proofs.Words.{below-later, ascending-rest}
@@ -22,9 +23,6 @@ station_clauses book set s = map (pair_clause book set) (pairs_inside_from book 
 
 pub list_all-filter : {A : Type 0} (q w : A → Bool) (xs : List A) → list_all q xs ≡ true → list_all q (filter w xs) ≡ true
 list_all-filter q w xs h = list_all-from q (filter w xs) (λ x c. list_all-gives q xs x h (Contains-from_filter w xs x c).0)
-
-pub list_all-filter_itself : {A : Type 0} (p : A → Bool) (xs : List A) → list_all p (filter p xs) ≡ true
-list_all-filter_itself p xs = list_all-from p (filter p xs) (λ x c. (Contains-from_filter p xs x c).1)
 
 -- what holds of all holds of the one at a place
 pub list_all-get : {A : Type 0} (q : A → Bool) (xs : List A) (k : ℕ) (d : A) → list_all q xs ≡ true → k < length xs → q (get_or xs k d) ≡ true
@@ -126,10 +124,11 @@ pair-station pairs all f k d e l =
     let own : list_all (λ p. p.f == f) pairs ≡ true = rw e (list_all-filter_itself (λ p. p.f == f) all) in
     eqb-true (get_or pairs k d).f f (list_all-get (λ p. p.f == f) pairs k d own l)
 
-pub pair-channels : (book : BookView) (pairs : List Pair) (k : ℕ) (d : Pair) → list_all (is_within book.domains) pairs ≡ true → k < length pairs → (is_in (domain_of book (get_or pairs k d).f) (get_or pairs k d).a ≡ true) × (is_in (domain_of book (get_or pairs k d).g) (get_or pairs k d).b ≡ true)
-pair-channels book pairs k d h l =
+pub pair-channels : (book : BookView) (pairs : List Pair) (f k : ℕ) (d : Pair) → IsInOrder book → pairs ≡ filter (λ p. p.f == f) book.pairs → k < length pairs → (is_in (domain_of book (get_or pairs k d).f) (get_or pairs k d).a ≡ true) × (is_in (domain_of book (get_or pairs k d).g) (get_or pairs k d).b ≡ true)
+pair-channels book pairs f k d o e l =
     let p = get_or pairs k d in
-    and_parts (is_in (domain_of book p.f) p.a) (is_in (domain_of book p.g) p.b) (list_all-get (is_within book.domains) pairs k d h l)
+    let on_domains : list_all (is_within book.domains) pairs ≡ true = rw e (list_all-filter (is_within book.domains) (λ p. p.f == f) book.pairs o.on_domains) in
+    and_parts (is_in (domain_of book p.f) p.a) (is_in (domain_of book p.g) p.b) (list_all-get (is_within book.domains) pairs k d on_domains l)
 
 -- the clause that the code writes of a pair
 pub pair-written : (book : BookView) (set : List ℕ) (p : Pair) (f g v w : ℕ) → p.f ≡ f → g ≡ p.g → v ≡ variable_of book set (f, p.a) → w ≡ variable_of book set (g, p.b) → not_both v w ≡ pair_clause book set p

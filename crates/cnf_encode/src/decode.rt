@@ -1,10 +1,12 @@
-ghost use Rattle.std.specs.Prelude.{◌≡◌, IfOk, IsTrue};
+ghost use Rattle.std.specs.Prelude.{◌≡◌, ◌<◌, ◌≤◌, IfOk, IsTrue, length, slice_index};
 ghost use Rattle.clause_db.specs.Clause.{Satisfies};
 ghost use Rattle.pack_defs.specs.Lists.{is_ascending};
 ghost use Rattle.pack_defs.specs.Packing.{IsPacking};
+ghost use Rattle.cnf_encode.specs.ByStation.{AreOffsets};
+ghost use Rattle.cnf_encode.specs.Decode.{chosen, decoded, listed};
 ghost use Rattle.cnf_encode.specs.Formula.{packing_formula};
-ghost use Rattle.cnf_encode.specs.Decode.{decoded, listed};
 
+use crate::numbering::{channels_of, offsets};
 use pack_defs::book::Book;
 use pack_defs::channel_map::ChannelMap;
 use std::alloc::{AllocError as NoMemory, Global};
@@ -23,5 +25,35 @@ pub fn decode(
     ensures decoded { IfOk result (λ map. map ≡ decoded book.now set.now (listed model.now)) }
     ensures packing { IfOk result (λ map. IsPacking book.now set.now map) }
 {
-    Err(NoMemory)
+    let offsets = offsets(alloc, book, set)?;
+    let mut entries = Vec::new(alloc);
+    for i in 0..set.len() {
+        entries.push((set[i], chosen(book, set, &offsets, i, model)))?;
+    }
+    ChannelMap::of(alloc, &entries)
+}
+
+// The first channel of the station at place `i` of the set whose variable is true.
+fn chosen(book: &Book, set: &[u32], offsets: &[u32], i: usize, model: &[bool]) -> u8
+    requires ascending { IsTrue (is_ascending set.now) }
+    requires offsets { AreOffsets book.now set.now offsets.now }
+    requires in_set { i < length set.now }
+    requires model { Satisfies (listed model.now) (packing_formula book.now set.now) }
+    ensures { result ≡ chosen book.now set.now (listed model.now) (slice_index set.now i) }
+{
+    for (j, c) in channels_of(book, set[i]).iter().enumerate() {
+        if is_true(model, offsets[i] as usize + j + 1) {
+            return *c;
+        }
+    }
+    // A model makes the clause true that asks for one of them.
+    unreachable!()
+}
+
+// Whether the variable, from 1, is true.
+fn is_true(model: &[bool], v: usize) -> bool
+    requires { 1 ≤ v }
+    ensures { result ≡ listed model.now v }
+{
+    v <= model.len() && model[v - 1]
 }

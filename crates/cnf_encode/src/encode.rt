@@ -1,6 +1,8 @@
-ghost use Rattle.std.specs.Prelude.{◌≡◌, ◌==◌, ◌+◌, ◌<◌, ◌++◌, ◌∷◌, [], IfOk, IsTrue, OnOk, filter, length, map, slice_index};
-ghost use Rattle.std.specs.List.{flat_map, list_all};
-ghost use Rattle.pack_defs.specs.Book.{domain_of, is_within};
+ghost use Rattle.std.specs.Prelude.{◌≡◌, ◌<◌, ◌++◌, IfOk, IsTrue, OnOk, filter, length, map, slice_index};
+ghost use Rattle.std.specs.List.{flat_map};
+ghost use Rattle.clause_db.specs.Clause.{neg_lit};
+ghost use Rattle.clause_db.specs.Clauses.{ClausesWithin};
+ghost use Rattle.pack_defs.specs.Book.{IsInOrder, domain_of};
 ghost use Rattle.pack_defs.specs.Lists.{is_ascending, is_in};
 ghost use Rattle.cnf_encode.specs.Formula.{at_least_one, at_most_one, is_inside, not_both, packing_formula, pair_clause, station_variables, variable_of, variables_in};
 ghost use Rattle.cnf_encode.specs.ByStation.{AreOffsets, pairs_inside_from};
@@ -9,18 +11,21 @@ use crate::numbering::{channels_of, offsets, place_of};
 use clause_db::list::ClauseList;
 use clause_db::lit::Lit;
 use pack_defs::book::Book;
-use pack_defs::pair::Pair;
 use std::alloc::{AllocError as NoMemory, Global};
 
 /// The packing formula of an ascending set of stations: each is on some channel of its domain, none is on two, and no pair
 /// of the book between two of them stands. These are the clauses of the SATFC papers (Fréchette, Newman and
-/// Leyton-Brown), over variables numbered from 1 as in DIMACS CNF. It looks only at the set's own domains and pairs, and
-/// costs what the formula does. The only error is want of memory.
+/// Leyton-Brown), over variables numbered from 1 as in DIMACS CNF, and each literal is of one of these. It reads the
+/// domains of these stations and the pairs from them, found by halves, and nothing else of the book. The only error is
+/// want of memory.
 pub fn encode(alloc: Global, book: &Book, set: &[u32]) -> Result<ClauseList, NoMemory>
     requires { IsTrue (is_ascending set.now) }
     ensures clauses { IfOk result (λ formula. formula.list ≡ packing_formula book.now set.now) }
     ensures variables { IfOk result (λ formula. formula.vars ≡ variables_in book.now set.now) }
+    ensures within { IfOk result (λ formula. ClausesWithin formula.vars formula.list) }
 {
+    // Each book is in order, as `len` says.
+    let _stations = book.len();
     let offsets = offsets(alloc, book, set)?;
     let mut formula = ClauseList::new(alloc, offsets[set.len()]);
     add_at_least_one(alloc, book, set, &offsets, &mut formula)?;
@@ -77,13 +82,12 @@ fn add_pairs(
     offsets: &[u32],
     formula: &mut ClauseList,
 ) -> Result<(), NoMemory>
+    requires in_order { IsInOrder book.now }
     requires ascending { IsTrue (is_ascending set.now) }
     requires offsets { AreOffsets book.now set.now offsets.now }
     ensures added { OnOk result (formula.new.list ≡ formula.old.list ++ map (pair_clause book.now set.now) (filter (is_inside set.now) book.now.pairs)) }
     ensures same { OnOk result (formula.new.vars ≡ formula.old.vars) }
 {
-    // A book is in order.
-    let _stations = book.len();
     for i in 0..set.len() {
         add_pairs_from(book, set, offsets, i, formula)?;
     }
@@ -150,16 +154,17 @@ fn add_not_both(v: u64, others: &[u64], formula: &mut ClauseList) -> Result<(), 
 fn not_both(v: u64, w: u64) -> [Lit; 2]
     ensures { result ≡ not_both v w }
 {
-    [
-        Lit {
-            var: v,
-            positive: false,
-        },
-        Lit {
-            var: w,
-            positive: false,
-        },
-    ]
+    [negative(v), negative(w)]
+}
+
+// The literal that is true where the variable is false.
+fn negative(var: u64) -> Lit
+    ensures { result ≡ neg_lit var }
+{
+    Lit {
+        var,
+        positive: false,
+    }
 }
 
 // No pair of the book from the station at place `i` of the set to another one of the set stands.
@@ -170,13 +175,14 @@ fn add_pairs_from(
     i: usize,
     formula: &mut ClauseList,
 ) -> Result<(), NoMemory>
+    requires in_order { IsInOrder book.now }
     requires ascending { IsTrue (is_ascending set.now) }
     requires offsets { AreOffsets book.now set.now offsets.now }
     requires in_set { i < length set.now }
     ensures added { OnOk result (formula.new.list ≡ formula.old.list ++ map (pair_clause book.now set.now) (pairs_inside_from book.now set.now (slice_index set.now i))) }
     ensures same { OnOk result (formula.new.vars ≡ formula.old.vars) }
 {
-    for p in pairs_from(book, set[i]) {
+    for p in book.pairs_from(set[i]) {
         let Ok(j) = set.binary_search(&p.g) else {
             continue;
         };
@@ -185,16 +191,6 @@ fn add_pairs_from(
         formula.add(&not_both(v, w))?;
     }
     Ok(())
-}
-
-// The pairs of the book whose first station this is. They stand on the domains.
-fn pairs_from(book: &Book, f: u32) -> &[Pair]
-    ensures pairs { result.now ≡ filter (λ p. p.f == f) book.now.pairs }
-    ensures on_domains { IsTrue (list_all (is_within book.now.domains) result.now) }
-{
-    // A book is in order.
-    let _stations = book.len();
-    book.pairs_from(f)
 }
 
 // The variable of the station at place `i` of the set on a channel of its domain.

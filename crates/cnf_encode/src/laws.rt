@@ -2,6 +2,7 @@
 
 ghost use Rattle.std.specs.Prelude.{◌≡◌, ◌↔◌, ℕ, Bool, List, [], ◌∷◌, IsTrue};
 ghost use Rattle.clause_db.specs.Clause.{Satisfies};
+ghost use Rattle.clause_db.specs.Clauses.{ClausesWithin};
 ghost use Rattle.pack_defs.specs.Examples.{three_stations};
 ghost use Rattle.pack_defs.specs.Book.{BookView, IsInOrder};
 ghost use Rattle.pack_defs.specs.Lists.{is_ascending};
@@ -33,4 +34,9 @@ pub fn a_map_gives_a_model()
 pub fn fits_where_it_has_a_model()
     ensures { (book : BookView) (set : List ℕ) →
         IsInOrder book → IsTrue (is_ascending set) → (Fits book set ↔ HasModel (packing_formula book set)) }
+{}
+
+/// Each literal of the formula is of a variable from 1 to their number, in a book in order.
+pub fn literals_are_of_its_variables()
+    ensures { (book : BookView) (set : List ℕ) → IsInOrder book → ClausesWithin (variables_in book set) (packing_formula book set) }
 {}

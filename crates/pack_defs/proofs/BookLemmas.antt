@@ -74,12 +74,12 @@ channels-cut top domains [] h = refl
 channels-cut top domains (x ∷ xs) h =
     and_from _ _ (ascending-filter (λ c. nat_le c top) (channels_in domains x) (channels_in-ascend domains x h)) (channels-cut top domains xs h)
 
+pub list_all-filter_itself : {X : Type 0} (p : X → Bool) (xs : List X) → list_all p (filter p xs) ≡ true
+list_all-filter_itself p xs = list_all-from p (filter p xs) (λ x c. (Contains-from_filter p xs x c).1)
+
 -- cut domains are in order, and a cut book
 pub cut-in_order : (top : ℕ) (ids : List ℕ) (domains : List Domain) → is_ascending ids ≡ true → AreInOrder domains → AreInOrder (map (cut_domain top domains) ids)
 cut-in_order top ids domains a o = record { stations = rw (stations-cut top domains ids) a; channels = channels-cut top domains ids o.channels }
-
-list_all-filter_itself : {X : Type 0} (p : X → Bool) (xs : List X) → list_all p (filter p xs) ≡ true
-list_all-filter_itself p xs = list_all-from p (filter p xs) (λ x c. (Contains-from_filter p xs x c).1)
 
 pub cut_book-in_order : (top : ℕ) (ids : List ℕ) (domains : List Domain) (pairs : List Pair) → is_ascending ids ≡ true → AreInOrder domains → pairs_ascend pairs ≡ true → IsInOrder (cut_book top ids domains pairs)
 cut_book-in_order top ids domains pairs a o p = record {
@@ -94,7 +94,7 @@ four false true true d = refl
 four false true false d = refl
 four false false c d = refl
 
-list_any-or : {X : Type 0} (p q : X → Bool) (xs : List X) → list_any (λ x. p x || q x) xs ≡ (list_any p xs || list_any q xs)
+pub list_any-or : {X : Type 0} (p q : X → Bool) (xs : List X) → list_any (λ x. p x || q x) xs ≡ (list_any p xs || list_any q xs)
 list_any-or p q [] = refl
 list_any-or p q (x ∷ xs) =
     ap (λ b. (p x || q x) || b) (list_any-or p q xs) ∙ four (p x) (q x) (list_any p xs) (list_any q xs)
@@ -103,7 +103,7 @@ list_any-or p q (x ∷ xs) =
 pub is_forbidden-either : (book : BookView) (s a t b : ℕ) → is_forbidden book (s, a) (t, b) ≡ (list_any (is_pair (record { f = s; a = a; g = t; b = b })) book.pairs || list_any (is_pair (record { f = t; a = b; g = s; b = a })) book.pairs)
 is_forbidden-either book s a t b = list_any-or (is_pair (record { f = s; a = a; g = t; b = b })) (is_pair (record { f = t; a = b; g = s; b = a })) book.pairs
 
-list_any-same : {X : Type 0} (p q : X → Bool) → ((x : X) → p x ≡ q x) → (xs : List X) → list_any p xs ≡ list_any q xs
+pub list_any-same : {X : Type 0} (p q : X → Bool) → ((x : X) → p x ≡ q x) → (xs : List X) → list_any p xs ≡ list_any q xs
 list_any-same p q h [] = refl
 list_any-same p q h (x ∷ xs) = ap₂ (λ (b c : Bool). b || c) (h x) (list_any-same p q h xs)
 

@@ -34,7 +34,7 @@ filter_no_longer p (x ∷ xs) =
     elim (p x) as (λ b. length (cond b (x ∷ filter p xs) (filter p xs)) ≤ suc (length xs)) [ true ↦ omega arith | false ↦ omega arith ]
 
 -- what passes one test passes the other: no fewer
-filter_grows : (p q : ℕ → Bool) (xs : List ℕ) → ((x : ℕ) → p x ≡ true → q x ≡ true) → length (filter p xs) ≤ length (filter q xs)
+pub filter_grows : (p q : ℕ → Bool) (xs : List ℕ) → ((x : ℕ) → p x ≡ true → q x ≡ true) → length (filter p xs) ≤ length (filter q xs)
 filter_grows p q [] h = omega arith
 filter_grows p q (x ∷ xs) h =
     let rest = filter_grows p q xs h in
@@ -44,7 +44,7 @@ filter_grows p q (x ∷ xs) h =
     ]) refl
 
 -- and where some element passes only the other, more
-filter_grows_by_one : (p q : ℕ → Bool) (xs : List ℕ) (y : ℕ) → ((x : ℕ) → p x ≡ true → q x ≡ true) → Contains xs y → p y ≡ false → q y ≡ true → length (filter p xs) < length (filter q xs)
+pub filter_grows_by_one : (p q : ℕ → Bool) (xs : List ℕ) (y : ℕ) → ((x : ℕ) → p x ≡ true → q x ≡ true) → Contains xs y → p y ≡ false → q y ≡ true → length (filter p xs) < length (filter q xs)
 filter_grows_by_one p q [] y h l out new = absurd (Contains-nil y l)
 filter_grows_by_one p q (x ∷ xs) y h l out new =
     elim (Contains-cons_cases x y xs l) [

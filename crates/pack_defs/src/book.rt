@@ -269,4 +269,52 @@ mod tests {
         assert!(rt; !book.forbids(1, 15, 3, 15));
         Ok(())
     }
+
+    // Five stations on two channels, of which the last interferes with none.
+    fn five_stations(alloc: Global) -> Result<Book, NoMemory> {
+        let domains = [
+            on_both(alloc, 10)?,
+            on_both(alloc, 20)?,
+            on_both(alloc, 30)?,
+            on_both(alloc, 40)?,
+            on_both(alloc, 50)?,
+        ];
+        let pairs = [
+            on_one(10, 20, 14),
+            on_one(10, 30, 14),
+            on_one(10, 30, 15),
+            on_one(20, 30, 14),
+            on_one(20, 40, 14),
+            on_one(30, 40, 15),
+        ];
+        Book::build(alloc, 15, &[10, 20, 30, 40, 50], &domains, &pairs)
+    }
+
+    #[test]
+    fn pairs_from_each_station(rt: HostRuntime) -> Result<(), Fail> {
+        let book = five_stations(rt.alloc())?;
+        let of_first = [on_one(10, 20, 14), on_one(10, 30, 14), on_one(10, 30, 15)];
+        assert_eq!(rt; book.pairs_from(10), of_first.as_slice());
+        let of_second = [on_one(20, 30, 14), on_one(20, 40, 14)];
+        assert_eq!(rt; book.pairs_from(20), of_second.as_slice());
+        assert_eq!(rt; book.pairs_from(30), [on_one(30, 40, 15)].as_slice());
+        assert_eq!(rt; book.pairs_from(40), [].as_slice());
+        assert_eq!(rt; book.pairs_from(50), [].as_slice());
+        assert_eq!(rt; book.pairs_from(25), [].as_slice());
+        Ok(())
+    }
+
+    #[test]
+    fn pairs_to_each_station(rt: HostRuntime) -> Result<(), Fail> {
+        let book = five_stations(rt.alloc())?;
+        assert_eq!(rt; book.pairs_to(10), [].as_slice());
+        assert_eq!(rt; book.pairs_to(20), [on_one(10, 20, 14)].as_slice());
+        let to_third = [on_one(10, 30, 14), on_one(10, 30, 15), on_one(20, 30, 14)];
+        assert_eq!(rt; book.pairs_to(30), to_third.as_slice());
+        let to_fourth = [on_one(20, 40, 14), on_one(30, 40, 15)];
+        assert_eq!(rt; book.pairs_to(40), to_fourth.as_slice());
+        assert_eq!(rt; book.pairs_to(50), [].as_slice());
+        assert_eq!(rt; book.pairs_to(35), [].as_slice());
+        Ok(())
+    }
 }

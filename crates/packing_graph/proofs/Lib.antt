@@ -1,7 +1,5 @@
 pub mod SetLemmas
+pub mod EdgeLemmas
+pub mod NumberLemmas
 pub mod WalkLemmas
 pub mod Reached
-pub mod LinkLemmas
-pub mod EdgeLemmas
-pub mod MarkLemmas
-pub mod NumberLemmas

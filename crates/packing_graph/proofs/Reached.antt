@@ -1,79 +1,97 @@
--- What the walk keeps: what is marked is reached, and each place that is marked waits in the queue or is done with.
-use Rattle.std.proofs.Common.{◌≡◌, ℕ, ◌+◌, ◌<◌, ◌≤◌, Bool, true, false, List, [], ◌∷◌, ◌⊎◌, inl, inr, length, get_or, Contains, refl, sym, subst, ap, ◌∙◌, arith}
-use Rattle.std.proofs.Math.ListN.{set, replicate, get_or-eq_default}
-use Rattle.std.proofs.lemmas.Bool.{cases_eq, cases_lt, false≢true}
-use Rattle.std.proofs.lemmas.List.{get_or-replicate, length-replicate}
-use Rattle.packing_graph.specs.declared.reach.Link.{Link}
-use Rattle.packing_graph.specs.Walks.{is_seen, IsClosed, IsQueued, IsVisited}
-use Rattle.packing_graph.proofs.WalkLemmas.{marked-here, marked-gives}
+-- What the walk keeps: what is reached is reached by pairs, and each station that is reached waits or is done with.
+use Rattle.std.proofs.Common.{◌≡◌, ℕ, zero, suc, Bool, true, false, ◌==◌, List, [], ◌∷◌, ◌++◌, ◌⊎◌, inl, inr, length, refl, sym, subst, arith, ◌∙◌, eq-eqb, eqb-true}
+use Rattle.std.proofs.lemmas.Bool.{both_ways, cases_Bool, false≢true, false_from_ne_true, or_cases, or_left}
+use Rattle.pack_defs.specs.Book.{BookView}
+use Rattle.pack_defs.specs.Components.{component, within, interferes, Reaches}
+use Rattle.pack_defs.specs.Components.Reaches.{here, next}
+use Rattle.pack_defs.specs.Lists.{is_ascending, is_in}
+use Rattle.pack_defs.proofs.Chains.{ascending-filter}
+use Rattle.pack_defs.proofs.ComponentLaws.{component-from, component-gives}
+use Rattle.pack_defs.proofs.Members.{is_in-from, is_in-gives}
+use Rattle.packing_graph.specs.Sets.{with_station}
+use Rattle.packing_graph.specs.Walks.{IsVisited}
+use Rattle.packing_graph.proofs.SetLemmas.{with_station-has, with_station-gives, with_station-ascending, with_station-keeps}
+use Rattle.packing_graph.proofs.WalkLemmas.{HasMore, in-gives, last-in, still-in}
 
-pub record IsWalk (links : List Link) (start : ℕ) (seen : List Bool) (queue : List ℕ) (next : ℕ) : Type 0 where
-  pub begun : is_seen seen start ≡ true
-  pub done : (i : ℕ) → is_seen seen i ≡ true → IsQueued queue next i ⊎ ((e : Link) → Contains links e → e.from ≡ i → is_seen seen e.to ≡ true)
-  pub waiting : (p : ℕ → Bool) → p start ≡ true → IsClosed links p → (k : ℕ) → k < length queue → p (get_or queue k 0) ≡ true
-  pub least : (p : ℕ → Bool) → p start ≡ true → IsClosed links p → (i : ℕ) → is_seen seen i ≡ true → p i ≡ true
+pub record IsWalk (book : BookView) (on : List ℕ) (s : ℕ) (seen : ℕ → Bool) (waiting : List ℕ) : Type 0 where
+  pub begun : seen s ≡ true
+  pub known : (t : ℕ) → is_in waiting t ≡ true → seen t ≡ true
+  pub done : (t : ℕ) → seen t ≡ true → (is_in waiting t ≡ true) ⊎ ((u : ℕ) → interferes book t u ≡ true → is_in on u ≡ true → seen u ≡ true)
+  pub least : (t : ℕ) → seen t ≡ true → Reaches book (with_station on s) s t
 
-none-seen : (n i : ℕ) → is_seen (replicate n false) i ≡ false
-none-seen n i =
-    elim (cases_lt i n) [
-      | inl l ↦ get_or-replicate n i false false l
-      | inr m ↦ let past : length (replicate n false) ≤ i = omega (arith, m, length-replicate n false) in get_or-eq_default (replicate n false) false past
+pub walk-start : (book : BookView) (on : List ℕ) (s : ℕ) (none seen : ℕ → Bool) → ((t : ℕ) → none t ≡ false) → HasMore s none seen → IsWalk book on s seen (s ∷ [])
+walk-start book on s none seen empty m =
+    let only : (t : ℕ) → seen t ≡ true → s ≡ t = λ t h. elim (or_cases (s == t) (none t) (sym (m.same t) ∙ h)) [
+      | inl e ↦ eqb-true s t e
+      | inr never ↦ absurd (both_ways (none t) (empty t) never)
+    ] in
+    let itself : is_in (s ∷ []) s ≡ true = or_left (s == s) false (eq-eqb s s refl) in
+    record {
+      begun = m.same s ∙ or_left (s == s) (none s) (eq-eqb s s refl);
+      known = λ t h. elim (or_cases (s == t) false h) [
+        | inl e ↦ m.same t ∙ or_left (s == t) (none t) e
+        | inr never ↦ absurd (false≢true never)
+      ];
+      done = λ t h. inl (subst (λ z. is_in (s ∷ []) z ≡ true) (only t h) itself);
+      least = λ t h. subst (λ z. Reaches book (with_station on s) s z) (only t h) here;
+    }
+
+-- the last of those that wait is visited
+pub walk-step : (book : BookView) (on near : List ℕ) (s x : ℕ) (seen after : ℕ → Bool) (rest longer : List ℕ) → IsWalk book on s seen (rest ++ x ∷ []) → ((t : ℕ) → is_in near t ≡ interferes book x t) → IsVisited on near seen rest after longer → IsWalk book on s after longer
+walk-step book on near s x seen after rest longer w same v =
+    let reached_x : Reaches book (with_station on s) s x = w.least x (w.known x (last-in rest x)) in
+    record {
+      begun = v.kept s w.begun;
+      known = λ t h. elim (v.led t h) [
+        | inl old ↦ v.kept t (w.known t (still-in rest x t old))
+        | inr r ↦ r
+      ];
+      done = λ t h. elim (v.new t h) [
+        | inl old ↦ elim (w.done t old) [
+          | inl waits ↦ elim (in-gives rest x t waits) [
+            | inl later ↦ inl (v.still t later)
+            | inr e ↦ inr (λ u joined air. v.reached u (same u ∙ subst (λ z. interferes book z u ≡ true) (sym e) joined) air)
+          ]
+          | inr closed ↦ inr (λ u joined air. v.kept u (closed u joined air))
+        ]
+        | inr r ↦ inl r.2
+      ];
+      least = λ t h. elim (v.new t h) [
+        | inl old ↦ w.least t old
+        | inr r ↦ next reached_x (with_station-keeps on s t (is_in-gives on t r.1)) (sym (same t) ∙ r.0)
+      ];
+    }
+
+reaches-seen : (book : BookView) (on : List ℕ) (s : ℕ) (seen : ℕ → Bool) → IsWalk book on s seen [] → (t : ℕ) → Reaches book (with_station on s) s t → seen t ≡ true
+reaches-seen book on s seen w t here = w.begun
+reaches-seen book on s seen w t (next {t = u} before there joined) =
+    elim (with_station-gives on s t there) [
+      | inl e ↦ subst (λ z. seen z ≡ true) (sym e) w.begun
+      | inr on_air ↦ elim (w.done u (reaches-seen book on s seen w u before)) [
+        | inl waits ↦ absurd (false≢true waits)
+        | inr closed ↦ closed t joined (is_in-from on t on_air)
+      ]
     ]
 
-pub walk-start : (links : List Link) (count start : ℕ) → start < count → IsWalk links start (set (replicate count false) start true) (start ∷ []) 0
-walk-start links count start l =
-    let below : start < length (replicate count false) = omega (arith, l, length-replicate count false) in
-    let only : (i : ℕ) → is_seen (set (replicate count false) start true) i ≡ true → i ≡ start = λ i h. elim (marked-gives (replicate count false) start i h) [
-      | inl e ↦ e
-      | inr m ↦ absurd (false≢true (sym (none-seen count i) ∙ m))
-    ] in
-    record {
-      begun = marked-here (replicate count false) start below;
-      done = λ i h. inl (record { at = 0; late = omega arith; there = omega arith; is = sym (only i h) });
-      waiting = λ p s closed k m. let zero_k : 0 ≡ k = omega arith in subst (λ n. p (get_or (start ∷ []) n 0) ≡ true) zero_k s;
-      least = λ p s closed i h. subst (λ n. p n ≡ true) (sym (only i h)) s;
-    }
+-- where none waits, the component is reached
+walk-end : (book : BookView) (on : List ℕ) (s : ℕ) (seen : ℕ → Bool) → IsWalk book on s seen [] → (t : ℕ) → seen t ≡ is_in (component book (with_station on s) s) t
+walk-end book on s seen w t =
+    let set : List ℕ = with_station on s in
+    elim (cases_Bool (seen t)) [
+      | inl is ↦ is ∙ sym (is_in-from (component book set s) t (component-from book set s t (with_station-has on s) (w.least t is)))
+      | inr out ↦ out ∙ sym (false_from_ne_true (is_in (component book set s) t) (λ h.
+          both_ways (seen t) out (reaches-seen book on s seen w t (component-gives book set s t (is_in-gives (component book set s) t h)))))
+    ]
 
-pub walk-step : (links own : List Link) (start : ℕ) (seen marked : List Bool) (queue longer : List ℕ) (next : ℕ) → IsWalk links start seen queue next → next < length queue → ((e : Link) → Contains own e → Contains links e × (e.from ≡ get_or queue next 0)) → ((e : Link) → Contains links e → e.from ≡ get_or queue next 0 → Contains own e) → IsVisited own seen queue marked longer → IsWalk links start marked longer (next + 1)
-walk-step links own start seen marked queue longer next w l begin whole v =
-    let grown : length queue ≤ length longer = v.no_shorter in
-    let waiting : (p : ℕ → Bool) → p start ≡ true → IsClosed links p → (k : ℕ) → k < length longer → p (get_or longer k 0) ≡ true = λ p s closed k m.
-    elim (cases_lt k (length queue)) [
-      | inl before ↦ subst (λ n. p n ≡ true) (sym (v.before k before)) (w.waiting p s closed k before)
-      | inr after ↦
-          let (e, mine, to) = v.led k after m in
-          let (of_all, from) = begin e mine in
-          subst (λ n. p n ≡ true) to (closed.step e of_all (subst (λ n. p n ≡ true) (sym from) (w.waiting p s closed next l)))
-    ] in
-    record {
-      begun = v.kept start w.begun;
-      done = λ i h. elim (v.new i h) [
-        | inl old ↦ elim (w.done i old) [
-          | inl q ↦
-              let late : next ≤ q.at = q.late in
-              let there : q.at < length queue = q.there in
-              elim (cases_eq q.at next) [
-                | inl e ↦
-                    let own_place : get_or queue next 0 ≡ i = ap (λ n. get_or queue n 0) (sym e) ∙ q.is in
-                    inr (λ x of_all from. v.reached x (whole x of_all (from ∙ sym own_place)))
-                | inr ne ↦ inl (record { at = q.at; late = omega (arith, late, ne); there = omega (arith, there, grown); is = v.before q.at there ∙ q.is })
-              ]
-          | inr leads ↦ inr (λ x of_all from. v.kept x.to (leads x of_all from))
-        ]
-        | inr q ↦ inl (record { at = q.at; late = omega (arith, q.late, l); there = q.there; is = q.is })
-      ];
-      waiting = waiting;
-      least = λ p s closed i h. elim (v.new i h) [
-        | inl old ↦ w.least p s closed i old
-        | inr q ↦ subst (λ n. p n ≡ true) q.is (waiting p s closed q.at q.there)
-      ];
-    }
+pub walk-done : (book : BookView) (on : List ℕ) (s : ℕ) (seen : ℕ → Bool) (waiting : List ℕ) → length waiting ≡ 0 → IsWalk book on s seen waiting → (t : ℕ) → seen t ≡ is_in (component book (with_station on s) s) t
+walk-done book on s seen [] e w = walk-end book on s seen w
+walk-done book on s seen (x ∷ xs) e w = absurd (omega arith)
 
--- where no place waits, no step leads out of what is marked
-pub walk-end : (links : List Link) (start : ℕ) (seen : List Bool) (queue : List ℕ) (next : ℕ) → IsWalk links start seen queue next → length queue ≤ next → IsClosed links (is_seen seen)
-walk-end links start seen queue next w past = record {
-  step = λ e of_all h. elim (w.done e.from h) [
-    | inl q ↦ let late : next ≤ q.at = q.late in let there : q.at < length queue = q.there in absurd (omega arith)
-    | inr leads ↦ leads e of_all refl
-  ];
-}
+-- a component ascends as its set does
+within-ascends : (book : BookView) (set : List ℕ) (s n : ℕ) → is_ascending set ≡ true → is_ascending (within book set s n) ≡ true
+within-ascends book set s zero a = ascending-filter _ set a
+within-ascends book set s (suc n) a = ascending-filter _ set a
+
+pub component-ascends : (book : BookView) (on : List ℕ) (s : ℕ) → is_ascending on ≡ true → is_ascending (component book (with_station on s) s) ≡ true
+unfolding component
+component-ascends book on s a = within-ascends book (with_station on s) s _ (with_station-ascending on s a)

@@ -1,136 +1,172 @@
--- What a visit of some steps does to the marks and to the queue, step by step.
-use Rattle.std.proofs.Common.{◌≡◌, ℕ, zero, suc, take, ◌+◌, ◌<◌, ◌≤◌, Bool, true, false, not, cond, List, [], ◌∷◌, ◌++◌, ◌⊎◌, inl, inr, length, get_or, Contains, refl, sym, subst, ap, ◌∙◌, arith, length-append}
-use Rattle.std.specs.List.{count_by}
-use Rattle.std.proofs.Math.ListN.{set}
-use Rattle.std.proofs.Math.Seq.{get_or-append_seam}
-use Rattle.std.proofs.lemmas.Bool.{cases_eq}
-use Rattle.std.proofs.lemmas.List.{take_more, get_or_append_left, get_or-set_same, get_or-set_other}
-use Rattle.std.proofs.lemmas.List.Elements.{Contains-append_left, Contains-append_right, Contains-append_cases}
-use Rattle.std.proofs.lemmas.List.Sums.{sum_by-set}
-use Rattle.pack_defs.proofs.Members.{Contains-here, Contains-there, Contains-cons_cases, Contains-nil}
-use Rattle.packing_graph.specs.declared.reach.Link.{Link}
-use Rattle.packing_graph.specs.Walks.{is_seen, IsQueued, IsVisited}
+-- What a visit of some neighbours reaches, neighbour by neighbour.
+use Rattle.std.proofs.Common.{◌≡◌, ℕ, ◌+◌, ◌<◌, ◌≤◌, Bool, true, false, not, cond, ◌==◌, ◌||◌, List, [], ◌∷◌, ◌++◌, take, ◌⊎◌, inl, inr, length, get_or, refl, sym, subst, ap, ◌∙◌, arith, length-append, eqb-true, eq-eqb}
+use Rattle.std.specs.BTreeSet.{BTreeSet, Updates, contains}
+use Rattle.std.specs.List.{list_any}
+use Rattle.std.specs.Ordering.{nat_cmp, is_eq}
+use Rattle.std.proofs.lemmas.Bool.{cases_Bool, both_ways, false≢true, or_cases, or_left, or_right, not_from_true}
+use Rattle.std.proofs.lemmas.Bool.Decides.{nat_tests}
+use Rattle.std.proofs.lemmas.List.{take_more}
+use Rattle.pack_defs.specs.Lists.{is_in}
+use Rattle.pack_defs.proofs.BookLemmas.{list_any-same}
+use Rattle.pack_defs.proofs.ComponentLaws.{filter_grows, filter_grows_by_one}
+use Rattle.pack_defs.proofs.Members.{is_in-gives}
+use Rattle.packing_graph.specs.Walks.{IsVisited, count_unseen}
+use Rattle.packing_graph.proofs.NumberLemmas.{is_in-more}
 
--- a mark is seen, and no other changes
-pub marked-here : (seen : List Bool) (i : ℕ) → i < length seen → is_seen (set seen i true) i ≡ true
-marked-here seen i l = get_or-set_same seen i true false l
+-- one more is reached, or none
+pub record HasMore (x : ℕ) (seen more : ℕ → Bool) : Type 0 where
+  pub same : (t : ℕ) → more t ≡ ((x == t) || seen t)
 
-marked-kept : (seen : List Bool) (i j : ℕ) → i < length seen → is_seen seen j ≡ true → is_seen (set seen i true) j ≡ true
-marked-kept seen i j l h =
-    elim (cases_eq j i) [
-      | inl e ↦ subst (λ k. is_seen (set seen i true) k ≡ true) (sym e) (marked-here seen i l)
-      | inr ne ↦ get_or-set_other seen i j true false ne ∙ h
-    ]
+eq_by_cmp : (x t : ℕ) → is_eq (nat_cmp x t) ≡ (x == t)
+eq_by_cmp x t = grind (arith, nat_tests)
 
-pub marked-gives : (seen : List Bool) (i j : ℕ) → is_seen (set seen i true) j ≡ true → (j ≡ i) ⊎ (is_seen seen j ≡ true)
-marked-gives seen i j h =
-    elim (cases_eq j i) [
-      | inl e ↦ inl e
-      | inr ne ↦ inr (sym (get_or-set_other seen i j true false ne) ∙ h)
-    ]
+swapped : (k t : ℕ) → (k == t) ≡ is_eq (nat_cmp t k)
+swapped k t = grind (arith, nat_tests)
 
--- one fewer is left unmarked
-one-fewer : (seen : List Bool) (i : ℕ) → i < length seen → is_seen seen i ≡ false → count_by not (set seen i true) + 1 ≡ count_by not seen
-one-fewer seen i l h =
-    let step = sum_by-set (λ b. cond (not b) 1 0) seen i true false l in
-    let one : cond {A = ℕ} (not (get_or seen i false)) 1 0 ≡ 1 = ap (λ b. cond {A = ℕ} (not b) 1 0) h in
-    omega (arith, step, one)
+or_cond : (a b : Bool) → cond a true b ≡ (a || b)
+or_cond true b = refl
+or_cond false b = refl
 
-queued-still : (queue more : List ℕ) (from i : ℕ) → IsQueued queue from i → IsQueued (queue ++ more) from i
-queued-still queue more from i q =
-    let there : q.at < length queue = q.there in record {
-      at = q.at;
-      late = q.late;
-      there = omega (arith, there, length-append queue more);
-      is = get_or_append_left queue more 0 q.at there ∙ q.is;
-    }
-
-pub visit-start : (seen : List Bool) (queue : List ℕ) → IsVisited [] seen queue seen queue
-visit-start seen queue = record {
-  kept = λ i h. h;
-  reached = λ e l. absurd (Contains-nil e l);
-  new = λ i h. inl h;
-  led = λ k l u. absurd (omega arith);
-  no_shorter = omega arith;
-  before = λ k l. refl;
-  counted = refl;
+-- what an insertion does to a set
+pub has_more : (old new : BTreeSet ℕ) (x : ℕ) → Updates nat_cmp old new x true → HasMore x (contains nat_cmp old) (contains nat_cmp new)
+has_more old new x u = record {
+  same = λ t. u.0 t ∙ or_cond (is_eq (nat_cmp x t)) (contains nat_cmp old t) ∙ ap (λ b. b || contains nat_cmp old t) (eq_by_cmp x t);
 }
 
-last : (links : List Link) (e x : Link) → Contains (links ++ e ∷ []) x → Contains links x ⊎ (e ≡ x)
-last links e x h =
-    elim (Contains-append_cases links (e ∷ []) x h) [
-      | inl l ↦ inl l
-      | inr r ↦ elim (Contains-cons_cases e x [] r) [ inl same ↦ inr same | inr none ↦ absurd (Contains-nil x none) ]
-    ]
+-- an empty set has none
+pub none-in : (s : BTreeSet ℕ) → s.keys ≡ [] → (t : ℕ) → contains nat_cmp s t ≡ false
+none-in s e t = ap (list_any (λ k. is_eq (nat_cmp t k))) e
 
--- a step to a place that is marked
-pub visit-seen : (links : List Link) (e : Link) (seen marked : List Bool) (queue longer : List ℕ) → IsVisited links seen queue marked longer → is_seen marked e.to ≡ true → IsVisited (links ++ e ∷ []) seen queue marked longer
-visit-seen links e seen marked queue longer v h = record {
+-- a set has its keys
+pub key-in : (s : BTreeSet ℕ) (t : ℕ) → is_in s.keys t ≡ contains nat_cmp s t
+key-in s t = list_any-same (λ k. k == t) (λ k. is_eq (nat_cmp t k)) (λ k. swapped k t) s.keys
+
+-- what an insertion says of the set before it
+pub was_out : (b added : Bool) → added ≡ not b → added ≡ true → b ≡ false
+was_out true added e h = absurd (false≢true (sym e ∙ h))
+was_out false added e h = refl
+
+pub was_in : (b added : Bool) → added ≡ not b → added ≡ false → b ≡ true
+was_in true added e h = refl
+was_in false added e h = absurd (false≢true (sym h ∙ e))
+
+more-kept : (x t : ℕ) (seen more : ℕ → Bool) → HasMore x seen more → seen t ≡ true → more t ≡ true
+more-kept x t seen more m h = m.same t ∙ or_right (x == t) (seen t) h
+
+more-itself : (x : ℕ) (seen more : ℕ → Bool) → HasMore x seen more → more x ≡ true
+more-itself x seen more m = m.same x ∙ or_left (x == x) (seen x) (eq-eqb x x refl)
+
+more-gives : (x t : ℕ) (seen more : ℕ → Bool) → HasMore x seen more → more t ≡ true → (x ≡ t) ⊎ (seen t ≡ true)
+more-gives x t seen more m h =
+    elim (or_cases (x == t) (seen t) (sym (m.same t) ∙ h)) [ inl e ↦ inl (eqb-true x t e) | inr old ↦ inr old ]
+
+-- a list with one more at its end
+pub last-in : (xs : List ℕ) (x : ℕ) → is_in (xs ++ x ∷ []) x ≡ true
+last-in xs x = is_in-more xs x x ∙ or_right (is_in xs x) (x == x) (eq-eqb x x refl)
+
+pub still-in : (xs : List ℕ) (x t : ℕ) → is_in xs t ≡ true → is_in (xs ++ x ∷ []) t ≡ true
+still-in xs x t h = is_in-more xs x t ∙ or_left (is_in xs t) (x == t) h
+
+pub in-gives : (xs : List ℕ) (x t : ℕ) → is_in (xs ++ x ∷ []) t ≡ true → (is_in xs t ≡ true) ⊎ (x ≡ t)
+in-gives xs x t h =
+    elim (or_cases (is_in xs t) (x == t) (sym (is_in-more xs x t) ∙ h)) [ inl old ↦ inl old | inr e ↦ inr (eqb-true x t e) ]
+
+-- how many are not reached falls
+unseen-falls : (on : List ℕ) (x : ℕ) (seen more : ℕ → Bool) → HasMore x seen more → count_unseen on more ≤ count_unseen on seen
+unseen-falls on x seen more m =
+    filter_grows (λ t. not (more t)) (λ t. not (seen t)) on (λ t out. elim (cases_Bool (seen t)) [
+      | inl is ↦ absurd (both_ways (not (more t)) (not_from_true (more t) (more-kept x t seen more m is)) out)
+      | inr out_too ↦ ap not out_too
+    ])
+
+unseen-fewer : (on : List ℕ) (x : ℕ) (seen more : ℕ → Bool) → HasMore x seen more → is_in on x ≡ true → seen x ≡ false → count_unseen on more < count_unseen on seen
+unseen-fewer on x seen more m there new =
+    filter_grows_by_one (λ t. not (more t)) (λ t. not (seen t)) on x
+    (λ t out. elim (cases_Bool (seen t)) [
+      | inl is ↦ absurd (both_ways (not (more t)) (not_from_true (more t) (more-kept x t seen more m is)) out)
+      | inr out_too ↦ ap not out_too
+    ])
+    (is_in-gives on x there) (not_from_true (more x) (more-itself x seen more m)) (ap not new)
+
+pub visit-start : (on : List ℕ) (seen : ℕ → Bool) (waiting : List ℕ) → IsVisited on [] seen waiting seen waiting
+visit-start on seen waiting = record {
+  kept = λ t h. h;
+  reached = λ t h k. absurd (false≢true h);
+  new = λ t h. inl h;
+  still = λ t h. h;
+  led = λ t h. inl h;
+  counted = omega arith;
+}
+
+-- a neighbour that is off air
+visit-off : (on near : List ℕ) (x : ℕ) (seen after : ℕ → Bool) (waiting longer : List ℕ) → IsVisited on near seen waiting after longer → is_in on x ≡ false → IsVisited on (near ++ x ∷ []) seen waiting after longer
+visit-off on near x seen after waiting longer v off = record {
   kept = v.kept;
-  reached = λ x l. elim (last links e x l) [
-    | inl before ↦ v.reached x before
-    | inr same ↦ subst (λ z. is_seen marked z.to ≡ true) same h
+  reached = λ t h k. elim (in-gives near x t h) [
+    | inl old ↦ v.reached t old k
+    | inr e ↦ absurd (both_ways (is_in on x) off (subst (λ z. is_in on z ≡ true) (sym e) k))
   ];
-  new = v.new;
-  led = λ k l u. let r = v.led k l u in (r.0, Contains-append_left links (e ∷ []) r.0 r.1, r.2);
-  no_shorter = v.no_shorter;
-  before = v.before;
+  new = λ t h. elim (v.new t h) [ inl old ↦ inl old | inr r ↦ inr (still-in near x t r.0, r.1, r.2) ];
+  still = v.still;
+  led = v.led;
   counted = v.counted;
 }
 
--- and one to a new place
-pub visit-new : (links : List Link) (e : Link) (seen marked : List Bool) (queue longer : List ℕ) → IsVisited links seen queue marked longer → e.to < length marked → is_seen marked e.to ≡ false → IsVisited (links ++ e ∷ []) seen queue (set marked e.to true) (longer ++ e.to ∷ [])
-visit-new links e seen marked queue longer v below h =
-    let size : length (longer ++ e.to ∷ []) ≡ length longer + 1 = length-append longer (e.to ∷ []) in
-    let grown : length queue ≤ length longer = v.no_shorter in
-    let counted : count_by not marked + length longer ≡ count_by not seen + length queue = v.counted in
-    let fewer = one-fewer marked e.to below h in record {
-      kept = λ i k. marked-kept marked e.to i below (v.kept i k);
-      reached = λ x l. elim (last links e x l) [
-        | inl before ↦ marked-kept marked e.to x.to below (v.reached x before)
-        | inr same ↦ subst (λ (z : Link). is_seen (set marked e.to true) z.to ≡ true) same (marked-here marked e.to below)
+-- one that was reached before
+visit-known : (on near : List ℕ) (x : ℕ) (seen after more : ℕ → Bool) (waiting longer : List ℕ) → IsVisited on near seen waiting after longer → HasMore x after more → after x ≡ true → IsVisited on (near ++ x ∷ []) seen waiting more longer
+visit-known on near x seen after more waiting longer v m known =
+    let counted : length longer + count_unseen on after ≤ length waiting + count_unseen on seen = v.counted in
+    let fewer = unseen-falls on x after more m in
+    let before : (t : ℕ) → more t ≡ true → after t ≡ true = λ t h. elim (more-gives x t after more m h) [
+      | inl e ↦ subst (λ z. after z ≡ true) e known
+      | inr old ↦ old
+    ] in
+    record {
+      kept = λ t h. more-kept x t after more m (v.kept t h);
+      reached = λ t h k. elim (in-gives near x t h) [
+        | inl old ↦ more-kept x t after more m (v.reached t old k)
+        | inr e ↦ subst (λ z. more z ≡ true) e (more-itself x after more m)
       ];
-      new = λ i k. elim (marked-gives marked e.to i k) [
-        | inl same ↦ inr (record {
-          at = length longer;
-          late = grown;
-          there = omega (arith, size);
-          is = get_or-append_seam longer e.to [] 0 ∙ sym same;
-        })
-        | inr old ↦ elim (v.new i old) [ inl before ↦ inl before | inr q ↦ inr (queued-still longer (e.to ∷ []) (length queue) i q) ]
-      ];
-      led = λ k l u. elim (cases_eq k (length longer)) [
-        | inl same ↦ (
-          e,
-          Contains-append_right links (e ∷ []) e (Contains-here e []),
-          sym (get_or-append_seam longer e.to [] 0) ∙ ap (λ n. get_or (longer ++ e.to ∷ []) n 0) (sym same),
-        )
-        | inr ne ↦
-            let below_k : k < length longer = omega (arith, size, u, ne) in
-            let r = v.led k l below_k in
-            (r.0, Contains-append_left links (e ∷ []) r.0 r.1, r.2 ∙ sym (get_or_append_left longer (e.to ∷ []) 0 k below_k))
-      ];
-      no_shorter = omega (arith, size, grown);
-      before = λ k l. let there : k < length longer = omega arith in get_or_append_left longer (e.to ∷ []) 0 k there ∙ v.before k l;
-      counted = omega (arith, size, counted, fewer);
+      new = λ t h. elim (v.new t (before t h)) [ inl old ↦ inl old | inr r ↦ inr (still-in near x t r.0, r.1, r.2) ];
+      still = v.still;
+      led = λ t h. elim (v.led t h) [ inl old ↦ inl old | inr r ↦ inr (more-kept x t after more m r) ];
+      counted = omega (arith, counted, fewer);
     }
 
--- the element at a place is of the list, whatever stands for none
-pub contains-at : {X : Type 0} (xs : List X) (i : ℕ) (d : X) → i < length xs → Contains xs (get_or xs i d)
-contains-at [] i d l = absurd (omega arith)
-contains-at (x ∷ xs) zero d l = Contains-here x xs
-contains-at (x ∷ xs) (suc i) d l = Contains-there x (get_or xs i d) xs (contains-at xs i d (omega arith))
+-- and a new one
+visit-new : (on near : List ℕ) (x : ℕ) (seen after more : ℕ → Bool) (waiting longer : List ℕ) → IsVisited on near seen waiting after longer → HasMore x after more → is_in on x ≡ true → after x ≡ false → IsVisited on (near ++ x ∷ []) seen waiting more (longer ++ x ∷ [])
+visit-new on near x seen after more waiting longer v m there new =
+    let counted : length longer + count_unseen on after ≤ length waiting + count_unseen on seen = v.counted in
+    let fewer = unseen-fewer on x after more m there new in
+    let size : length (longer ++ x ∷ []) ≡ length longer + 1 = length-append longer (x ∷ []) in
+    record {
+      kept = λ t h. more-kept x t after more m (v.kept t h);
+      reached = λ t h k. elim (in-gives near x t h) [
+        | inl old ↦ more-kept x t after more m (v.reached t old k)
+        | inr e ↦ subst (λ z. more z ≡ true) e (more-itself x after more m)
+      ];
+      new = λ t h. elim (more-gives x t after more m h) [
+        | inl e ↦ inr (subst (λ z. (is_in (near ++ x ∷ []) z ≡ true) × (is_in on z ≡ true) × (is_in (longer ++ x ∷ []) z ≡ true)) e (last-in near x, there, last-in longer x))
+        | inr old ↦ elim (v.new t old) [ inl before ↦ inl before | inr r ↦ inr (still-in near x t r.0, r.1, still-in longer x t r.2) ]
+      ];
+      still = λ t h. still-in longer x t (v.still t h);
+      led = λ t h. elim (in-gives longer x t h) [
+        | inl old ↦ elim (v.led t old) [ inl before ↦ inl before | inr r ↦ inr (more-kept x t after more m r) ]
+        | inr e ↦ inr (subst (λ z. more z ≡ true) e (more-itself x after more m))
+      ];
+      counted = omega (arith, counted, fewer, size);
+    }
 
-pub any-default : {X : Type 0} (xs : List X) (i : ℕ) (d e : X) → i < length xs → get_or xs i d ≡ get_or xs i e
-any-default [] i d e l = absurd (omega arith)
-any-default (x ∷ xs) zero d e l = refl
-any-default (x ∷ xs) (suc i) d e l = any-default xs i d e (omega arith)
+-- ---- the same, at the place of the loop
 
--- one step of the loop
-pub visit-step-seen : (links : List Link) (i : ℕ) (d : Link) (seen marked : List Bool) (queue longer : List ℕ) → i < length links → IsVisited (take i links) seen queue marked longer → is_seen marked (get_or links i d).to ≡ true → IsVisited (take (i + 1) links) seen queue marked longer
-visit-step-seen links i d seen marked queue longer l v h =
-    subst (λ zs. IsVisited zs seen queue marked longer) (sym (take_more links i d l)) (visit-seen (take i links) (get_or links i d) seen marked queue longer v h)
+pub step-off : (on near : List ℕ) (i : ℕ) (seen after : ℕ → Bool) (waiting longer : List ℕ) → i < length near → IsVisited on (take i near) seen waiting after longer → is_in on (get_or near i 0) ≡ false → IsVisited on (take (i + 1) near) seen waiting after longer
+step-off on near i seen after waiting longer l v off =
+    subst (λ ts. IsVisited on ts seen waiting after longer) (sym (take_more near i 0 l)) (visit-off on (take i near) (get_or near i 0) seen after waiting longer v off)
 
-pub visit-step-new : (links : List Link) (i : ℕ) (d : Link) (seen marked : List Bool) (queue longer : List ℕ) → i < length links → IsVisited (take i links) seen queue marked longer → (get_or links i d).to < length marked → is_seen marked (get_or links i d).to ≡ false → IsVisited (take (i + 1) links) seen queue (set marked (get_or links i d).to true) (longer ++ (get_or links i d).to ∷ [])
-visit-step-new links i d seen marked queue longer l v below h =
-    subst (λ zs. IsVisited zs seen queue (set marked (get_or links i d).to true) (longer ++ (get_or links i d).to ∷ [])) (sym (take_more links i d l)) (visit-new (take i links) (get_or links i d) seen marked queue longer v below h)
+pub step-known : (on near : List ℕ) (i : ℕ) (seen after more : ℕ → Bool) (waiting longer : List ℕ) → i < length near → IsVisited on (take i near) seen waiting after longer → HasMore (get_or near i 0) after more → after (get_or near i 0) ≡ true → IsVisited on (take (i + 1) near) seen waiting more longer
+step-known on near i seen after more waiting longer l v m known =
+    subst (λ ts. IsVisited on ts seen waiting more longer) (sym (take_more near i 0 l)) (visit-known on (take i near) (get_or near i 0) seen after more waiting longer v m known)
+
+pub step-new : (on near : List ℕ) (i : ℕ) (seen after more : ℕ → Bool) (waiting longer : List ℕ) → i < length near → IsVisited on (take i near) seen waiting after longer → HasMore (get_or near i 0) after more → is_in on (get_or near i 0) ≡ true → after (get_or near i 0) ≡ false → IsVisited on (take (i + 1) near) seen waiting more (longer ++ get_or near i 0 ∷ [])
+step-new on near i seen after more waiting longer l v m there new =
+    subst (λ ts. IsVisited on ts seen waiting more (longer ++ get_or near i 0 ∷ [])) (sym (take_more near i 0 l)) (visit-new on (take i near) (get_or near i 0) seen after more waiting longer v m there new)

@@ -1,35 +1,16 @@
--- A walk over the places of a set: the steps that it may take, and the places that it has marked.
-use Rattle.std.specs.Prelude.{◌≡◌, ℕ, ◌+◌, ◌<◌, ◌≤◌, ◌⊎◌, Bool, true, false, not, if◌then◌else◌, List, [], ◌∷◌, length, slice_index, slice_index_or, Contains}
-use Rattle.std.specs.List.{count_by}
-use Rattle.packing_graph.specs.declared.reach.Link.{Link}
+-- A walk over stations: those that it has reached, and those of them that it has still to visit.
+use Rattle.std.specs.Prelude.{ℕ, ◌+◌, ◌≤◌, ◌⊎◌, Bool, not, List, length, filter, IsTrue}
+use Rattle.pack_defs.specs.Lists.{is_in}
 
--- the place is marked
-abbrev pub is_seen : List Bool → ℕ → Bool
-is_seen seen i = slice_index_or seen i false
+-- how many of the stations on air are not reached
+abbrev pub count_unseen : List ℕ → (ℕ → Bool) → ℕ
+count_unseen on seen = length (filter (λ t. not (seen t)) on)
 
--- a test of places that no step leads out of
-pub record IsClosed (links : List Link) (p : ℕ → Bool) : Type 0 where
-  pub step : (e : Link) → Contains links e → p e.from ≡ true → p e.to ≡ true
-
--- the place stands in the queue, at this one of its places or later
-pub record IsQueued (queue : List ℕ) (from i : ℕ) : Type 0 where
-  pub at : ℕ
-  pub late : from ≤ at
-  pub there : at < length queue
-  pub is : slice_index queue at ≡ i
-
--- after a visit of these steps: what they lead to is marked, and what is newly marked stands new in the queue
-pub record IsVisited (links : List Link) (seen : List Bool) (queue : List ℕ) (marked : List Bool) (longer : List ℕ) : Type 0 where
-  pub kept : (i : ℕ) → is_seen seen i ≡ true → is_seen marked i ≡ true
-  pub reached : (e : Link) → Contains links e → is_seen marked e.to ≡ true
-  pub new : (i : ℕ) → is_seen marked i ≡ true → (is_seen seen i ≡ true) ⊎ IsQueued longer (length queue) i
-  pub led : (k : ℕ) → length queue ≤ k → k < length longer → (e : Link) × Contains links e × (e.to ≡ slice_index longer k)
-  pub no_shorter : length queue ≤ length longer
-  pub before : (k : ℕ) → k < length queue → slice_index longer k ≡ slice_index queue k
-  pub counted : count_by not marked + length longer ≡ count_by not seen + length queue
-
--- the stations of the set whose places are marked
-abbrev pub marked_of : List ℕ → List Bool → List ℕ
-marked_of [] seen = []
-marked_of (s ∷ set) [] = []
-marked_of (s ∷ set) (b ∷ seen) = if b then s ∷ marked_of set seen else marked_of set seen
+-- after a visit of these neighbours: those on air are reached, and what is newly reached is one of them and waits
+pub record IsVisited (on near : List ℕ) (seen : ℕ → Bool) (waiting : List ℕ) (after : ℕ → Bool) (longer : List ℕ) : Type 0 where
+  pub kept : (t : ℕ) → IsTrue (seen t) → IsTrue (after t)
+  pub reached : (t : ℕ) → IsTrue (is_in near t) → IsTrue (is_in on t) → IsTrue (after t)
+  pub new : (t : ℕ) → IsTrue (after t) → IsTrue (seen t) ⊎ (IsTrue (is_in near t) × IsTrue (is_in on t) × IsTrue (is_in longer t))
+  pub still : (t : ℕ) → IsTrue (is_in waiting t) → IsTrue (is_in longer t)
+  pub led : (t : ℕ) → IsTrue (is_in longer t) → IsTrue (is_in waiting t) ⊎ IsTrue (after t)
+  pub counted : length longer + count_unseen on after ≤ length waiting + count_unseen on seen

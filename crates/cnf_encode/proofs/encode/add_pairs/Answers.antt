@@ -12,4 +12,4 @@ pub returns-clause-added : goal.returns-clause-added
 returns-clause-added c =
     let whole = take_all c.loop-i.i c.args.set.now c.loop-i-test.false in
     c.loop-i.invariant.added ∙ ap (λ xs. c.args.formula.now.list ++ flat_map (station_clauses c.args.book.now c.args.set.now) xs) whole
-    ∙ ap (λ xs. c.args.formula.now.list ++ xs) (by-station c.args.book.now c.args.set.now c.requires.ascending c.len-stations.ensures.in_order.pairs)
+    ∙ ap (λ xs. c.args.formula.now.list ++ xs) (by-station c.args.book.now c.args.set.now c.requires.ascending c.requires.in_order.pairs)

@@ -1,6 +1,8 @@
-use Rattle.std.proofs.Common.{◌∙◌, ◌++◌, ap, map, filter, flat_map}
+use Rattle.std.proofs.Common.{◌∙◌, ◌++◌, ap, sym, subst, map, filter, flat_map}
 use Rattle.cnf_encode.specs.Formula.{at_least_one, at_most_one, is_inside, packing_formula, pair_clause, station_variables}
+use Rattle.clause_db.specs.Clauses.{ClausesWithin}
 use Rattle.cnf_encode.proofs.NumberLemmas.{last-offset}
+use Rattle.cnf_encode.proofs.Ranges.{formula-within}
 use Rattle.cnf_encode.proofs.encode.encode.Goals as goal
 
 pub returns-clause-clauses : goal.returns-clause-clauses
@@ -16,3 +18,9 @@ pub returns-clause-variables : goal.returns-clause-variables
 returns-clause-variables c =
     c.in_ok-add_pairs.ensures.same ∙ c.in_ok-add_at_most_one.ensures.same ∙ c.in_ok-add_at_least_one.ensures.same ∙ ap (λ l. l.vars) c.new-formula.ensures
     ∙ last-offset c.args.book.now c.args.set.now c.in_ok-offsets.offsets.items c.index.result.now c.in_ok-offsets.ensures c.index.ensures
+
+pub returns-clause-within : goal.returns-clause-within
+returns-clause-within c =
+    let within = formula-within c.args.book.now c.args.set.now c.len-stations.ensures.in_order in
+    let variables = subst (λ n. ClausesWithin n (packing_formula c.args.book.now c.args.set.now)) (sym (returns-clause-variables c)) within in
+    subst (ClausesWithin c.add_pairs.new.formula.vars) (sym (returns-clause-clauses c)) variables

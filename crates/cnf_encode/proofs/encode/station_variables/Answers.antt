@@ -1,4 +1,4 @@
-use Rattle.std.proofs.Common.{◌≡◌, ◌<◌, ◌∙◌, ◌+◌, arith, ap, sym, refl, get_or, length, subst}
+use Rattle.std.proofs.Common.{◌<◌, ◌∙◌, arith, ap, refl, get_or, length, subst}
 use Rattle.pack_defs.specs.Book.{domain_of}
 use Rattle.cnf_encode.specs.Formula.{variable_of}
 use Rattle.cnf_encode.proofs.NumberLemmas.{variable-read, variables-push}

@@ -1,4 +1,4 @@
-use Rattle.std.proofs.Common.{◌≤◌, length, arith}
+use Rattle.std.proofs.Common.{arith}
 use Rattle.cnf_encode.proofs.AscendingLemmas.{few-bytes}
 use Rattle.cnf_encode.proofs.numbering.count_of.Goals as goal
 

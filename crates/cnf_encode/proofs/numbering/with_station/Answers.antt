@@ -1,4 +1,4 @@
-use Rattle.std.proofs.Common.{◌≤◌, ◌∙◌, ◌+◌, arith, ap, length}
+use Rattle.std.proofs.Common.{◌≤◌, ◌∙◌, arith, ap, length}
 use Rattle.cnf_encode.proofs.NumberLemmas.{count-step}
 use Rattle.cnf_encode.proofs.numbering.with_station.Goals as goal
 

@@ -1,4 +1,4 @@
-use Rattle.std.proofs.Common.{rules, ◌∙◌}
+use Rattle.std.proofs.Common.{rules}
 use Rattle.std.proofs.lemmas.List.Sorted.{IsNonDecreasingBy-from_sort_by_key, answers_always}
 use Rattle.pack_defs.proofs.Spans.{seconds-same}
 use Rattle.pack_defs.proofs.book.sorted_by_second.Goals as goal

@@ -1,49 +1,23 @@
-use Rattle.std.proofs.Common.{◌≡◌, ◌∙◌, ◌<◌, ◌≤◌, ◌+◌, true, false, not, length, get_or, sym, arith, rules}
-use Rattle.std.specs.List.{count_by}
-use Rattle.std.proofs.Math.ListN.{replicate}
-use Rattle.std.proofs.lemmas.List.{length-set, length-replicate, get_or_default}
-use Rattle.packing_graph.specs.Walks.{IsVisited}
-use Rattle.packing_graph.proofs.Reached.{walk-start, walk-step, walk-end}
+use Rattle.std.proofs.Common.{◌≡◌, ◌∙◌, ℕ, length, ap, subst, arith}
+use Rattle.std.specs.BTreeSet.{contains}
+use Rattle.std.specs.Ordering.{nat_cmp}
+use Rattle.pack_defs.specs.Components.{interferes}
+use Rattle.pack_defs.specs.Lists.{is_in}
+use Rattle.packing_graph.proofs.Reached.{IsWalk, walk-start, walk-step, walk-done}
+use Rattle.packing_graph.proofs.WalkLemmas.{has_more, none-in}
 use Rattle.packing_graph.proofs.reach.reached.Goals as goal
-
-pub visit-requires : goal.visit-requires
-visit-requires c = λ e mine.
-    let below : e.to < c.args.count = c.requires.within e (c.links_from.ensures.begin e mine).0 in
-    omega (arith, below, c.loop-next.invariant.count)
 
 pub loop-next-init : goal.loop-next-init
 loop-next-init c =
-    let none : c.in_ok-seen.seen.items ≡ replicate c.args.count false = c.in_ok-seen.ensures.items_if_clones_equal (search rules) in
-    rw (none, c.in_ok-queue.ensures.items) (record {
-      count = length-set (replicate c.args.count false) c.args.start true ∙ length-replicate c.args.count false;
-      walk = walk-start c.args.links.now c.args.count c.args.start c.requires.start;
-    })
+    rw c.in_ok-waiting.ensures.items (walk-start c.args.book.now c.args.on.now c.args.s (contains nat_cmp c.new-seen.result) (contains nat_cmp c.insert.new.self) (none-in c.new-seen.result c.new-seen.ensures.empty) (has_more c.new-seen.result c.insert.new.self c.args.s c.in_ok-insert.ensures.updates))
 
 pub loop-next-preserved : goal.loop-next-preserved
 loop-next-preserved c =
-    let place : c.index.result.now ≡ get_or c.loop-next.queue.items c.loop-next.next 0 = c.index.ensures ∙ get_or_default c.loop-next.queue.items c.loop-next.next c.index.result.now 0 (omega arith) in
-    record {
-      count = c.visit.ensures.count ∙ c.loop-next.invariant.count;
-      walk = walk-step c.args.links.now c.links_from.result.now c.args.start c.loop-next.seen.items c.visit.new.seen.items c.loop-next.queue.items c.visit.new.queue.items c.loop-next.next c.loop-next.invariant.walk (omega arith)
-          (λ e mine. let r = c.links_from.ensures.begin e mine in (r.0, r.1 ∙ place))
-          (λ e of_all from. c.links_from.ensures.whole e of_all (from ∙ sym place))
-          c.in_ok-visit.ensures.visited;
-    }
-
-pub loop-next-smaller : goal.loop-next-smaller
-loop-next-smaller c =
-    let v : IsVisited c.links_from.result.now c.loop-next.seen.items c.loop-next.queue.items c.visit.new.seen.items c.visit.new.queue.items = c.in_ok-visit.ensures.visited in
-    let grown : length c.loop-next.queue.items ≤ length c.visit.new.queue.items = v.no_shorter in
-    let counted : count_by not c.visit.new.seen.items + length c.visit.new.queue.items ≡ count_by not c.loop-next.seen.items + length c.loop-next.queue.items = v.counted in
-    let more : c.loop-next.next < length c.loop-next.queue.items = omega arith in
-    omega (arith, grown, counted, more)
+    let before : IsWalk c.args.book.now c.args.on.now c.args.s (contains nat_cmp c.loop-next.seen) _ = subst (λ ts. IsWalk c.args.book.now c.args.on.now c.args.s (contains nat_cmp c.loop-next.seen) ts) c.in-Some.ensures.items c.loop-next.invariant in
+    let near : (t : ℕ) → is_in c.deref.result.now t ≡ interferes c.args.book.now c.in-Some.next t = λ t. ap (λ xs. is_in xs t) c.deref.ensures.value ∙ c.in_ok-near.ensures.interfere t in
+    walk-step c.args.book.now c.args.on.now c.deref.result.now c.args.s c.in-Some.next (contains nat_cmp c.loop-next.seen) (contains nat_cmp c.visit.new.seen) c.pop.new.self.items c.visit.new.waiting.items before near c.in_ok-visit.ensures
 
 pub returns : goal.returns
 returns c =
-    let past : length c.loop-next.queue.items ≤ c.loop-next.next = omega arith in
-    record {
-      count = c.loop-next.invariant.count;
-      start = c.loop-next.invariant.walk.begun;
-      closed = walk-end c.args.links.now c.args.start c.loop-next.seen.items c.loop-next.queue.items c.loop-next.next c.loop-next.invariant.walk past;
-      least = c.loop-next.invariant.walk.least;
-    }
+    let none : length c.loop-next.waiting.items ≡ 0 = omega (arith, c.loop-next.waiting.ok.0, c.in_default.ensures.cases.0) in
+    walk-done c.args.book.now c.args.on.now c.args.s (contains nat_cmp c.loop-next.seen) c.loop-next.waiting.items none c.loop-next.invariant

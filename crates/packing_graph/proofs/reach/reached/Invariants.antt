@@ -1,13 +1,12 @@
-use Rattle.std.proofs.Common.{◌≡◌, ◌+◌, ◌-◌, not, length}
-use Rattle.std.specs.List.{count_by}
+use Rattle.std.proofs.Common.{◌+◌, length}
+use Rattle.std.specs.BTreeSet.{contains}
+use Rattle.std.specs.Ordering.{nat_cmp}
+use Rattle.packing_graph.specs.Walks.{count_unseen}
 use Rattle.packing_graph.proofs.Reached.{IsWalk}
 use Rattle.packing_graph.proofs.reach.reached.Given as goal
 
 abbrev pub invariant-loop-next : goal.invariant-loop-next
-invariant-loop-next l = record {
-  count : length l.seen.items ≡ l.count;
-  walk : IsWalk l.links l.start l.seen.items l.queue.items l.next;
-}
+invariant-loop-next l = IsWalk l.book l.on l.s (contains nat_cmp l.seen) l.waiting.items
 
 abbrev pub decreases-loop-next : goal.decreases-loop-next
-decreases-loop-next l = count_by not l.seen.items + (length l.queue.items - l.next)
+decreases-loop-next l = length l.waiting.items + count_unseen l.on (contains nat_cmp l.seen)

@@ -1,9 +1,8 @@
-use Rattle.std.proofs.Common.{◌≡◌, length, take}
+use Rattle.std.proofs.Common.{take}
+use Rattle.std.specs.BTreeSet.{contains}
+use Rattle.std.specs.Ordering.{nat_cmp}
 use Rattle.packing_graph.specs.Walks.{IsVisited}
 use Rattle.packing_graph.proofs.reach.visit.Given as goal
 
-abbrev pub invariant-loop-link : goal.invariant-loop-link
-invariant-loop-link l = record {
-  count : length l.seen.items ≡ length l.fn.seen.items;
-  visited : IsVisited (take l.link-index l.links) l.fn.seen.items l.fn.queue.items l.seen.items l.queue.items;
-}
+abbrev pub invariant-loop-t : goal.invariant-loop-t
+invariant-loop-t l = IsVisited l.on (take l.t-index l.near) (contains nat_cmp l.fn.seen) l.fn.waiting.items (contains nat_cmp l.seen) l.waiting.items
