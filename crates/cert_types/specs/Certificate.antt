@@ -1,4 +1,4 @@
--- What a checked answer stands for: the check's own words.
+-- What the check of an answer asks, and what it leaves.
 use Rattle.std.specs.Prelude.{◌≡◌, ⊤, IsTrue, Option, Some}
 use Rattle.pack_defs.specs.declared.worker.Worker.{Worker}
 use Rattle.pack_defs.specs.Book.{BookView}
@@ -20,7 +20,7 @@ pub record Certificate : Type 0 where
 pub record IsTaskOf (book : BookView) (task : Task) : Type 0 where
   pub rises : IsTrue (is_ascending task.set)
 
--- the cause of a refusal, where this is the answer's fault: that place; want of memory tells nothing of it
+-- what a refusal tells of the answer's first fault: that it is this place; want of memory tells nothing
 abbrev pub Tells : CertifyWhy → Option Place → Type 0
 Tells (Rejected place) fault = fault ≡ Some place
 Tells NoMemory fault = ⊤

@@ -1,6 +1,6 @@
 ghost use Rattle.std.specs.Prelude.{◌≡◌, IfErr, IfOk, option_map};
 ghost use Rattle.cert_types.specs.Certificate.{IsTaskOf, Tells};
-ghost use Rattle.cert_types.specs.Valid.{IsValid, answer_fault, fit_fault, spent_lines_fault, place_of, proof_fault};
+ghost use Rattle.cert_types.specs.Valid.{IsValid, answer_fault, fit_fault, place_of, proof_fault, spent_lines_fault};
 
 use crate::answer::{Answer, CertifyFault, CertifyWhy, Place, Receipt, Refutation};
 use crate::certified::Certified;
@@ -17,9 +17,10 @@ use rup_check::line::Log;
 use std::alloc::{AllocError as NoMemory, Global};
 
 /// Lets an answer through exactly where it is valid for this book, task and worker. A fit is judged by the map that it
-/// leaves; a proof and a receipt by their number of lines, and line for line over the clauses of a proof's subset or of
-/// the task's set, which costs what these clauses and the literals and hints of the log cost. No code of a solver is
-/// asked, and neither the answer nor the clauses are copied.
+/// leaves, which costs what the set and its stations' pairs cost. A proof and a receipt are judged by their number of
+/// lines, and then line by line over the clauses of the proof's subset or of the task's set, which costs what these
+/// clauses and the literals and hints of the log cost. No code of a solver is asked, and neither the answer nor the
+/// clauses are copied.
 ///
 /// # Errors
 ///

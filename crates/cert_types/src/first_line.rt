@@ -1,6 +1,6 @@
 ghost use Rattle.std.specs.Prelude.{◌≡◌, IfOk, List};
 ghost use Rattle.clause_db.specs.declared.lit.Lit.{Lit};
-ghost use Rattle.cert_types.specs.FirstLine.{ends_there, first_line, has_literal, does_follow, lesser};
+ghost use Rattle.cert_types.specs.FirstLine.{does_follow, ends_there, first_line, has_literal, lesser};
 
 use clause_db::list::ClauseList;
 use rup_check::LogErr;

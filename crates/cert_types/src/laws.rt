@@ -12,7 +12,7 @@ ghost use Rattle.assign_check.specs.Fault.{IsCleanOn};
 ghost use Rattle.cnf_encode.specs.Examples.{three_clauses};
 ghost use Rattle.rup_check.specs.Follows.{line_fault, Follows, ends_empty};
 ghost use Rattle.cert_types.specs.Examples.{not_one, the_end, out_of_turn, learner, fifth, log};
-ghost use Rattle.cert_types.specs.FirstLine.{first_line, does_follow, ends_there, has_literal, lesser};
+ghost use Rattle.cert_types.specs.FirstLine.{does_follow, ends_there, first_line, has_literal, lesser};
 ghost use Rattle.cert_types.specs.Refutes.{Refutes, is_proof_line};
 ghost use Rattle.cert_types.specs.Spent.{is_spent_line, AreSpentLines};
 ghost use Rattle.cert_types.specs.Valid.{answer_fault, IsValid, IsProof, IsSpentLog};
