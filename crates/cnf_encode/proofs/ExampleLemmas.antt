@@ -16,9 +16,18 @@ two_stations_model : Satisfies (listed (true ∷ false ∷ false ∷ true ∷ []
 unfolding packing_formula three_stations
 two_stations_model = refl
 
+short_model : Satisfies (listed (false ∷ true ∷ true ∷ [])) (packing_formula three_stations (1 ∷ 2 ∷ []))
+unfolding packing_formula three_stations
+short_model = refl
+
+-- the first station on the first channel and the second on the other, and the other way round, without the last variable
 pub two_stations_hold : (book : BookView) → book ≡ three_stations → Satisfies (listed (true ∷ false ∷ false ∷ true ∷ [])) (packing_formula book (1 ∷ 2 ∷ []))
 two_stations_hold book e =
     subst (λ b. Satisfies (listed (true ∷ false ∷ false ∷ true ∷ [])) (packing_formula b (1 ∷ 2 ∷ []))) (sym e) two_stations_model
+
+pub short_model_holds : (book : BookView) → book ≡ three_stations → Satisfies (listed (false ∷ true ∷ true ∷ [])) (packing_formula book (1 ∷ 2 ∷ []))
+short_model_holds book e =
+    subst (λ b. Satisfies (listed (false ∷ true ∷ true ∷ [])) (packing_formula b (1 ∷ 2 ∷ []))) (sym e) short_model
 
 -- the book that the tests build is the example's
 pub built-three : (domains : List Domain) (pairs : List Pair) →

@@ -115,6 +115,15 @@ fn map_of_a_model(rt: HostRuntime) -> Result<(), Fail> {
 }
 
 #[test]
+fn variable_past_the_model_is_false(rt: HostRuntime) -> Result<(), Fail> {
+    let alloc = rt.alloc();
+    let book = three_stations(alloc)?;
+    let map = decode(alloc, &book, &[1, 2], &[false, true, true])?;
+    assert_eq!(rt; map.entries(), [(1, 15), (2, 14)].as_slice());
+    Ok(())
+}
+
+#[test]
 fn pairs_to_another_station_are_left_out(rt: HostRuntime) -> Result<(), Fail> {
     let alloc = rt.alloc();
     let formula = encode(alloc, &three_stations(alloc)?, &[1, 3])?;
