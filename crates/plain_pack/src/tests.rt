@@ -86,7 +86,10 @@ fn a_station_without_a_channel_does_not_fit(rt: HostRuntime) -> Result<(), Fail>
 #[test]
 fn goes_back_from_a_channel_that_leads_nowhere(rt: HostRuntime) -> Result<(), Fail> {
     let alloc = rt.alloc();
-    let domains = [station_on(alloc, 1, &[14, 15])?, station_on(alloc, 2, &[14])?];
+    let domains = [
+        station_on(alloc, 1, &[14, 15])?,
+        station_on(alloc, 2, &[14])?,
+    ];
     let book = Book::build(alloc, 15, &[1, 2], &domains, &[apart(1, 2, 14)])?;
     let map = fits(alloc, &book, &[1, 2])?.ok_or("no map")?;
     assert_eq!(rt; map.get(1), Some(15));
