@@ -19,7 +19,7 @@ use Rattle.auction_cmd.specs.declared.record.Record.{Record}
 use Rattle.auction_cmd.specs.declared.refusal.Input.{Input}
 use Rattle.auction_cmd.specs.declared.refusal.Refusal.{Refusal}
 use Rattle.auction_cmd.specs.Counts.{counts_text}
-use Rattle.auction_cmd.specs.Ends.{AreHeld, CheckEnds, Delivers, Ends, Explains, IsRecordOf, IsRefutedRecordOf, IsStarved, IsStopped, RunEnds, StartFits, StartUnfit, result_of, summary_of}
+use Rattle.auction_cmd.specs.Ends.{AreHeld, CheckEnds, Delivers, Ends, Explains, IsRecordOf, IsRefutedRecordOf, IsStarved, IsHalted, RunEnds, StartFits, StartUnfit, result_of, summary_of}
 use Rattle.auction_cmd.specs.Ends.CheckEnds.{CheckStopped, CheckStarved, Counted, CountsCut}
 use Rattle.auction_cmd.specs.Ends.Delivers.{Both, NotStored, NotSaid, OutOfRoom}
 use Rattle.auction_cmd.specs.Ends.Ends.{Starved, Usage, Repeated, Ran, Checked}
@@ -62,7 +62,7 @@ apart-lists xs ys status apart h k =
 
 -- ---- a reading that stopped
 
-stopped-statuses : (names : InputNames) (before after : Outside) (status : ℕ) → IsStopped names before after status → IsTrue (is_in (3 ∷ 5 ∷ 8 ∷ []) status)
+stopped-statuses : (names : InputNames) (before after : Outside) (status : ℕ) → IsHalted names before after status → IsTrue (is_in (3 ∷ 5 ∷ 8 ∷ []) status)
 stopped-statuses names before after status h = by h.stop h.explains
   where
     by : (stop : Stop) → Explains names stop before.held after.held before.cuts after.cuts status → IsTrue (is_in (3 ∷ 5 ∷ 8 ∷ []) status)
@@ -70,7 +70,7 @@ stopped-statuses names before after status h = by h.stop h.explains
     by (Refused why) e = one-of (3 ∷ 5 ∷ 8 ∷ []) status 5 e.0 refl
     by NoMemory e = one-of (3 ∷ 5 ∷ 8 ∷ []) status 8 e.0 refl
 
-stopped-unread : (names : InputNames) (before after : Outside) (status : ℕ) → IsStopped names before after status → status ≡ 3 → HasRisen before.faults after.faults
+stopped-unread : (names : InputNames) (before after : Outside) (status : ℕ) → IsHalted names before after status → status ≡ 3 → HasRisen before.faults after.faults
 stopped-unread names before after status h three = by h.stop h.counted.rises h.explains
   where
     by : (stop : Stop) → RisesAt {A = Inputs} before.faults after.faults (Err stop) → Explains names stop before.held after.held before.cuts after.cuts status → HasRisen before.faults after.faults
@@ -78,7 +78,7 @@ stopped-unread names before after status h three = by h.stop h.counted.rises h.e
     by (Refused why) rises e = let five = e.0 in absurd (omega arith)
     by NoMemory rises e = let eight = e.0 in absurd (omega arith)
 
-stopped-memory : (names : InputNames) (before after : Outside) (status : ℕ) → IsStopped names before after status → status ≡ 8 → IsSaid before after memory_line
+stopped-memory : (names : InputNames) (before after : Outside) (status : ℕ) → IsHalted names before after status → status ≡ 8 → IsSaid before after memory_line
 stopped-memory names before after status h eight = by h.stop h.explains
   where
     by : (stop : Stop) → Explains names stop before.held after.held before.cuts after.cuts status → IsSaid before after memory_line
@@ -88,7 +88,7 @@ stopped-memory names before after status h eight = by h.stop h.explains
 
 -- a reading of the inputs: it stopped; memory ran out; or it went on
 data Reading (names : InputNames) (before after : Outside) (status : ℕ) : Type 0 where
-  Halted : IsStopped names before after status → Reading names before after status
+  Halted : IsHalted names before after status → Reading names before after status
   Short : status ≡ 8 → Reading names before after status
   Went : (inputs : Inputs) → AreHeld names before inputs → IsTrue (is_in (0 ∷ 4 ∷ 6 ∷ 8 ∷ []) status) → Reading names before after status
 
@@ -118,16 +118,16 @@ check-reading names before after status found (CountsCut inputs held is none ris
 -- ---- the command that a plan is
 
 ran : (plan : Plan) (names : RunNames) (before after : Outside) (status : ℕ) (found : Option Record) → Ends plan before after status found → plan ≡ runs names → RunEnds names before after status found
-ran plan names before after status found (Starved s) is = RunStarved s
-ran plan names before after status found (Usage text is_none two none said files) is = cc
-ran plan names before after status found (Repeated name is_name five none said files) is = cc
+ran plan names before after status found (Starved s still) is = RunStarved s
+ran plan names before after status found (Usage text is_none two none said files still) is = cc
+ran plan names before after status found (Repeated name is_name five none said files still) is = cc
 ran plan names before after status found (Ran own is_own end) is = subst (λ z. RunEnds z before after status found) (same-runs own names (sym is_own ∙ is)) end
 ran plan names before after status found (Checked own is_own end) is = cc
 
 checked : (plan : Plan) (names : InputNames) (before after : Outside) (status : ℕ) (found : Option Record) → Ends plan before after status found → plan ≡ checks names → CheckEnds names before after status found
-checked plan names before after status found (Starved s) is = CheckStarved s
-checked plan names before after status found (Usage text is_none two none said files) is = cc
-checked plan names before after status found (Repeated name is_name five none said files) is = cc
+checked plan names before after status found (Starved s still) is = CheckStarved s
+checked plan names before after status found (Usage text is_none two none said files still) is = cc
+checked plan names before after status found (Repeated name is_name five none said files still) is = cc
 checked plan names before after status found (Ran own is_own end) is = cc
 checked plan names before after status found (Checked own is_own end) is = subst (λ z. CheckEnds z before after status found) (same-checks own names (sym is_own ∙ is)) end
 
@@ -208,7 +208,7 @@ missing-one names before after status files input (Short eight) told steady is =
 missing-one names before after status files input (Went inputs are on) told steady is = absurd (not-both inputs (CannotRead input) (sym (are files told) ∙ is))
 
 -- where the files hold inputs, a reading that stopped did so for want of memory or by a fault
-halted-held : (names : InputNames) (before after : Outside) (status n : ℕ) (files : List StoredFile) (inputs : Inputs) → IsStopped names before after status → before.files ≡ Some files → inputs_of files names ≡ Ok inputs → IsOr n before status
+halted-held : (names : InputNames) (before after : Outside) (status n : ℕ) (files : List StoredFile) (inputs : Inputs) → IsHalted names before after status → before.files ≡ Some files → inputs_of files names ≡ Ok inputs → IsOr n before status
 halted-held names before after status n files inputs h told is = by h.stop (h.told files told) h.explains
   where
     by : (stop : Stop) → Agrees {A = Inputs} {B = Inputs} (λ i. i) before.steady (inputs_of files names) (Err stop) → Explains names stop before.held after.held before.cuts after.cuts status → IsOr n before status
@@ -415,6 +415,13 @@ module _ (names : InputNames) (before after : Outside) (status : ℕ) (found : O
   check-surely files (Counted inputs are zero none writes same) told room = λ four. omega arith
   check-surely files (CountsCut inputs are four none rises less said same) told room = let enough = room inputs (are files told) in absurd (omega arith)
 
+  check-cut : (files : List StoredFile) → CheckEnds names before after status found → before.files ≡ Some files → status ≡ 4 →
+      (inputs : Inputs) × (inputs_of files names ≡ Ok inputs) × HasRisen before.cuts after.cuts × IsSaid before after (counts_text inputs)
+  check-cut files (CheckStopped s none) told four = absurd (off (3 ∷ 5 ∷ 8 ∷ []) status 4 (stopped-statuses names before after status s) four refl)
+  check-cut files (CheckStarved s) told four = let eight = s.status_is in absurd (omega arith)
+  check-cut files (Counted inputs are zero none writes same) told four = absurd (omega arith)
+  check-cut files (CountsCut inputs are is none rises less said same) told four = (inputs, are files told, rises, said)
+
   check-complete : (files : List StoredFile) (inputs : Inputs) → CheckEnds names before after status found → before.files ≡ Some files → inputs_of files names ≡ Ok inputs → IsOr 0 before status ⊎ (status ≡ 4)
   check-complete files inputs (CheckStopped s none) told is = inl (halted-held names before after status 0 files inputs s told is)
   check-complete files inputs (CheckStarved s) told is = inl (inr (inl s.status_is))
@@ -443,84 +450,92 @@ module _ (names : InputNames) (before after : Outside) (status : ℕ) (found : O
 
 module _ (plan : Plan) (before after : Outside) (status : ℕ) (found : Option Record) where
   all-statuses : Ends plan before after status found → IsTrue (is_in (0 ∷ 2 ∷ 3 ∷ 4 ∷ 5 ∷ 6 ∷ 8 ∷ []) status)
-  all-statuses (Starved s) = one-of (0 ∷ 2 ∷ 3 ∷ 4 ∷ 5 ∷ 6 ∷ 8 ∷ []) status 8 s.status_is refl
-  all-statuses (Usage text is two none said files) = one-of (0 ∷ 2 ∷ 3 ∷ 4 ∷ 5 ∷ 6 ∷ 8 ∷ []) status 2 two refl
-  all-statuses (Repeated name is five none said files) = one-of (0 ∷ 2 ∷ 3 ∷ 4 ∷ 5 ∷ 6 ∷ 8 ∷ []) status 5 five refl
+  all-statuses (Starved s still) = one-of (0 ∷ 2 ∷ 3 ∷ 4 ∷ 5 ∷ 6 ∷ 8 ∷ []) status 8 s.status_is refl
+  all-statuses (Usage text is two none said files still) = one-of (0 ∷ 2 ∷ 3 ∷ 4 ∷ 5 ∷ 6 ∷ 8 ∷ []) status 2 two refl
+  all-statuses (Repeated name is five none said files still) = one-of (0 ∷ 2 ∷ 3 ∷ 4 ∷ 5 ∷ 6 ∷ 8 ∷ []) status 5 five refl
   all-statuses (Ran names is end) = within (0 ∷ 3 ∷ 4 ∷ 5 ∷ 6 ∷ 8 ∷ []) (0 ∷ 2 ∷ 3 ∷ 4 ∷ 5 ∷ 6 ∷ 8 ∷ []) status refl (run-statuses names before after status found end)
   all-statuses (Checked names is end) = within (0 ∷ 3 ∷ 4 ∷ 5 ∷ 8 ∷ []) (0 ∷ 2 ∷ 3 ∷ 4 ∷ 5 ∷ 6 ∷ 8 ∷ []) status refl (check-statuses names before after status found end)
 
   -- words that are no command
   no-plan : Ends plan before after status found → plan ≡ no_command → (status ≡ 2) ⊎ (status ≡ 8)
-  no-plan (Starved s) none = inr s.status_is
-  no-plan (Usage text is two absent said files) none = inl two
-  no-plan (Repeated name is five absent said files) none = cc (sym is ∙ none)
+  no-plan (Starved s still) none = inr s.status_is
+  no-plan (Usage text is two absent said files still) none = inl two
+  no-plan (Repeated name is five absent said files still) none = cc (sym is ∙ none)
   no-plan (Ran names is end) none = cc (sym is ∙ none)
   no-plan (Checked names is end) none = cc (sym is ∙ none)
 
   only-no_plan : Ends plan before after status found → status ≡ 2 → plan ≡ no_command
-  only-no_plan (Starved s) two = let eight = s.status_is in absurd (omega arith)
-  only-no_plan (Usage text is is_two none said files) two = is
-  only-no_plan (Repeated name is five none said files) two = absurd (omega arith)
+  only-no_plan (Starved s still) two = let eight = s.status_is in absurd (omega arith)
+  only-no_plan (Usage text is is_two none said files still) two = is
+  only-no_plan (Repeated name is five none said files still) two = absurd (omega arith)
   only-no_plan (Ran names is end) two = absurd (off (0 ∷ 3 ∷ 4 ∷ 5 ∷ 6 ∷ 8 ∷ []) status 2 (run-statuses names before after status found end) two refl)
   only-no_plan (Checked names is end) two = absurd (off (0 ∷ 3 ∷ 4 ∷ 5 ∷ 8 ∷ []) status 2 (check-statuses names before after status found end) two refl)
 
   named-twice : (name : List ℕ) → Ends plan before after status found → plan ≡ repeats name → ((status ≡ 5) × IsSaid before after (twice_line name)) ⊎ (status ≡ 8)
-  named-twice name (Starved s) twice = inr s.status_is
-  named-twice name (Usage text is two none said files) twice = cc (sym is ∙ twice)
-  named-twice name (Repeated own is five none said files) twice =
+  named-twice name (Starved s still) twice = inr s.status_is
+  named-twice name (Usage text is two none said files still) twice = cc (sym is ∙ twice)
+  named-twice name (Repeated own is five none said files still) twice =
       let same : own ≡ name = same-name own name (sym is ∙ twice) in
       inl (five, subst (λ z. IsSaid before after (twice_line z)) same said)
   named-twice name (Ran names is end) twice = cc (sym is ∙ twice)
   named-twice name (Checked names is end) twice = cc (sym is ∙ twice)
 
   all-unrecorded : Ends plan before after status found → IsTrue (is_in (2 ∷ 3 ∷ 5 ∷ []) status) → found ≡ None
-  all-unrecorded (Starved s) h = s.found_is
-  all-unrecorded (Usage text is two none said files) h = none
-  all-unrecorded (Repeated name is five none said files) h = none
+  all-unrecorded (Starved s still) h = s.found_is
+  all-unrecorded (Usage text is two none said files still) h = none
+  all-unrecorded (Repeated name is five none said files still) h = none
   all-unrecorded (Ran names is end) h = run-unrecorded names before after status found end h
   all-unrecorded (Checked names is end) h = check-none names before after status found end
 
   all-backed : Ends plan before after status found → MatchOption found ⊤ IsSomeRecord
-  all-backed (Starved s) = absent found s.found_is
-  all-backed (Usage text is two none said files) = absent found none
-  all-backed (Repeated name is five none said files) = absent found none
+  all-backed (Starved s still) = absent found s.found_is
+  all-backed (Usage text is two none said files still) = absent found none
+  all-backed (Repeated name is five none said files still) = absent found none
   all-backed (Ran names is end) = run-backed names before after status found end
   all-backed (Checked names is end) = absent found (check-none names before after status found end)
 
   all-unread : Ends plan before after status found → status ≡ 3 → HasRisen before.faults after.faults
-  all-unread (Starved s) three = let eight = s.status_is in absurd (omega arith)
-  all-unread (Usage text is two none said files) three = absurd (omega arith)
-  all-unread (Repeated name is five none said files) three = absurd (omega arith)
+  all-unread (Starved s still) three = let eight = s.status_is in absurd (omega arith)
+  all-unread (Usage text is two none said files still) three = absurd (omega arith)
+  all-unread (Repeated name is five none said files still) three = absurd (omega arith)
   all-unread (Ran names is end) three = run-unread names before after status found end three
   all-unread (Checked names is end) three = check-unread names before after status found end three
 
   all-unwritten : Ends plan before after status found → status ≡ 4 → HasRisen before.faults after.faults ⊎ HasRisen before.cuts after.cuts
-  all-unwritten (Starved s) four = let eight = s.status_is in absurd (omega arith)
-  all-unwritten (Usage text is two none said files) four = absurd (omega arith)
-  all-unwritten (Repeated name is five none said files) four = absurd (omega arith)
+  all-unwritten (Starved s still) four = let eight = s.status_is in absurd (omega arith)
+  all-unwritten (Usage text is two none said files still) four = absurd (omega arith)
+  all-unwritten (Repeated name is five none said files still) four = absurd (omega arith)
   all-unwritten (Ran names is end) four = run-unwritten names before after status found end four
   all-unwritten (Checked names is end) four = check-unwritten names before after status found end four
 
   all-untouched : Ends plan before after status found → found ≡ None → after.files ≡ before.files
-  all-untouched (Starved s) none = s.files
-  all-untouched (Usage text is two absent said files) none = files
-  all-untouched (Repeated name is five absent said files) none = files
+  all-untouched (Starved s still) none = s.files
+  all-untouched (Usage text is two absent said files still) none = files
+  all-untouched (Repeated name is five absent said files still) none = files
   all-untouched (Ran names is end) none = run-untouched names before after status found end none
   all-untouched (Checked names is end) none = check-files names before after status found end
 
   all-six : Ends plan before after status found → status ≡ 6 → after.files ≡ before.files
-  all-six (Starved s) six = s.files
-  all-six (Usage text is two absent said files) six = files
-  all-six (Repeated name is five absent said files) six = files
+  all-six (Starved s still) six = s.files
+  all-six (Usage text is two absent said files still) six = files
+  all-six (Repeated name is five absent said files still) six = files
   all-six (Ran names is end) six = run-six names before after status found end six
   all-six (Checked names is end) six = check-files names before after status found end
 
   all-memory : Ends plan before after status found → status ≡ 8 → IsSaid before after memory_line
-  all-memory (Starved s) eight = s.line
-  all-memory (Usage text is two none said files) eight = absurd (omega arith)
-  all-memory (Repeated name is five none said files) eight = absurd (omega arith)
+  all-memory (Starved s still) eight = s.line
+  all-memory (Usage text is two none said files still) eight = absurd (omega arith)
+  all-memory (Repeated name is five none said files still) eight = absurd (omega arith)
   all-memory (Ran names is end) eight = run-memory names before after status found end eight
   all-memory (Checked names is end) eight = check-memory names before after status found end eight
+
+  -- where no command is carried out
+  no-folder : Ends plan before after status found → inputs_read plan ≡ None → after.faults ≡ before.faults
+  no-folder (Starved s still) none = still
+  no-folder (Usage text is two absent said files still) none = still
+  no-folder (Repeated name is five absent said files still) none = still
+  no-folder (Ran names is end) none = cc (sym (ap inputs_read is) ∙ none)
+  no-folder (Checked names is end) none = cc (sym (ap inputs_read is) ∙ none)
 
 -- what may be relied on
 pub promises-of : (plan : Plan) (before after : Outside) (status : ℕ) (found : Option Record) → Ends plan before after status found → Promises plan before after status found
@@ -537,6 +552,7 @@ promises-of plan before after status found end = record {
   no_record = λ names is. check-none names before after status found (checked plan names before after status found end is);
   refused = λ files names told is five. refused-cause names before after status files (read-by plan names before after status found end is) told five;
   refuses = λ files names why told is held. stops-at names before after status files why (read-by plan names before after status found end is) told held;
+  asked_nothing = no-folder plan before after status found end;
   unread = all-unread plan before after status found end;
   surely_read = λ files names told is steady there. read-there names before after status files (read-by plan names before after status found end is) told steady there;
   missing = λ files names input told is steady absent. missing-one names before after status files input (read-by plan names before after status found end is) told steady absent;
@@ -545,6 +561,7 @@ promises-of plan before after status found end = record {
   run_only = λ names is six. off (0 ∷ 3 ∷ 4 ∷ 5 ∷ 8 ∷ []) status 6 (check-statuses names before after status found (checked plan names before after status found end is)) six refl;
   unwritten = all-unwritten plan before after status found end;
   stored = λ files names told is four. run-stored names before after status found files (ran plan names before after status found end is) told four;
+  cut = λ files names told is four. check-cut names before after status found files (checked plan names before after status found end is) told four;
   surely_written = λ files names told is steady room. run-surely names before after status found files (ran plan names before after status found end is) told steady room;
   surely_counted = λ files names told is room. check-surely names before after status found files (checked plan names before after status found end is) told room;
   others = λ files names told is. run-others names before after status found files (ran plan names before after status found end is) told;

@@ -16,9 +16,6 @@ first_part n t u = elim (cases_lt n (length t)) [
   | inr past ↦ (length t, take-append-le (length t) t u (omega arith) ∙ (take_all (length t) t (omega arith) ∙ sym (take_all n t past)))
 ]
 
-pub rises-later : (a b c : ℕ) → HasRisen a b → b ≤ c → HasRisen a c
-rises-later a b c h k = omega arith
-
 pub rises-before : (a b c : ℕ) → a ≤ b → HasRisen b c → HasRisen a c
 rises-before a b c h k = omega arith
 

@@ -1,5 +1,5 @@
 -- How the program ends: at which status, with which record, and what it leaves outside.
-use Rattle.std.specs.Prelude.{◌≡◌, ◌≢◌, ◌<◌, ℕ, true, false, IsFalse, IsTrue, List, [], length, Option, Some, None, Result, Ok, Err}
+use Rattle.std.specs.Prelude.{◌≡◌, ◌≢◌, ◌<◌, ℕ, true, IsFalse, IsTrue, List, [], length, Option, Some, None, Result, Ok, Err}
 use Rattle.pack_defs.specs.ClockRule.{ClockState, clock_rule, on_air_set}
 use Rattle.pack_defs.specs.Packing.{IsPacking, fits}
 use Rattle.pack_defs.specs.Prices.{start_set}
@@ -73,7 +73,7 @@ Explains names NoMemory held held' cuts cuts' status = (status ≡ 8) × Says he
 
 -- The reading of the inputs stopped: of a told folder, at what the files hold, but for want of memory, and for a folder
 -- that isn't steady. The status and a line say so, and no file is touched.
-pub record IsStopped (names : InputNames) (before after : Outside) (status : ℕ) : Type 0 where
+pub record IsHalted (names : InputNames) (before after : Outside) (status : ℕ) : Type 0 where
   pub stop : Stop
   pub told : (files : List StoredFile) → before.files ≡ Some files →
       Agrees {A = Inputs} {B = Inputs} (λ i. i) before.steady (inputs_of files names) (Err stop)
@@ -105,7 +105,7 @@ pub data Delivers (name text summary : List ℕ) (before after : Outside) (statu
 -- How `run` ends: an input stopped it; memory ran out; the start set doesn't fit, and nothing is stored; or the auction
 -- was carried through and its result and summary delivered.
 pub data RunEnds (names : RunNames) (before after : Outside) (status : ℕ) (found : Option Record) : Type 0 where
-  RunStopped : IsStopped names.inputs before after status → found ≡ None → RunEnds names before after status found
+  RunStopped : IsHalted names.inputs before after status → found ≡ None → RunEnds names before after status found
   RunStarved : IsStarved before after status found → RunEnds names before after status found
   Unfit : (inputs : Inputs) (rec : Record) → AreHeld names.inputs before inputs → IsRefutedRecordOf inputs rec →
       status ≡ 6 → found ≡ Some rec → IsSaid before after unfit_line → after.files ≡ before.files →
@@ -117,7 +117,7 @@ pub data RunEnds (names : RunNames) (before after : Outside) (status : ℕ) (fou
 -- How `check` ends: an input stopped it; memory ran out; or the counts were written, whole or no more than some of them.
 -- It has no record and touches no file.
 pub data CheckEnds (names : InputNames) (before after : Outside) (status : ℕ) (found : Option Record) : Type 0 where
-  CheckStopped : IsStopped names before after status → found ≡ None → CheckEnds names before after status found
+  CheckStopped : IsHalted names before after status → found ≡ None → CheckEnds names before after status found
   CheckStarved : IsStarved before after status found → CheckEnds names before after status found
   Counted : (inputs : Inputs) → AreHeld names before inputs → status ≡ 0 → found ≡ None →
       Writes before.held after.held (counts_text inputs) (Ok tt) → after.files ≡ before.files →
@@ -126,13 +126,15 @@ pub data CheckEnds (names : InputNames) (before after : Outside) (status : ℕ) 
       HasRisen before.cuts after.cuts → before.sure < length (counts_text inputs) →
       IsSaid before after (counts_text inputs) → after.files ≡ before.files → CheckEnds names before after status found
 
--- How the program ends, by what the words ask for. Before their command is known, memory may run out.
+-- How the program ends, by what the words ask for. Before their command is known, memory may run out. Where no command is
+-- carried out the folder isn't asked for anything.
 pub data Ends (plan : Plan) (before after : Outside) (status : ℕ) (found : Option Record) : Type 0 where
-  Starved : IsStarved before after status found → Ends plan before after status found
+  Starved : IsStarved before after status found → after.faults ≡ before.faults → Ends plan before after status found
   Usage : (text : List ℕ) → plan ≡ no_command → status ≡ 2 → found ≡ None → IsSaid before after text →
-      after.files ≡ before.files → Ends plan before after status found
+      after.files ≡ before.files → after.faults ≡ before.faults → Ends plan before after status found
   Repeated : (name : List ℕ) → plan ≡ repeats name → status ≡ 5 → found ≡ None →
-      IsSaid before after (twice_line name) → after.files ≡ before.files → Ends plan before after status found
+      IsSaid before after (twice_line name) → after.files ≡ before.files → after.faults ≡ before.faults →
+      Ends plan before after status found
   Ran : (names : RunNames) → plan ≡ runs names → RunEnds names before after status found →
       Ends plan before after status found
   Checked : (names : InputNames) → plan ≡ checks names → CheckEnds names before after status found →

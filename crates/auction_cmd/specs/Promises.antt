@@ -71,9 +71,11 @@ pub record Promises (plan : Plan) (before after : Outside) (status : ℕ) (found
   -- Status 2 comes exactly where the words are no command, but for want of memory.
   pub usage : plan ≡ no_command → (status ≡ 2) ⊎ (status ≡ 8)
   pub usage_only : status ≡ 2 → plan ≡ no_command
-  -- An output name that is given twice is refused before any file is read, and the line names it.
+  -- An output name that is given twice is refused, and the line names it. Before that, and where the words are no command,
+  -- no call of the folder failed that could have been made: its count of faults stands.
   pub twice : (name : List ℕ) → plan ≡ repeats name →
       ((status ≡ 5) × IsSaid before after (twice_line name)) ⊎ (status ≡ 8)
+  pub asked_nothing : inputs_read plan ≡ None → after.faults ≡ before.faults
   -- At status 0 `run` has carried out the auction of the inputs that the files hold, and `check` has counted them.
   pub done : (files : List StoredFile) (names : RunNames) →
       before.files ≡ Some files → plan ≡ runs names → status ≡ 0 → IsDone files names before after found
@@ -114,11 +116,15 @@ pub record Promises (plan : Plan) (before after : Outside) (status : ℕ) (found
       IsOr 6 before status
   pub run_only : (names : InputNames) → plan ≡ checks names → status ≢ 6
   -- Status 4 comes only where a count of faults rose: for `run`, the store failed, or RESULT holds its text and no more than
-  -- some of the summary was written. It never comes over a steady folder and a sink that surely takes the summary, or the
+  -- some of the summary was written; for `check`, no more than some of the counts was. It never comes over a steady folder and a sink that surely takes the summary, or the
   -- counts.
   pub unwritten : status ≡ 4 → HasRisen before.faults after.faults ⊎ HasRisen before.cuts after.cuts
   pub stored : (files : List StoredFile) (names : RunNames) →
       before.files ≡ Some files → plan ≡ runs names → status ≡ 4 → IsUnwritten files names before after
+  pub cut : (files : List StoredFile) (names : InputNames) →
+      before.files ≡ Some files → plan ≡ checks names → status ≡ 4 →
+      (inputs : Inputs) × (inputs_of files names ≡ Ok inputs)
+      × HasRisen before.cuts after.cuts × IsSaid before after (counts_text inputs)
   pub surely_written : (files : List StoredFile) (names : RunNames) →
       before.files ≡ Some files → plan ≡ runs names → before.steady ≡ true →
       ((inputs : Inputs) → inputs_of files names.inputs ≡ Ok inputs → length (summary_of inputs) ≤ before.sure) → status ≢ 4

@@ -91,7 +91,8 @@ named_command found =
     if bytes_eq found.0 (codes "run") then option_map run (run_names found.1)
     else (if bytes_eq found.0 (codes "check") then option_map check (input_names found.1) else None)
 
--- The command that the words are, the first of which is the program's name; none where `clap` has a fault for them.
+-- The command that the words are, the first of which is the program's name; none where `clap` has a fault for them, or an
+-- argument has no value.
 unfoldable pub command_of : List (List ℕ) → Option Command
 command_of words =
     if is_empty (fault_of program_app words) then option_and_then named_command (subcommand_of program_app words) else None

@@ -111,16 +111,16 @@ impl Clock {
         }
     }
 
-    /// The station at this place goes on air in this round.
-    pub fn air(&mut self, i: usize, round: u32)
+    // The station at this place goes on air in this round.
+    fn air(&mut self, i: usize, round: u32)
         requires { i < length self.old }
         ensures { self.new ≡ slice_set self.old i (Standing.OnAir round) }
     {
         self.standings[i] = Standing::OnAir { round };
     }
 
-    /// The station at this place is frozen in this round, at this price, in cents.
-    pub fn freeze(&mut self, i: usize, round: u32, price: u64)
+    // The station at this place is frozen in this round, at this price, in cents.
+    fn freeze(&mut self, i: usize, round: u32, price: u64)
         requires { i < length self.old }
         ensures { self.new ≡ slice_set self.old i (Standing.Frozen round price) }
     {

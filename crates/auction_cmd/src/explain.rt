@@ -27,10 +27,18 @@ pub fn explain<K: Sink>(out: &mut K, files: &InputArgs<'_>, stop: Stop) -> u8
             5
         }
         Stop::NoMemory => {
-            say(out, &["out of memory\n"]);
+            say_memory(out);
             8
         }
     }
+}
+
+/// Says that memory ran out. It takes none.
+pub fn say_memory<K: Sink>(out: &mut K)
+    ensures says { Says (K.held out.old) (K.held out.new) (K.faults out.old) (K.faults out.new) memory_line }
+    ensures counted { K.faults out.old ≤ K.faults out.new }
+{
+    say(out, &["out of memory\n"]);
 }
 
 /// The end where memory ran out and nothing was stored.
@@ -39,6 +47,6 @@ pub fn starve<K: Sink>(out: &mut K) -> Finish
     ensures none { result.result ≡ None }
     ensures line { Says (K.held out.old) (K.held out.new) (K.faults out.old) (K.faults out.new) memory_line }
 {
-    say(out, &["out of memory\n"]);
+    say_memory(out);
     Finish::without_record(8)
 }

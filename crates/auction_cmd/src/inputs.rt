@@ -22,8 +22,8 @@ use scenario_json::join::{JoinErr, join};
 use scenario_json::scenario::read_scenario;
 use std::alloc::Global;
 
-/// The greatest length of an input file, in bytes.
-pub const FILE_LIMIT: u64 = 268_435_456;
+// The greatest length of an input file, in bytes.
+const FILE_LIMIT: u64 = 268_435_456;
 
 /// Why the inputs were not read.
 #[derive(Clone, Copy, Debug, PartialEq, Eq)]

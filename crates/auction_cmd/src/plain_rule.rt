@@ -12,12 +12,11 @@ ghost use Rattle.auction_cmd.specs.PlainRule.{AnswersTest, IsCourse, map_after, 
 use crate::clock::{Clock, Standing};
 use crate::record::{Ending, Record, Shown, Step};
 use crate::start::start_test;
-use offer_sched::offers::{last_round, offer, schedule};
+use offer_sched::offers::{last_round, schedule};
 use pack_defs::book::Book;
 use pack_defs::channel_map::ChannelMap;
 use pack_defs::items::Items;
 use pack_defs::scenario::Scenario;
-use pack_defs::station::Station;
 use plain_pack::search::fits;
 use std::alloc::{AllocError as NoMemory, Global};
 

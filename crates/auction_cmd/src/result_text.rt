@@ -1,6 +1,6 @@
 //! The texts of the result and of the summary, from a finished record.
 
-ghost use Rattle.std.specs.Prelude.{◌≡◌, ◌<◌, ◌≤◌, ◌+◌, ◌++◌, [], IfOk, IsFalse, MatchOption, OnOk, count_by, length, map, slice_index};
+ghost use Rattle.std.specs.Prelude.{◌≡◌, ◌<◌, ◌++◌, [], IfOk, IsFalse, MatchOption, OnOk, count_by, length, map, slice_index};
 ghost use Rattle.std.specs.List.Sorted.{IsStrictlyIncreasing};
 ghost use Rattle.csv.specs.Writing.{default_writer, needs_quotes};
 ghost use Rattle.pack_defs.specs.Lists.{is_in};
@@ -148,9 +148,7 @@ pub fn result_csv(alloc: Global, rec: &Record, book: &Book) -> Result<Vec<u8>, N
 
 /// Adds a name and a number, on a line of their own.
 pub(crate) fn push_count(text: &mut Vec<u8>, name: &str, n: u64) -> Result<(), NoMemory>
-    ensures text { OnOk result (text.new.items ≡ text.old.items ++ count_line name.now n) }
-    ensures short { OnOk result
-        (length text.new.items ≤ length text.old.items + length name.now + 22) }
+    ensures { OnOk result (text.new.items ≡ text.old.items ++ count_line name.now n) }
 {
     let mut buffer = Buffer::new();
     text.extend_from_slice(name.as_bytes())?;
@@ -180,15 +178,14 @@ fn frozen_count(standings: &[Standing]) -> usize
 }
 
 /// The summary of a finished auction: how many stations it has, are on air, are frozen and are undecided, which none
-/// is, and what the frozen ones are paid together, in cents, each on a line of its own, at most 160 bytes in all. The
+/// is, and what the frozen ones are paid together, in cents, each on a line of its own. The
 /// book is the one by which the record is backed. The only error is want of memory.
 pub fn summary(alloc: Global, rec: &Record, book: &Book) -> Result<Vec<u8>, NoMemory>
     requires backed { IsBacked rec.now.scenario book.now rec.now }
     requires done { rec.now.ending ≡ Ending.Done }
     requires limits { IsWithinLimits rec.now.scenario }
-    ensures text { IfOk result
+    ensures { IfOk result
         (λ v. v.items ≡ summary_text rec.now.scenario (clock_rule rec.now.scenario book.now []) []) }
-    ensures short { IfOk result (λ v. length v.items ≤ 160) }
 {
     let clock = final_clock(alloc, rec, book)?;
     let standings = clock.standings();

@@ -6,7 +6,7 @@ ghost use Rattle.auction_cmd.specs.Ends.{Delivers, IsRecordOf, RunEnds, result_o
 ghost use Rattle.auction_cmd.specs.Outside.{outside};
 ghost use Rattle.auction_cmd.specs.Words.{names_seen};
 
-use crate::explain::{explain, starve};
+use crate::explain::{explain, say_memory, starve};
 use crate::finish::Finish;
 use crate::inputs::{Inputs, read_inputs};
 use crate::plain_rule::plain_run;
@@ -57,7 +57,7 @@ fn deliver<F: Folder, K: Sink>(
             return 4;
         }
         Err(StoreErr::NoMemory) => {
-            say(out, &["out of memory\n"]);
+            say_memory(out);
             return 8;
         }
     }

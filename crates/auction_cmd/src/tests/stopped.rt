@@ -54,6 +54,31 @@ fn a_file_is_missing(rt: HostRuntime) -> Result<(), Fail> {
     Ok(())
 }
 
+// The summary and the counts are one write each, so a second one is never made.
+#[test]
+fn what_is_printed_is_one_write(rt: HostRuntime) -> Result<(), Fail> {
+    let alloc = rt.alloc();
+    for (command, text) in [
+        (
+            COMMAND,
+            "stations 3\non-air 2\nfrozen 1\nundecided 0\ntotal 60\n",
+        ),
+        (CHECK, "stations 3\npairs 6\nself-pairs 0\nstrangers 0\n"),
+    ] {
+        let folder = folder_of(
+            alloc,
+            DOMAINS.as_bytes(),
+            ROWS.as_bytes(),
+            SCENARIO.as_bytes(),
+            &[],
+        )?;
+        let ended = run(alloc, command, folder, &[2])?;
+        assert_eq!(rt; ended.finish.status, 0, "{text}");
+        assert_eq!(rt; ended.sink.bytes(), text.as_bytes(), "{text}");
+    }
+    Ok(())
+}
+
 #[test]
 fn a_check_fails(rt: HostRuntime) -> Result<(), Fail> {
     let alloc = rt.alloc();

@@ -8,7 +8,7 @@ use Rattle.auction_cmd.proofs.auction.carry_out.Goals as goal
 pub returns-in-Some : goal.returns-in-Some
 returns-in-Some g c =
     Repeated c.in-Some.name.now (plan-repeats _ (names_seen c.in-Ok-Run.files) c.in-Some.name.now (rw c.in-Ok-Run.field-0-is at c.in-Ok-Run.ensures.order) c.in-Some.ensures)
-    c.without_record.ensures.status c.without_record.ensures.none c.say.ensures.says refl
+    c.without_record.ensures.status c.without_record.ensures.none c.say.ensures.says refl refl
 
 pub returns-in-None : goal.returns-in-None
 returns-in-None g c =
@@ -20,4 +20,4 @@ returns-in-Ok-Check g c =
 
 pub returns-in-Err-Refused : goal.returns-in-Err-Refused
 returns-in-Err-Refused g c =
-    Usage _ (plan-none _ ((rw c.in-Err-Refused.field-0-is at c.in-Err-Refused.ensures.refused) tt)) c.without_record-in-Err-Refused.ensures.status c.without_record-in-Err-Refused.ensures.none c.say-in-Err-Refused.ensures.says refl
+    Usage _ (plan-none _ ((rw c.in-Err-Refused.field-0-is at c.in-Err-Refused.ensures.refused) tt)) c.without_record-in-Err-Refused.ensures.status c.without_record-in-Err-Refused.ensures.none c.say-in-Err-Refused.ensures.says refl refl
