@@ -1,0 +1,74 @@
+ghost use Rattle.std.specs.Prelude.{◌≡◌, ℕ, List, [], ◌∷◌, ◌++◌, Some, None, true, map};
+ghost use Rattle.pack_defs.specs.Examples.{three_stations};
+ghost use Rattle.pack_defs.specs.Book.{BookView};
+ghost use Rattle.pack_defs.specs.Packing.{IsClean};
+ghost use Rattle.pack_defs.specs.declared.scenario.Scenario.{Scenario};
+ghost use Rattle.pack_defs.specs.ClockRule.{clock_rule, on_air_set};
+ghost use Rattle.cert_types.specs.Examples.{learner};
+ghost use Rattle.auction_core.specs.Core.{CoreState, PostingView, opening, take, turned_away, fault_of, has_ended, after_postings};
+ghost use Rattle.auction_core.specs.Backed.{IsBacked, record_of, undecided_of};
+ghost use Rattle.auction_core.specs.Rule.{IsAuction, KeepsTheRule};
+ghost use Rattle.auction_core.specs.Replay.{replay, history_of};
+ghost use Rattle.auction_core.specs.Examples.{auction_of_three, posting, fit, refuted, one_line, three_fits, four_fits, state_after};
+
+use crate::posting::Reply;
+use crate::record::{Ending, Record};
+use cert_types::answer::Place;
+
+/// At the fourth query an answer to the third is told so and changes nothing; after the fifth the auction has ended.
+pub fn an_old_answer()
+    ensures fourth { (state_after (learner 1000 ∷ []) three_fits).number ≡ 4 }
+    ensures wrong_query { let state = state_after (learner 1000 ∷ []) three_fits in (take (auction_of_three (learner 1000 ∷ [])) three_stations state (posting 0 3 (fit 3 15))).0 ≡ Reply.WrongQuery 4 }
+    ensures last { let state = state_after (learner 1000 ∷ []) four_fits in (take (auction_of_three (learner 1000 ∷ [])) three_stations state (posting 0 5 refuted)).0 ≡ Reply.Advanced None }
+    ensures ended { let state = state_after (learner 1000 ∷ []) (four_fits ++ posting 0 5 refuted ∷ []) in (take (auction_of_three (learner 1000 ∷ [])) three_stations state (posting 0 6 refuted)).0 ≡ Reply.Ended }
+    ensures number { (state_after (learner 1000 ∷ []) (four_fits ++ posting 0 5 refuted ∷ [])).number ≡ 6 }
+{}
+
+/// Of two workers' Spents at the fifth query the first is noted, its second is told so, and the other's settles the test.
+pub fn two_receipts()
+    ensures noted { let state = state_after (learner 1 ∷ learner 1 ∷ []) four_fits in (take (auction_of_three (learner 1 ∷ learner 1 ∷ [])) three_stations state (posting 0 5 one_line)).0 ≡ Reply.Noted }
+    ensures again { let state = state_after (learner 1 ∷ learner 1 ∷ []) (four_fits ++ posting 0 5 one_line ∷ []) in (take (auction_of_three (learner 1 ∷ learner 1 ∷ [])) three_stations state (posting 0 5 one_line)).0 ≡ Reply.AlreadySpent }
+    ensures settled { let state = state_after (learner 1 ∷ learner 1 ∷ []) (four_fits ++ posting 0 5 one_line ∷ []) in (take (auction_of_three (learner 1 ∷ learner 1 ∷ [])) three_stations state (posting 1 5 one_line)).0 ≡ Reply.Advanced None }
+    ensures stranger { let state = state_after (learner 1 ∷ learner 1 ∷ []) four_fits in (take (auction_of_three (learner 1 ∷ learner 1 ∷ [])) three_stations state (posting 2 5 (fit 3 15))).0 ≡ Reply.Stranger }
+{}
+
+/// The history of any postings replays to the state that they leave.
+pub fn a_history_replays()
+    ensures { (sc : Scenario) (book : BookView) (postings : List PostingView) → replay sc book (history_of sc book postings (opening sc book)) ≡ Some (after_postings sc book postings (opening sc book)) }
+{}
+
+/// A posting that is turned away, or whose answer is at fault, leaves the state.
+pub fn a_refused_posting_changes_nothing()
+    ensures turned { (sc : Scenario) (book : BookView) (state : CoreState) (p : PostingView) (reply : Reply) → turned_away sc state p.worker p.number ≡ Some reply → take sc book state p ≡ (reply, state) }
+    ensures rejected { (sc : Scenario) (book : BookView) (state : CoreState) (p : PostingView) (place : Place) → turned_away sc state p.worker p.number ≡ None → fault_of sc book state p ≡ Some place → take sc book state p ≡ (Reply.Rejected place, state) }
+{}
+
+/// Whatever is posted, in whatever order, the state is one that the clock rule comes to, with the tests that it shows
+/// undecided left open; its map is clean and of the stations on air, and what it shows is valid.
+pub fn postings_keep_the_rule()
+    ensures { (sc : Scenario) (book : BookView) (postings : List PostingView) → IsAuction sc book → KeepsTheRule sc book (after_postings sc book postings (opening sc book)) }
+{}
+
+/// The record of an auction that has ended, after any postings, is backed.
+pub fn an_ended_record_is_backed()
+    ensures { (sc : Scenario) (book : BookView) (postings : List PostingView) → IsAuction sc book → has_ended (after_postings sc book postings (opening sc book)) ≡ true → IsBacked sc book (record_of sc (after_postings sc book postings (opening sc book))) }
+{}
+
+/// The map of a backed record of an auction that was carried through is clean, and of exactly the stations on air once the
+/// clock rule has gone through every test, with those that its steps show undecided left open.
+pub fn a_done_record_has_a_clean_map()
+    ensures { (sc : Scenario) (book : BookView) (rec : Record) → IsAuction sc book → IsBacked sc book rec → rec.ending ≡ Ending.Done → IsClean book rec.map × (map (λ x. x.0) rec.map ≡ on_air_set sc (clock_rule sc book (undecided_of rec.steps))) }
+{}
+
+/// The records of the example: its total is 60 cents, and with two budgets of one line its last test is undecided.
+pub fn records_of_three_stations()
+    ensures decided { let state = state_after (learner 1000 ∷ []) (four_fits ++ posting 0 5 refuted ∷ []) in (record_of (auction_of_three (learner 1000 ∷ [])) state).total ≡ 60 }
+    ensures none_undecided { let state = state_after (learner 1000 ∷ []) (four_fits ++ posting 0 5 refuted ∷ []) in undecided_of state.steps ≡ [] }
+    ensures undecided { let state = state_after (learner 1 ∷ learner 1 ∷ []) (four_fits ++ posting 0 5 one_line ∷ posting 1 5 one_line ∷ []) in undecided_of state.steps ≡ record { round = 2; station = 3 } ∷ [] }
+    ensures map { let state = state_after (learner 1000 ∷ []) (four_fits ++ posting 0 5 refuted ∷ []) in state.map ≡ (1, 15) ∷ (2, 14) ∷ [] }
+{}
+
+/// The example is an auction, so that the laws above speak of it.
+pub fn three_stations_are_an_auction()
+    ensures { IsAuction (auction_of_three (learner 1000 ∷ [])) three_stations }
+{}

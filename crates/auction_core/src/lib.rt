@@ -1,0 +1,6 @@
+//! The auction's core: what each posting of a worker does, and what a finished record shows.
+#![tactic(auto)]
+
+pub mod laws;
+pub mod posting;
+pub mod record;
