@@ -9,8 +9,8 @@ use Rattle.auction_core.specs.declared.record.Record.{Record}
 use Rattle.auction_core.specs.declared.record.Shown.TheVariants.{Empty, Fits, NoChannel, Refuted, Undecided}
 use Rattle.auction_core.specs.Core.{CoreState, has_ended, shows_room}
 use Rattle.auction_core.specs.Backed.{undecided_of, ending_of, IsCarriedThrough, IsStopped, IsEnded, IsBacked, record_of}
-use Rattle.auction_core.specs.Rule.{IsAtStart, IsUnderWay, Stands, IsStartKept, KeepsTheRule}
-use Rattle.auction_core.proofs.Keeps.{match-true, match-false}
+use Rattle.auction_core.specs.Rule.{IsStartKept}
+use Rattle.auction_core.proofs.Kept.{IsAtStart, IsUnderWay, Stands, IsKept, match-true, match-false}
 
 -- an auction whose start fits ends Done; another doesn't
 done : (sc : Scenario) (book : BookView) (rec : Record) (shown : Shown) → (shows_room shown ≡ true → IsCarriedThrough sc book rec) → (shows_room shown ≡ false → IsStopped rec) → IsEnded sc book rec (ending_of shown)
@@ -54,7 +54,7 @@ none-left : (xs : List ClockTest) → is_empty xs ≡ true → xs ≡ []
 none-left [] e = refl
 none-left (x ∷ xs) e = cc
 
-pub ended-backed : (sc : Scenario) (book : BookView) (state : CoreState) → KeepsTheRule sc book state → has_ended state ≡ true → IsBacked sc book (record_of sc state)
+pub ended-backed : (sc : Scenario) (book : BookView) (state : CoreState) → IsKept sc book state → has_ended state ≡ true → IsBacked sc book (record_of sc state)
 ended-backed sc book state h e =
     let go : (o : Option Shown) → state.start ≡ o → IsStartKept sc book o → Stands sc book state o → (if is_none o then false else is_empty state.left) ≡ true → IsBacked sc book (record_from sc state (unwrap_or o Empty)) = λ o. elim o as (λ o. state.start ≡ o → IsStartKept sc book o → Stands sc book state o → (if is_none o then false else is_empty state.left) ≡ true → IsBacked sc book (record_from sc state (unwrap_or o Empty))) [
       | None ↦ λ s k w f. cc

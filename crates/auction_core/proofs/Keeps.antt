@@ -24,7 +24,8 @@ use Rattle.auction_core.specs.declared.record.Shown.TheVariants.{Empty, Fits, No
 use Rattle.auction_core.specs.declared.posting.Reply.TheVariants.{Ended, WrongQuery, Stranger}
 use Rattle.auction_core.specs.Core.{CoreState, NotedSpent, PostingView, shows_room, delta_of, settled, settled_unasked, go_on, started, before_start, start_unasked, opening, has_ended, test_task, start_task, first_task, task_of, past_first, answered, fault_of, turned_away, take, after_postings}
 use Rattle.auction_core.specs.Backed.{test_of, IsValidOf, IsSettledBy, IsStartShown, IsStepShown, after_steps, AreShown, after_start}
-use Rattle.auction_core.specs.Rule.{Answers, AreValid, AreNoted, IsQuery, IsAtStart, IsUnderWay, Stands, IsStartKept, KeepsTheRule, IsAuction}
+use Rattle.auction_core.specs.Rule.{Answers, AreValid, AreNoted, IsQuery, IsStartKept, IsAuction}
+use Rattle.auction_core.proofs.Kept.{IsAtStart, IsUnderWay, Stands, IsKept, in-case, match-true, match-false}
 use Rattle.auction_core.proofs.Cases.{take-cases, with_noted, all_spent, noted_as}
 use Rattle.auction_core.proofs.Answers.{filter-in, in-filter, filter-ascending}
 use Rattle.auction_core.proofs.Overlay.{overlaid-ascending}
@@ -57,16 +58,12 @@ none-noted sc book state a e = record {
   valid = subst (λ ns. AreValid sc book state ns) (sym e) tt;
 }
 
-from-parts : (sc : Scenario) (book : BookView) (state : CoreState) (o : Option Shown) → state.start ≡ o → IsStartKept sc book o → Stands sc book state o → AreNoted sc book state → KeepsTheRule sc book state
+from-parts : (sc : Scenario) (book : BookView) (state : CoreState) (o : Option Shown) → state.start ≡ o → IsStartKept sc book o → Stands sc book state o → AreNoted sc book state → IsKept sc book state
 from-parts sc book state o e k s n = record {
   start = subst (IsStartKept sc book) (sym e) k;
   stands = subst (Stands sc book state) (sym e) s;
   noted = n;
 }
-
-in-case : (P Q : Type 0) (b : Bool) → (b ≡ true → P) → (b ≡ false → Q) → MatchBool b P Q
-in-case P Q true f g = f refl
-in-case P Q false f g = g refl
 
 -- ---- the start
 
@@ -138,11 +135,11 @@ first-walk sc book shown state a h k r =
     }
 
 -- a start that is shown as it has to be keeps the rule
-started-keeps : (sc : Scenario) (book : BookView) (shown : Shown) (state : CoreState) → IsAuction sc book → IsBare sc state → state.noted ≡ [] → IsStartShown sc book shown → KeepsTheRule sc book (started sc book state shown)
+started-keeps : (sc : Scenario) (book : BookView) (shown : Shown) (state : CoreState) → IsAuction sc book → IsBare sc state → state.noted ≡ [] → IsStartShown sc book shown → IsKept sc book (started sc book state shown)
 started-keeps sc book shown state a h n k =
     let on : CoreState = record state { start = Some shown; map = overlaid state.map (delta_of shown) } in
     let off : CoreState = record state { start = Some shown } in
-    let go : (b : Bool) → shows_room shown ≡ b → KeepsTheRule sc book (if b then go_on sc book (clock_tests sc) on else off) = λ b. elim b as (λ b. shows_room shown ≡ b → KeepsTheRule sc book (if b then go_on sc book (clock_tests sc) on else off)) [
+    let go : (b : Bool) → shows_room shown ≡ b → IsKept sc book (if b then go_on sc book (clock_tests sc) on else off) = λ b. elim b as (λ b. shows_room shown ≡ b → IsKept sc book (if b then go_on sc book (clock_tests sc) on else off)) [
       | true ↦ λ r.
           let s = go-on-start sc book (clock_tests sc) on in
           from-parts sc book (go_on sc book (clock_tests sc) on) (Some shown) s.0 k
@@ -163,10 +160,10 @@ at-start : (sc : Scenario) (book : BookView) → start_unasked sc book ≡ None 
 at-start sc book e = record { clock = refl; left = refl; map = refl; steps = refl; query = λ _. e }
 
 -- the opening state keeps the rule
-pub opening-keeps : (sc : Scenario) (book : BookView) → IsAuction sc book → KeepsTheRule sc book (opening sc book)
+pub opening-keeps : (sc : Scenario) (book : BookView) → IsAuction sc book → IsKept sc book (opening sc book)
 unfolding opening
 opening-keeps sc book a =
-    let go : (o : Option Shown) → start_unasked sc book ≡ o → KeepsTheRule sc book (option_map_or (started sc book (before_start sc)) o (before_start sc)) = λ o. elim o as (λ o. start_unasked sc book ≡ o → KeepsTheRule sc book (option_map_or (started sc book (before_start sc)) o (before_start sc))) [
+    let go : (o : Option Shown) → start_unasked sc book ≡ o → IsKept sc book (option_map_or (started sc book (before_start sc)) o (before_start sc)) = λ o. elim o as (λ o. start_unasked sc book ≡ o → IsKept sc book (option_map_or (started sc book (before_start sc)) o (before_start sc))) [
       | None ↦ λ e. from-parts sc book (before_start sc) None refl tt (at-start sc book e) (none-noted sc book (before_start sc) a refl)
       | Some shown ↦ λ e. started-keeps sc book shown (before_start sc) a (record { clock = refl; left = refl; map = refl; steps = refl }) refl
           (subst (λ o. MatchOption o (IsSettledBy sc book (start_task sc (before_start sc)) shown) (λ unasked. shown ≡ unasked)) (sym e) refl)
@@ -198,7 +195,7 @@ abbrev pub Settles : Scenario → BookView → CoreState → Shown → Type 0
 Settles sc book state shown = MatchOption (task_of sc book state) ⊥ (λ task. IsSettledBy sc book task shown)
 
 -- a settled start
-settled-start : (sc : Scenario) (book : BookView) (state : CoreState) (shown : Shown) → IsAuction sc book → IsAtStart sc book state → state.start ≡ None → Settles sc book state shown → KeepsTheRule sc book (started sc book (record state { noted = []; number = state.number + 1 }) shown)
+settled-start : (sc : Scenario) (book : BookView) (state : CoreState) (shown : Shown) → IsAuction sc book → IsAtStart sc book state → state.start ≡ None → Settles sc book state shown → IsKept sc book (started sc book (record state { noted = []; number = state.number + 1 }) shown)
 settled-start sc book state shown a h e s =
     let task : task_of sc book state ≡ Some (start_task sc state) = task-is sc book state None state.left e refl in
     let k : IsSettledBy sc book (start_task sc state) shown = subst (λ o. MatchOption o ⊥ (λ task. IsSettledBy sc book task shown)) task s in
@@ -211,7 +208,7 @@ for-false P Q true e h = cc
 for-false P Q false e h = h
 
 -- a settled test
-settled-test : (sc : Scenario) (book : BookView) (start : Shown) (state : CoreState) (t : ClockTest) (ts : List ClockTest) (shown : Shown) → IsAuction sc book → IsUnderWay sc book start state → shows_room start ≡ true → IsStartShown sc book start → state.start ≡ Some start → state.left ≡ t ∷ ts → Settles sc book state shown → KeepsTheRule sc book (go_on sc book ts (settled sc (record state { noted = []; number = state.number + 1 }) t shown))
+settled-test : (sc : Scenario) (book : BookView) (start : Shown) (state : CoreState) (t : ClockTest) (ts : List ClockTest) (shown : Shown) → IsAuction sc book → IsUnderWay sc book start state → shows_room start ≡ true → IsStartShown sc book start → state.start ≡ Some start → state.left ≡ t ∷ ts → Settles sc book state shown → IsKept sc book (go_on sc book ts (settled sc (record state { noted = []; number = state.number + 1 }) t shown))
 settled-test sc book start state t ts shown a u r k e f s =
     let next : CoreState = record state { noted = []; number = state.number + 1 } in
     let task : task_of sc book state ≡ Some (test_task sc book state t) = task-is sc book state (Some start) (t ∷ ts) e f in
@@ -229,21 +226,13 @@ settled-test sc book start state t ts shown a u r k e f s =
     (λ no. absurd (both_ways (shows_room start) no r)))
     (none-noted sc book (go_on sc book ts after) a g.1)
 
-pub match-true : (P Q : Type 0) (b : Bool) → b ≡ true → MatchBool b P Q → P
-match-true P Q true e h = h
-match-true P Q false e h = cc
-
-pub match-false : (P Q : Type 0) (b : Bool) → b ≡ false → MatchBool b P Q → Q
-match-false P Q true e h = cc
-match-false P Q false e h = h
-
 -- a valid verdict on the standing query keeps the rule
-pub answered-keeps : (sc : Scenario) (book : BookView) (state : CoreState) (shown : Shown) → IsAuction sc book → KeepsTheRule sc book state → has_ended state ≡ false → Settles sc book state shown → KeepsTheRule sc book (answered sc book state shown)
+pub answered-keeps : (sc : Scenario) (book : BookView) (state : CoreState) (shown : Shown) → IsAuction sc book → IsKept sc book state → has_ended state ≡ false → Settles sc book state shown → IsKept sc book (answered sc book state shown)
 answered-keeps sc book state shown a h on s =
     let next : CoreState = record state { noted = []; number = state.number + 1 } in
-    let go : (o : Option Shown) (l : List ClockTest) → state.start ≡ o → state.left ≡ l → KeepsTheRule sc book (if is_none o then started sc book next shown else past_first sc book next shown l) = λ o l. elim o as (λ o. state.start ≡ o → state.left ≡ l → KeepsTheRule sc book (if is_none o then started sc book next shown else past_first sc book next shown l)) [
+    let go : (o : Option Shown) (l : List ClockTest) → state.start ≡ o → state.left ≡ l → IsKept sc book (if is_none o then started sc book next shown else past_first sc book next shown l) = λ o l. elim o as (λ o. state.start ≡ o → state.left ≡ l → IsKept sc book (if is_none o then started sc book next shown else past_first sc book next shown l)) [
       | None ↦ λ e f. settled-start sc book state shown a (subst (Stands sc book state) e h.stands) e s
-      | Some start ↦ elim l as (λ l. state.start ≡ Some start → state.left ≡ l → KeepsTheRule sc book (past_first sc book next shown l)) [
+      | Some start ↦ elim l as (λ l. state.start ≡ Some start → state.left ≡ l → IsKept sc book (past_first sc book next shown l)) [
         | [] ↦ λ e f.
             let ended : has_ended state ≡ true = ap₂ (λ (o : Option Shown) (l : List ClockTest). if is_none o then false else is_empty l) e f in
             absurd (both_ways (has_ended state) on ended)
@@ -310,7 +299,7 @@ fit-settles sc book state w delta h =
     go (task_of sc book state) h
 
 -- the task doesn't depend on what is noted, so the rest of the state stands
-more-stands : (sc : Scenario) (book : BookView) (state : CoreState) (x : NotedSpent) → KeepsTheRule sc book state → AreNoted sc book (with_noted state x) → KeepsTheRule sc book (with_noted state x)
+more-stands : (sc : Scenario) (book : BookView) (state : CoreState) (x : NotedSpent) → IsKept sc book state → AreNoted sc book (with_noted state x) → IsKept sc book (with_noted state x)
 more-stands sc book state x h n =
     let go : (o : Option Shown) → state.start ≡ o → Stands sc book state o → Stands sc book (with_noted state x) o = λ o. elim o as (λ o. state.start ≡ o → Stands sc book state o → Stands sc book (with_noted state x) o) [
       | None ↦ λ e s. record { clock = s.clock; left = s.left; map = s.map; steps = s.steps; query = s.query }
@@ -329,9 +318,9 @@ more-stands sc book state x h n =
     query-same (t ∷ ts) q = q
 
 -- each posting keeps the rule
-pub take-keeps : (sc : Scenario) (book : BookView) (state : CoreState) (p : PostingView) → IsAuction sc book → KeepsTheRule sc book state → KeepsTheRule sc book (take sc book state p).1
+pub take-keeps : (sc : Scenario) (book : BookView) (state : CoreState) (p : PostingView) → IsAuction sc book → IsKept sc book state → IsKept sc book (take sc book state p).1
 take-keeps sc book state p a h =
-    take-cases sc book state p (λ out. KeepsTheRule sc book out.1) (record {
+    take-cases sc book state p (λ out. IsKept sc book out.1) (record {
       turned = λ reply t. h;
       rejected = λ place t f. h;
       fit = λ delta t f e. answered-keeps sc book state (Fits delta) a h (not-ended sc state p.worker p.number t).0 (fit-settles sc book state p.worker delta (answers sc book state p (Fit delta) t f e));
@@ -343,6 +332,6 @@ take-keeps sc book state p a h =
           (noted-more sc book state (noted_as p.worker receipt) h.noted ((not-ended sc state p.worker p.number t).1, answers sc book state p (Spent receipt) t f e) n k);
     })
 
-pub postings-keep : (sc : Scenario) (book : BookView) (postings : List PostingView) (state : CoreState) → IsAuction sc book → KeepsTheRule sc book state → KeepsTheRule sc book (after_postings sc book postings state)
+pub postings-keep : (sc : Scenario) (book : BookView) (postings : List PostingView) (state : CoreState) → IsAuction sc book → IsKept sc book state → IsKept sc book (after_postings sc book postings state)
 postings-keep sc book [] state a h = h
 postings-keep sc book (p ∷ ps) state a h = postings-keep sc book ps (take sc book state p).1 a (take-keeps sc book state p a h)

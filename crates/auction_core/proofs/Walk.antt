@@ -24,7 +24,8 @@ use Rattle.auction_core.specs.declared.record.Shown.TheVariants.{Empty, Fits, No
 use Rattle.auction_core.specs.declared.record.Step.{Step}
 use Rattle.auction_core.specs.Core.{CoreState, restricted, test_task, shows_room, delta_of, settled, settled_unasked, go_on}
 use Rattle.auction_core.specs.Backed.{test_of, is_undecided, undecided_of, IsValidOf, AreReceipts, IsSettledBy, IsStepShown, after_steps, after_start}
-use Rattle.auction_core.specs.Rule.{IsAuction, IsUnderWay}
+use Rattle.auction_core.specs.Rule.{IsAuction}
+use Rattle.auction_core.proofs.Kept.{IsUnderWay}
 use Rattle.auction_core.proofs.Answers.{answer-number}
 use Rattle.auction_core.proofs.Steps.{step_of, after_steps-push, AreShown-push, map-push, undecided-push-false, undecided-push-true, same_test, same-back, IsWalked, new-test, bidder, not-on-air}
 use Rattle.auction_core.proofs.Room.{IsReady, IsOf, room, new-map}

@@ -5,10 +5,10 @@ ghost use Rattle.pack_defs.specs.Packing.{IsClean};
 ghost use Rattle.pack_defs.specs.declared.scenario.Scenario.{Scenario};
 ghost use Rattle.pack_defs.specs.ClockRule.{clock_rule, on_air_set};
 ghost use Rattle.cert_types.specs.Examples.{learner};
-ghost use Rattle.auction_core.specs.Core.{CoreState, PostingView, opening, take, turned_away, fault_of, has_ended, after_postings};
+ghost use Rattle.auction_core.specs.Core.{CoreState, PostingView, opening, take, turned_away, fault_of, has_ended};
 ghost use Rattle.auction_core.specs.Backed.{IsBacked, record_of, undecided_of};
+ghost use Rattle.auction_core.specs.Postings.{HoldsAfter};
 ghost use Rattle.auction_core.specs.Rule.{IsAuction, KeepsTheRule};
-ghost use Rattle.auction_core.specs.Replay.{replay, history_of};
 ghost use Rattle.auction_core.specs.Examples.{auction_of_three, posting, fit, refuted, one_line, three_fits, four_fits, state_after};
 
 use crate::posting::Reply;
@@ -32,26 +32,28 @@ pub fn two_receipts()
     ensures stranger { let state = state_after (learner 1 ∷ learner 1 ∷ []) four_fits in (take (auction_of_three (learner 1 ∷ learner 1 ∷ [])) three_stations state (posting 2 5 (fit 3 15))).0 ≡ Reply.Stranger }
 {}
 
-/// The history of any postings replays to the state that they leave.
-pub fn a_history_replays()
-    ensures { (sc : Scenario) (book : BookView) (postings : List PostingView) → replay sc book (history_of sc book postings (opening sc book)) ≡ Some (after_postings sc book postings (opening sc book)) }
-{}
-
 /// A posting that is turned away, or whose answer is at fault, leaves the state.
 pub fn a_refused_posting_changes_nothing()
     ensures turned { (sc : Scenario) (book : BookView) (state : CoreState) (p : PostingView) (reply : Reply) → turned_away sc state p.worker p.number ≡ Some reply → take sc book state p ≡ (reply, state) }
     ensures rejected { (sc : Scenario) (book : BookView) (state : CoreState) (p : PostingView) (place : Place) → turned_away sc state p.worker p.number ≡ None → fault_of sc book state p ≡ Some place → take sc book state p ≡ (Reply.Rejected place, state) }
 {}
 
-/// Whatever is posted, in whatever order, the state is one that the clock rule comes to, with the tests that it shows
-/// undecided left open; its map is clean and of the stations on air, and what it shows is valid.
-pub fn postings_keep_the_rule()
-    ensures { (sc : Scenario) (book : BookView) (postings : List PostingView) → IsAuction sc book → KeepsTheRule sc book (after_postings sc book postings (opening sc book)) }
+/// Whatever is posted, by any workers, in any order, stale, doubled or lying: the history of the postings replays to the
+/// state, the state keeps the clock rule, and once the auction has ended its record is backed. The postings so far are a
+/// list too, so this holds at every point of an auction. Memory has no part in it.
+pub fn whatever_is_posted()
+    ensures { (sc : Scenario) (book : BookView) (postings : List PostingView) → IsAuction sc book → HoldsAfter sc book postings }
 {}
 
-/// The record of an auction that has ended, after any postings, is backed.
+/// The state that an auction opens with keeps the clock rule, and so does the state after any one posting.
+pub fn a_posting_keeps_the_rule()
+    ensures opening { (sc : Scenario) (book : BookView) → IsAuction sc book → KeepsTheRule sc book (opening sc book) }
+    ensures posting { (sc : Scenario) (book : BookView) (state : CoreState) (p : PostingView) → IsAuction sc book → KeepsTheRule sc book state → KeepsTheRule sc book (take sc book state p).1 }
+{}
+
+/// The record of an auction that keeps the clock rule and has ended is backed.
 pub fn an_ended_record_is_backed()
-    ensures { (sc : Scenario) (book : BookView) (postings : List PostingView) → IsAuction sc book → has_ended (after_postings sc book postings (opening sc book)) ≡ true → IsBacked sc book (record_of sc (after_postings sc book postings (opening sc book))) }
+    ensures { (sc : Scenario) (book : BookView) (state : CoreState) → KeepsTheRule sc book state → has_ended state ≡ true → IsBacked sc book (record_of sc state) }
 {}
 
 /// The map of a backed record of an auction that was carried through is clean, and of exactly the stations on air once the
