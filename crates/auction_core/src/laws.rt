@@ -8,10 +8,11 @@ ghost use Rattle.cert_types.specs.Examples.{learner};
 ghost use Rattle.auction_core.specs.Core.{CoreState, PostingView, opening, take, turned_away, fault_of, has_ended};
 ghost use Rattle.auction_core.specs.Backed.{IsBacked, record_of, undecided_of};
 ghost use Rattle.auction_core.specs.Postings.{HoldsAfter};
+ghost use Rattle.auction_core.specs.Replay.{replay};
 ghost use Rattle.auction_core.specs.Rule.{IsAuction, KeepsTheRule};
 ghost use Rattle.auction_core.specs.Examples.{auction_of_three, posting, fit, refuted, one_line, three_fits, four_fits, state_after};
 
-use crate::posting::Reply;
+use crate::posting::{Entry, Reply};
 use crate::record::{Ending, Record};
 use cert_types::answer::Place;
 
@@ -43,6 +44,13 @@ pub fn a_refused_posting_changes_nothing()
 /// list too, so this holds at every point of an auction. Memory has no part in it.
 pub fn whatever_is_posted()
     ensures { (sc : Scenario) (book : BookView) (postings : List PostingView) → IsAuction sc book → HoldsAfter sc book postings }
+{}
+
+/// What a history replays to keeps the clock rule, and its record is backed once the auction has ended. A history is any
+/// list of entries that replays, whoever kept it.
+pub fn a_replayed_state_keeps_the_rule()
+    ensures rule { (sc : Scenario) (book : BookView) (history : List Entry) (state : CoreState) → IsAuction sc book → replay sc book history ≡ Some state → KeepsTheRule sc book state }
+    ensures backed { (sc : Scenario) (book : BookView) (history : List Entry) (state : CoreState) → IsAuction sc book → replay sc book history ≡ Some state → has_ended state ≡ true → IsBacked sc book (record_of sc state) }
 {}
 
 /// The state that an auction opens with keeps the clock rule, and so does the state after any one posting.
