@@ -11,7 +11,8 @@ use Rattle.cert_types.specs.declared.answer.Place.{Place}
 use Rattle.auction_core.specs.declared.record.Shown.TheVariants.{Fits, Refuted, Undecided}
 use Rattle.auction_core.specs.declared.posting.Reply.{Reply}
 use Rattle.auction_core.specs.declared.posting.Reply.TheVariants.{Rejected, AlreadySpent, Noted}
-use Rattle.auction_core.specs.Core.{CoreState, NotedSpent, PostingView, turned_away, fault_of, judged, accepted, advanced, is_noted, noted_with, take}
+use Rattle.auction_core.specs.State.{CoreState, NotedSpent}
+use Rattle.auction_core.specs.Take.{PostingView, turned_away, fault_of, judged, accepted, advanced, is_noted, noted_with, take}
 
 -- a worker's receipt, as it is noted
 abbrev pub noted_as : ℕ → Receipt → NotedSpent

@@ -14,7 +14,7 @@ use Rattle.auction_core.specs.declared.record.Record.{Record}
 use Rattle.auction_core.specs.declared.record.Shown.TheVariants.{Empty, Fits, NoChannel, Refuted, Undecided}
 use Rattle.auction_core.specs.declared.record.Step.{Step}
 use Rattle.auction_core.specs.declared.record.Ending.TheVariants.{Done}
-use Rattle.auction_core.specs.Core.{CoreState, shows_room, settled}
+use Rattle.auction_core.specs.State.{CoreState, shows_room, settled}
 use Rattle.auction_core.specs.Backed.{test_of, is_undecided, undecided_of, IsStepShown, after_steps, AreShown, after_start, ending_of, IsCarriedThrough, IsEnded, IsBacked}
 use Rattle.auction_core.specs.Rule.{IsAuction}
 use Rattle.auction_core.proofs.Steps.{same_test, same-back, listed-undecided, listed-asked}

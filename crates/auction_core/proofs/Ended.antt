@@ -7,7 +7,7 @@ use Rattle.pack_defs.specs.ClockRule.{ClockTest, FrozenAt, clock_tests, opening_
 use Rattle.auction_core.specs.declared.record.Shown.{Shown}
 use Rattle.auction_core.specs.declared.record.Record.{Record}
 use Rattle.auction_core.specs.declared.record.Shown.TheVariants.{Empty, Fits, NoChannel, Refuted, Undecided}
-use Rattle.auction_core.specs.Core.{CoreState, has_ended, shows_room}
+use Rattle.auction_core.specs.State.{CoreState, has_ended, shows_room}
 use Rattle.auction_core.specs.Backed.{undecided_of, ending_of, IsCarriedThrough, IsStopped, IsEnded, IsBacked, record_of}
 use Rattle.auction_core.specs.Rule.{IsStartKept}
 use Rattle.auction_core.proofs.Kept.{IsAtStart, IsUnderWay, Stands, IsKept, match-true, match-false}

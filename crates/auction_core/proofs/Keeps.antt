@@ -22,7 +22,8 @@ use Rattle.cert_types.proofs.Meaning.{fit-means}
 use Rattle.auction_core.specs.declared.record.Shown.{Shown}
 use Rattle.auction_core.specs.declared.record.Shown.TheVariants.{Empty, Fits, NoChannel, Refuted, Undecided}
 use Rattle.auction_core.specs.declared.posting.Reply.TheVariants.{Ended, WrongQuery, Stranger}
-use Rattle.auction_core.specs.Core.{CoreState, NotedSpent, PostingView, shows_room, delta_of, settled, settled_unasked, go_on, started, before_start, start_unasked, opening, has_ended, test_task, start_task, first_task, task_of, past_first, answered, fault_of, turned_away, take, after_postings}
+use Rattle.auction_core.specs.State.{CoreState, NotedSpent, shows_room, delta_of, settled, settled_unasked, go_on, started, before_start, start_unasked, opening, has_ended, test_task, start_task, first_task, task_of, past_first, answered}
+use Rattle.auction_core.specs.Take.{PostingView, fault_of, turned_away, take, after_postings}
 use Rattle.auction_core.specs.Backed.{test_of, IsValidOf, IsSettledBy, IsStartShown, IsStepShown, after_steps, AreShown, after_start}
 use Rattle.auction_core.specs.Rule.{Answers, AreValid, AreNoted, IsQuery, IsStartKept, IsAuction}
 use Rattle.auction_core.proofs.Kept.{IsAtStart, IsUnderWay, Stands, IsKept, in-case, match-true, match-false}

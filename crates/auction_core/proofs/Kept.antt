@@ -1,8 +1,8 @@
 -- The rule's four points by how the start was shown, which is how the induction goes, and that the two say the same.
-use Rattle.std.proofs.Common.{◌≡◌, ℕ, ◌+◌, ◌-◌, Bool, true, false, if◌then◌else◌, List, [], ◌∷◌, ◌++◌, map, length, take, Option, Some, None, unwrap_or, refl, sym, ap, ◌∙◌, subst, arith, MatchBool, MatchOption, length-append}
+use Rattle.std.proofs.Common.{◌≡◌, ℕ, ◌-◌, Bool, true, false, List, [], ◌∷◌, ◌++◌, map, length, take, Option, Some, None, unwrap_or, refl, sym, ap, ◌∙◌, subst, arith, MatchBool, MatchOption, length-append}
 use Rattle.std.proofs.Math.Seq.{take-append_seam}
 use Rattle.std.specs.Option.{option_map_or}
-use Rattle.std.proofs.lemmas.Bool.{both_ways, cond-true, cond-false, cases_Bool}
+use Rattle.std.proofs.lemmas.Bool.{both_ways, cond-true, cond-false}
 use Rattle.pack_defs.specs.Book.{BookView}
 use Rattle.pack_defs.specs.ChannelMap.{overlaid}
 use Rattle.pack_defs.specs.Packing.{IsClean, IsPacking}
@@ -11,9 +11,9 @@ use Rattle.pack_defs.specs.ClockRule.{ClockTest, clock_tests, opening_state, on_
 use Rattle.auction_core.specs.declared.record.Shown.{Shown}
 use Rattle.auction_core.specs.declared.record.Shown.TheVariants.{Empty, Fits, NoChannel, Refuted, Undecided}
 use Rattle.auction_core.specs.declared.record.Step.{Step}
-use Rattle.auction_core.specs.Core.{CoreState, shows_room, delta_of, start_unasked}
+use Rattle.auction_core.specs.State.{CoreState, shows_room, delta_of, start_unasked}
 use Rattle.auction_core.specs.Backed.{test_of, undecided_of, AreShown, after_steps, after_start}
-use Rattle.auction_core.specs.Rule.{AreNoted, IsQuery, IsStartKept, is_running, tests_due, tests_done, start_of, IsMapOnAir, IsClockAtQuery, AreAllShown, IsNextQuery, KeepsTheRule}
+use Rattle.auction_core.specs.Rule.{AreNoted, IsQuery, IsStartKept, is_running, tests_due, tests_done, start_of, IsNextQuery, KeepsTheRule}
 
 -- While the start test stands, or where it ended the auction, nothing was done; where it stands it needs a query.
 pub record IsAtStart (sc : Scenario) (book : BookView) (state : CoreState) : Type 0 where

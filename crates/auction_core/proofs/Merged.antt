@@ -13,7 +13,7 @@ use Rattle.pack_defs.specs.Components.{component, interferes}
 use Rattle.pack_defs.proofs.ComponentLaws.{component-next, component-within, component-start}
 use Rattle.pack_defs.proofs.Words.{list_any-map, has_entry-from_Contains, Contains-from_has_entry, below-later, ascending-rest, station-in, same-ascending}
 use Rattle.assign_check.specs.Fault.{IsCleanOn}
-use Rattle.auction_core.specs.Core.{restricted}
+use Rattle.auction_core.specs.State.{restricted}
 use Rattle.auction_core.proofs.Overlay.{overlaid-channel, restricted-channel, entry-from_channel, channel-from_entry, its-channel, ascending-cons, overlaid-ascending}
 
 kept-station : (p : ℕ × ℕ → Bool) (m : List (ℕ × ℕ)) (z : ℕ) → is_in (map (λ y. y.0) (filter p m)) z ≡ true → is_in (map (λ y. y.0) m) z ≡ true

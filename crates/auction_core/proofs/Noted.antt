@@ -12,7 +12,8 @@ use Rattle.cert_types.specs.declared.answer.Receipt.{Receipt}
 use Rattle.pack_defs.specs.declared.worker.Worker.{Worker}
 use Rattle.cert_types.specs.declared.answer.Answer.TheVariants.{Spent}
 use Rattle.auction_core.specs.declared.record.Shown.TheVariants.{Undecided}
-use Rattle.auction_core.specs.Core.{CoreState, NotedSpent, task_of, is_noted, noted_with}
+use Rattle.auction_core.specs.State.{CoreState, NotedSpent, task_of}
+use Rattle.auction_core.specs.Take.{is_noted, noted_with}
 use Rattle.auction_core.specs.Backed.{IsValidOf, AreReceipts, IsSettledBy}
 use Rattle.auction_core.specs.Rule.{Answers, AreValid, AreNoted}
 use Rattle.auction_core.proofs.Overlay.{ascending-cons}

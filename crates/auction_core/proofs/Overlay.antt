@@ -4,7 +4,7 @@ use Rattle.std.specs.Option.{option_or}
 use Rattle.std.proofs.lemmas.Bool.{and_parts, and_from, or_cases, or_left, or_right, both_ways, cases_order, lt-ltb, ltb-false, false≢true}
 use Rattle.pack_defs.specs.ChannelMap.{channel_of, put, overlaid}
 use Rattle.pack_defs.specs.Lists.{is_in, is_ascending, has_entry, same_entry}
-use Rattle.auction_core.specs.Core.{restricted}
+use Rattle.auction_core.specs.State.{restricted}
 use Rattle.pack_defs.proofs.Words.{below-later, ascending-rest, station-in}
 
 or_if : (b : Bool) (c : ℕ) (o : Option ℕ) → (if b then Some c else o) ≡ option_or (if b then Some c else None) o

@@ -5,7 +5,8 @@ use Rattle.pack_defs.specs.Book.{BookView}
 use Rattle.pack_defs.specs.declared.scenario.Scenario.{Scenario}
 use Rattle.auction_core.specs.declared.posting.Reply.{Reply}
 use Rattle.auction_core.specs.declared.posting.Reply.TheVariants.{Ended, WrongQuery, Stranger, Rejected, Advanced, AlreadySpent, Noted}
-use Rattle.auction_core.specs.Core.{CoreState, PostingView, turned_away, has_ended, is_noted, take, after_postings}
+use Rattle.auction_core.specs.State.{CoreState, has_ended}
+use Rattle.auction_core.specs.Take.{PostingView, turned_away, is_noted, take, after_postings}
 use Rattle.auction_core.specs.Replay.{same_next, agrees, stands, if_agrees, after_entry, replay_from, kept_answer, entry_of, history_of}
 use Rattle.cert_types.specs.declared.answer.Answer.{Answer}
 use Rattle.auction_core.specs.declared.posting.Entry.{Entry}

@@ -27,7 +27,7 @@ use Rattle.cert_types.proofs.Refuting.{refuted-unfit}
 use Rattle.cert_types.proofs.Validity.{valid-refutes}
 use Rattle.auction_core.specs.declared.record.Shown.{Shown}
 use Rattle.auction_core.specs.declared.record.Shown.TheVariants.{Empty, Fits, NoChannel, Refuted, Undecided}
-use Rattle.auction_core.specs.Core.{CoreState, restricted, test_task, shows_room, settled}
+use Rattle.auction_core.specs.State.{CoreState, restricted, test_task, shows_room, settled}
 use Rattle.auction_core.specs.Backed.{is_undecided, IsValidOf, IsSettledBy, IsStepShown}
 use Rattle.auction_core.specs.Rule.{IsAuction}
 use Rattle.auction_core.proofs.Overlay.{overlaid-ascending}

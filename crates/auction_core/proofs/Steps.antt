@@ -17,7 +17,7 @@ use Rattle.pack_defs.proofs.Standings.{each_once}
 use Rattle.pack_defs.proofs.TestOrder.{no_test_twice}
 use Rattle.auction_core.specs.declared.record.Shown.{Shown}
 use Rattle.auction_core.specs.declared.record.Step.{Step}
-use Rattle.auction_core.specs.Core.{CoreState, settled}
+use Rattle.auction_core.specs.State.{CoreState, settled}
 use Rattle.auction_core.specs.Backed.{test_of, is_undecided, undecided_of, IsStepShown, after_steps, AreShown, after_start}
 use Rattle.auction_core.specs.Rule.{IsAuction}
 use Rattle.auction_core.proofs.Answers.{filter-in}

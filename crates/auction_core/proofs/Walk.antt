@@ -1,5 +1,5 @@
 -- The state goes on from test to test where the clock rule goes.
-use Rattle.std.proofs.Common.{◌≡◌, ℕ, ◌+◌, Bool, true, false, ◌||◌, if◌then◌else◌, List, [], ◌∷◌, ◌++◌, map, Option, Some, None, option_map, Contains, refl, sym, ap, ap₂, ◌∙◌, subst, ⊎_elim, MatchBool, MatchOption, append_assoc, append-nil}
+use Rattle.std.proofs.Common.{◌≡◌, ℕ, Bool, true, false, ◌||◌, if◌then◌else◌, List, [], ◌∷◌, ◌++◌, map, Option, Some, None, option_map, Contains, refl, sym, ap, ap₂, ◌∙◌, subst, ⊎_elim, MatchBool, MatchOption, append_assoc, append-nil}
 use Rattle.std.specs.Prelude.{slice_get}
 use Rattle.std.specs.Option.{option_map_or}
 use Rattle.std.proofs.lemmas.Bool.{both_ways, false_from_ne_true, cases_Bool}
@@ -22,7 +22,7 @@ use Rattle.cert_types.specs.Valid.{IsValid}
 use Rattle.auction_core.specs.declared.record.Shown.{Shown}
 use Rattle.auction_core.specs.declared.record.Shown.TheVariants.{Empty, Fits, NoChannel, Refuted, Undecided}
 use Rattle.auction_core.specs.declared.record.Step.{Step}
-use Rattle.auction_core.specs.Core.{CoreState, restricted, test_task, shows_room, delta_of, settled, settled_unasked, go_on}
+use Rattle.auction_core.specs.State.{CoreState, restricted, test_task, shows_room, delta_of, settled, settled_unasked, go_on}
 use Rattle.auction_core.specs.Backed.{test_of, is_undecided, undecided_of, IsValidOf, AreReceipts, IsSettledBy, IsStepShown, after_steps, after_start}
 use Rattle.auction_core.specs.Rule.{IsAuction}
 use Rattle.auction_core.proofs.Kept.{IsUnderWay}

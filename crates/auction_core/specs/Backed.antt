@@ -1,5 +1,5 @@
 -- When a finished record is backed: its steps are the clock rule's tests, and each is shown.
-use Rattle.std.specs.Prelude.{ℕ, Bool, true, false, slice_get, ◌≡◌, if◌then◌else◌, List, [], ◌∷◌, map, filter_map, sum_by, Option, Some, None, unwrap_or, MatchOption, MatchBool}
+use Rattle.std.specs.Prelude.{ℕ, Bool, true, false, slice_get, ◌≡◌, if◌then◌else◌, List, [], ◌∷◌, map, filter_map, sum_by, Some, None, unwrap_or, MatchOption, MatchBool}
 use Rattle.pack_defs.specs.declared.worker.Worker.{Worker}
 use Rattle.pack_defs.specs.Book.{BookView, domain_of}
 use Rattle.assign_check.specs.Fault.{IsCleanOn}
@@ -18,7 +18,7 @@ use Rattle.auction_core.specs.declared.record.Step.{Step}
 use Rattle.auction_core.specs.declared.record.Ending.{Ending}
 use Rattle.auction_core.specs.declared.record.Record.{Record}
 use Rattle.auction_core.specs.declared.record.Ending.TheVariants.{Done, StartRefuted, StartUndecided}
-use Rattle.auction_core.specs.Core.{CoreState, before_start, start_task, start_unasked, test_task, settled, delta_of}
+use Rattle.auction_core.specs.State.{CoreState, before_start, start_task, start_unasked, test_task, settled, delta_of}
 
 -- the test of a step
 abbrev pub test_of : Step → ClockTest

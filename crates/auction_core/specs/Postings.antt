@@ -2,7 +2,8 @@
 use Rattle.std.specs.Prelude.{true, ◌≡◌, List, Some}
 use Rattle.pack_defs.specs.Book.{BookView}
 use Rattle.pack_defs.specs.declared.scenario.Scenario.{Scenario}
-use Rattle.auction_core.specs.Core.{CoreState, PostingView, opening, has_ended, after_postings}
+use Rattle.auction_core.specs.State.{CoreState, opening, has_ended}
+use Rattle.auction_core.specs.Take.{PostingView, after_postings}
 use Rattle.auction_core.specs.Replay.{replay, history_of}
 use Rattle.auction_core.specs.Backed.{IsBacked, record_of}
 use Rattle.auction_core.specs.Rule.{KeepsTheRule}

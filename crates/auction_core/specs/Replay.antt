@@ -6,7 +6,8 @@ use Rattle.cert_types.specs.declared.answer.Answer.{Answer}
 use Rattle.auction_core.specs.declared.posting.Reply.{Reply}
 use Rattle.auction_core.specs.declared.posting.Reply.TheVariants.{Ended, WrongQuery, Stranger, Rejected, Advanced, AlreadySpent, Noted}
 use Rattle.auction_core.specs.declared.posting.Entry.{Entry}
-use Rattle.auction_core.specs.Core.{CoreState, PostingView, opening, take, turned_away, is_noted}
+use Rattle.auction_core.specs.State.{CoreState, opening}
+use Rattle.auction_core.specs.Take.{PostingView, take, turned_away, is_noted}
 
 -- the two are the same next number
 abbrev pub same_next : Option ℕ → Option ℕ → Bool

@@ -11,7 +11,7 @@ use Rattle.cert_types.specs.declared.answer.Answer.{Answer}
 use Rattle.cert_types.specs.declared.answer.Answer.TheVariants.{Spent}
 use Rattle.auction_core.specs.declared.record.Shown.{Shown}
 use Rattle.auction_core.specs.declared.record.Shown.TheVariants.{Empty}
-use Rattle.auction_core.specs.Core.{CoreState, NotedSpent, shows_room, start_unasked, task_of}
+use Rattle.auction_core.specs.State.{CoreState, NotedSpent, shows_room, start_unasked, task_of}
 use Rattle.auction_core.specs.Backed.{test_of, undecided_of, IsValidOf, IsStartShown, AreShown, after_steps, after_start}
 
 -- there is a standing query, and a worker's answer to it is valid

@@ -1,19 +1,21 @@
 ghost use Rattle.std.specs.Prelude.{◌≡◌, ℕ, List, [], ◌∷◌, ◌++◌, Some, None, true, map};
-ghost use Rattle.pack_defs.specs.Examples.{three_stations};
+ghost use Rattle.pack_defs.specs.Examples.{three_stations, lone_station, lone_bid, row};
+ghost use Rattle.pack_defs.specs.ResultRows.{Outcome};
 ghost use Rattle.pack_defs.specs.Book.{BookView};
 ghost use Rattle.pack_defs.specs.Packing.{IsClean};
 ghost use Rattle.pack_defs.specs.declared.scenario.Scenario.{Scenario};
 ghost use Rattle.pack_defs.specs.ClockRule.{clock_rule, on_air_set};
 ghost use Rattle.cert_types.specs.Examples.{learner};
-ghost use Rattle.auction_core.specs.Core.{CoreState, PostingView, opening, take, turned_away, fault_of, has_ended};
+ghost use Rattle.auction_core.specs.State.{CoreState, opening, has_ended};
+ghost use Rattle.auction_core.specs.Take.{PostingView, take, turned_away, fault_of};
 ghost use Rattle.auction_core.specs.Backed.{IsBacked, record_of, undecided_of};
 ghost use Rattle.auction_core.specs.Postings.{HoldsAfter};
 ghost use Rattle.auction_core.specs.Replay.{replay};
 ghost use Rattle.auction_core.specs.Rule.{IsAuction, KeepsTheRule};
-ghost use Rattle.auction_core.specs.Examples.{auction_of_three, posting, fit, refuted, one_line, three_fits, four_fits, state_after};
+ghost use Rattle.auction_core.specs.Examples.{auction_of_three, posting, fit, refuted, one_line, three_fits, four_fits, state_after, all_on_air, start_after, no_station, lone_start, other_fits, rows_after, replies_to, of_each_kind};
 
 use crate::posting::{Entry, Reply};
-use crate::record::{Ending, Record};
+use crate::record::{Ending, Record, Shown};
 use cert_types::answer::Place;
 
 /// At the fourth query an answer to the third is told so and changes nothing; after the fifth the auction has ended.
@@ -81,4 +83,35 @@ pub fn records_of_three_stations()
 /// The example is an auction, so that the laws above speak of it.
 pub fn three_stations_are_an_auction()
     ensures { IsAuction (auction_of_three (learner 1000 ∷ [])) three_stations }
+{}
+
+/// Each of the eight replies, in one list of postings.
+pub fn each_reply()
+    ensures { replies_to (learner 1 ∷ learner 1 ∷ []) of_each_kind ≡ Reply.WrongQuery 1 ∷ Reply.Stranger ∷ Reply.Rejected (Place.Station 1) ∷ Reply.Advanced (Some 2) ∷ Reply.Advanced (Some 3) ∷ Reply.Advanced (Some 4) ∷ Reply.Advanced (Some 5) ∷ Reply.Noted ∷ Reply.AlreadySpent ∷ Reply.Advanced None ∷ Reply.Ended ∷ [] }
+{}
+
+/// The rows of the result are the same, whichever way the fits put the stations on air; the map isn't.
+pub fn rows_of_either_way()
+    ensures one { rows_after (learner 1000 ∷ []) (four_fits ++ posting 0 5 refuted ∷ []) ≡ row 1 Outcome.Exit 2 0 ∷ row 2 Outcome.Exit 1 0 ∷ row 3 Outcome.Frozen 2 60 ∷ [] }
+    ensures other { rows_after (learner 1000 ∷ []) (other_fits ++ posting 0 5 refuted ∷ []) ≡ row 1 Outcome.Exit 2 0 ∷ row 2 Outcome.Exit 1 0 ∷ row 3 Outcome.Frozen 2 60 ∷ [] }
+    ensures map { (state_after (learner 1000 ∷ []) (other_fits ++ posting 0 5 refuted ∷ [])).map ≡ (1, 14) ∷ (2, 15) ∷ [] }
+{}
+
+/// A start set that is refuted, or on which every worker spends its budget, ends the auction with nothing done.
+pub fn starts_that_end_an_auction()
+    ensures refuted { has_ended (start_after (learner 1000 ∷ []) (posting 0 1 refuted ∷ [])) ≡ true }
+    ensures refuted_so { (record_of (all_on_air (learner 1000 ∷ [])) (start_after (learner 1000 ∷ []) (posting 0 1 refuted ∷ []))).ending ≡ Ending.StartRefuted }
+    ensures undecided { has_ended (start_after (learner 1 ∷ []) (posting 0 1 one_line ∷ [])) ≡ true }
+    ensures undecided_so { (record_of (all_on_air (learner 1 ∷ [])) (start_after (learner 1 ∷ []) (posting 0 1 one_line ∷ []))).ending ≡ Ending.StartUndecided }
+    ensures bare { has_ended (opening lone_start lone_station) ≡ true }
+    ensures bare_so { (opening lone_start lone_station).start ≡ Some (Shown.NoChannel 1) }
+{}
+
+/// Without a station, and where the only station has no channel, an auction ends without a query.
+pub fn auctions_without_a_query()
+    ensures none { has_ended (opening no_station three_stations) ≡ true }
+    ensures none_total { (record_of no_station (opening no_station three_stations)).total ≡ 0 }
+    ensures bare { has_ended (opening lone_bid lone_station) ≡ true }
+    ensures bare_steps { (opening lone_bid lone_station).steps ≡ record { round = 1; station = 1; shown = Shown.NoChannel 1 } ∷ [] }
+    ensures bare_total { (record_of lone_bid (opening lone_bid lone_station)).total ≡ 100 }
 {}

@@ -1,5 +1,6 @@
 -- By the invariant of the induction, there and back.
-use Rattle.auction_core.specs.Core.{opening, take}
+use Rattle.auction_core.specs.State.{opening}
+use Rattle.auction_core.specs.Take.{take}
 use Rattle.auction_core.proofs.Kept.{kept-rule, rule-kept}
 use Rattle.auction_core.proofs.Keeps.{opening-keeps, take-keeps}
 use Rattle.auction_core.proofs.laws.a_posting_keeps_the_rule.Goals as goal

@@ -1,5 +1,5 @@
 -- By induction over the history, from the opening state.
-use Rattle.auction_core.specs.Core.{opening}
+use Rattle.auction_core.specs.State.{opening}
 use Rattle.auction_core.specs.Replay.{replay}
 use Rattle.auction_core.proofs.Kept.{kept-rule}
 use Rattle.auction_core.proofs.Keeps.{opening-keeps}

@@ -1,5 +1,6 @@
 -- By induction over the postings, from the opening state.
-use Rattle.auction_core.specs.Core.{opening, after_postings}
+use Rattle.auction_core.specs.State.{opening}
+use Rattle.auction_core.specs.Take.{after_postings}
 use Rattle.auction_core.specs.Replay.{replay}
 use Rattle.auction_core.proofs.Replays.{replays}
 use Rattle.auction_core.proofs.Kept.{IsKept, kept-rule}
