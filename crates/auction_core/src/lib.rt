@@ -2,5 +2,6 @@
 #![tactic(auto)]
 
 pub mod laws;
+pub mod notes;
 pub mod posting;
 pub mod record;

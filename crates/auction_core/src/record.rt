@@ -1,3 +1,7 @@
+ghost use Rattle.std.specs.Prelude.{◌≡◌};
+ghost use Rattle.auction_core.specs.State.{shows_room};
+ghost use Rattle.auction_core.specs.Backed.{ending_of};
+
 use cert_types::answer::{Receipt, Refutation};
 use pack_defs::channel_map::ChannelMap;
 use pack_defs::items::Items;
@@ -16,6 +20,29 @@ pub enum Shown {
     Refuted { worker: u32, how: Refutation },
     /// By a receipt of every worker, in order of worker, that it has spent its budget on the test.
     Undecided(Items<Receipt>),
+}
+
+impl Shown {
+    /// Whether this says that the test's set fits.
+    pub fn shows_room(&self) -> bool
+        ensures { result ≡ shows_room self.now }
+    {
+        match self {
+            Shown::Empty | Shown::Fits(_) => true,
+            Shown::NoChannel(_) | Shown::Refuted { .. } | Shown::Undecided(_) => false,
+        }
+    }
+
+    /// How an auction ends whose start was shown so.
+    pub fn ending(&self) -> Ending
+        ensures { result ≡ ending_of self.now }
+    {
+        match self {
+            Shown::Empty | Shown::Fits(_) => Ending::Done,
+            Shown::NoChannel(_) | Shown::Refuted { .. } => Ending::StartRefuted,
+            Shown::Undecided(_) => Ending::StartUndecided,
+        }
+    }
 }
 
 /// A test of the clock, and how it was settled.
