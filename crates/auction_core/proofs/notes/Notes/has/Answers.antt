@@ -1,5 +1,5 @@
 -- By the lemma on a worker's place.
-use Rattle.std.proofs.Common.{rules, ◌≡◌, sym}
+use Rattle.std.proofs.Common.{rules}
 use Rattle.auction_core.proofs.NoteLemmas.{noted-at}
 use Rattle.auction_core.proofs.notes.Notes.has.Goals as goal
 

@@ -1,5 +1,5 @@
 -- By the lemma on one more place.
-use Rattle.std.proofs.Common.{rules, ◌≡◌, ap, ◌∙◌}
+use Rattle.std.proofs.Common.{rules, ap, ◌∙◌}
 use Rattle.auction_core.specs.Notes.{notes_of}
 use Rattle.auction_core.proofs.NoteLemmas.{place-more}
 use Rattle.auction_core.proofs.notes.Notes.of_none.Goals as goal
