@@ -11,12 +11,13 @@ ghost use Rattle.auction_core.specs.Take.{PostingView, take, turned_away, fault_
 ghost use Rattle.auction_core.specs.Backed.{IsBacked, record_of, undecided_of};
 ghost use Rattle.auction_core.specs.Postings.{HoldsAfter};
 ghost use Rattle.auction_core.specs.Replay.{replay};
+ghost use Rattle.auction_core.specs.Said.{StandsFor, taken, with_answer};
 ghost use Rattle.auction_core.specs.Rule.{IsAuction, KeepsTheRule};
 ghost use Rattle.auction_core.specs.Examples.{auction_of_three, posting, fit, refuted, one_line, three_fits, four_fits, state_after, all_on_air, start_after, no_station, lone_start, other_fits, rows_after, replies_to, of_each_kind};
 
-use crate::posting::{Entry, Reply};
+use crate::posting::{Entry, Posting, Reply};
 use crate::record::{Ending, Record, Shown};
-use cert_types::answer::Place;
+use cert_types::answer::{Answer, Place};
 
 /// At the fourth query an answer to the third is told so and changes nothing; after the fifth the auction has ended.
 pub fn an_old_answer()
@@ -39,6 +40,11 @@ pub fn two_receipts()
 pub fn a_refused_posting_changes_nothing()
     ensures turned { (sc : Scenario) (book : BookView) (state : CoreState) (p : PostingView) (reply : Reply) → turned_away sc state p.worker p.number ≡ Some reply → take sc book state p ≡ (reply, state) }
     ensures rejected { (sc : Scenario) (book : BookView) (state : CoreState) (p : PostingView) (place : Place) → turned_away sc state p.worker p.number ≡ None → fault_of sc book state p ≡ Some place → take sc book state p ≡ (Reply.Rejected place, state) }
+{}
+
+/// A posting whose answer was looked at before does what a posting with that answer does.
+pub fn looked_at_before()
+    ensures { (sc : Scenario) (book : BookView) (state : CoreState) (posting : Posting) (answer : Answer) → StandsFor sc book state posting answer → taken sc book state posting ≡ take sc book state (with_answer posting answer) }
 {}
 
 /// Whatever is posted, by any workers, in any order, stale, doubled or lying: the history of the postings replays to the

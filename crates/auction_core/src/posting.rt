@@ -1,4 +1,24 @@
 use cert_types::answer::{Answer, Place};
+use cert_types::certified::Certified;
+
+/// What a worker posts for a query, once its answer was looked at.
+#[derive(Drop)]
+pub struct Posting {
+    /// The worker, from 0.
+    pub worker: u32,
+    /// The number of the query that it answers.
+    pub number: u64,
+    pub said: Said,
+}
+
+/// An answer that was looked at.
+#[derive(Drop)]
+pub enum Said {
+    /// It was let through.
+    Good(Certified),
+    /// It was not: its first place at fault.
+    Bad(Place),
+}
 
 /// What a posting is told, by the first that holds.
 #[derive(Clone, Copy, Debug, PartialEq, Eq)]
