@@ -1,4 +1,5 @@
--- When a finished record is backed: its steps are the clock rule's tests, and each is shown.
+-- When a finished record is backed: its steps are the tests of the clock rule, which is that of Milgrom and Segal (2020),
+-- and each is shown. What the record holds, and that it is checked against the rule, is this project's own.
 use Rattle.std.specs.Prelude.{ℕ, Bool, true, false, slice_get, ◌≡◌, if◌then◌else◌, List, [], ◌∷◌, map, filter_map, sum_by, Some, None, unwrap_or, MatchOption, MatchBool}
 use Rattle.pack_defs.specs.declared.worker.Worker.{Worker}
 use Rattle.pack_defs.specs.Book.{BookView, domain_of}

@@ -2,6 +2,9 @@
 use Rattle.std.specs.Prelude.{ℕ, List, [], ◌∷◌, map, Some, None}
 use Rattle.pack_defs.specs.Examples.{three_stations, three_bids, lone_bid}
 use Rattle.pack_defs.specs.ResultRows.{ResultRow, result_rows}
+use Rattle.pack_defs.specs.Book.{BookView}
+use Rattle.pack_defs.specs.declared.domain.Domain.{Domain}
+use Rattle.pack_defs.specs.declared.station.Station.{Station}
 use Rattle.pack_defs.specs.declared.worker.Worker.{Worker}
 use Rattle.pack_defs.specs.declared.scenario.Scenario.{Scenario}
 use Rattle.cert_types.specs.declared.answer.Answer.{Answer}
@@ -79,3 +82,25 @@ of_each_kind =
     posting 0 9 (fit 1 14) ∷ posting 2 1 (fit 1 14) ∷ posting 0 1 (fit 2 14)
     ∷ posting 0 1 (fit 1 14) ∷ posting 0 2 (fit 2 14) ∷ posting 0 3 (fit 3 15) ∷ posting 0 4 (fit 1 15)
     ∷ posting 0 5 one_line ∷ posting 0 5 one_line ∷ posting 1 5 one_line ∷ posting 1 6 one_line ∷ []
+
+abbrev no_channel : ℕ → Domain
+no_channel s = record { station = s; channels = [] }
+
+abbrev bid : ℕ → Station
+bid s = record { id = s; volume = 1; value = Some 5 }
+
+-- five stations, of which the third alone has a channel
+unfoldable pub one_of_five : BookView
+one_of_five = record {
+  top = 14;
+  domains = no_channel 1 ∷ no_channel 2 ∷ record { station = 3; channels = 14 ∷ [] } ∷ no_channel 4 ∷ no_channel 5 ∷ [];
+  pairs = [];
+}
+
+-- their bids, in an auction of one round
+abbrev pub five_bids : Scenario
+five_bids = record lone_bid { stations = bid 1 ∷ bid 2 ∷ bid 3 ∷ bid 4 ∷ bid 5 ∷ [] }
+
+-- the state of that auction after these postings
+abbrev pub five_after : List PostingView → CoreState
+five_after postings = after_postings five_bids one_of_five postings (opening five_bids one_of_five)

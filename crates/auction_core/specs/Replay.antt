@@ -1,4 +1,4 @@
--- The state that a history leaves.
+-- The state that a history leaves. What a history keeps of each posting is this project's own.
 use Rattle.std.specs.Prelude.{ℕ, Bool, true, false, ◌==◌, if◌then◌else◌, List, [], ◌∷◌, Option, Some, None, option_and_then}
 use Rattle.pack_defs.specs.Book.{BookView}
 use Rattle.pack_defs.specs.declared.scenario.Scenario.{Scenario}

@@ -1,5 +1,5 @@
 ghost use Rattle.std.specs.Prelude.{◌≡◌, ℕ, List, [], ◌∷◌, ◌++◌, Some, None, true, map};
-ghost use Rattle.pack_defs.specs.Examples.{three_stations, lone_station, lone_bid, row};
+ghost use Rattle.pack_defs.specs.Examples.{three_stations, lone_station, lone_bid, row, test};
 ghost use Rattle.pack_defs.specs.ResultRows.{Outcome};
 ghost use Rattle.pack_defs.specs.Book.{BookView};
 ghost use Rattle.pack_defs.specs.Packing.{IsClean};
@@ -8,12 +8,12 @@ ghost use Rattle.pack_defs.specs.ClockRule.{clock_rule, on_air_set};
 ghost use Rattle.cert_types.specs.Examples.{learner};
 ghost use Rattle.auction_core.specs.State.{CoreState, opening, has_ended};
 ghost use Rattle.auction_core.specs.Take.{PostingView, take, turned_away, fault_of};
-ghost use Rattle.auction_core.specs.Backed.{IsBacked, record_of, undecided_of};
+ghost use Rattle.auction_core.specs.Backed.{IsBacked, record_of, test_of, undecided_of};
 ghost use Rattle.auction_core.specs.Postings.{HoldsAfter};
 ghost use Rattle.auction_core.specs.Replay.{replay};
 ghost use Rattle.auction_core.specs.Said.{StandsFor, taken, with_answer};
 ghost use Rattle.auction_core.specs.Rule.{IsAuction, KeepsTheRule};
-ghost use Rattle.auction_core.specs.Examples.{auction_of_three, posting, fit, refuted, one_line, three_fits, four_fits, state_after, all_on_air, start_after, no_station, lone_start, other_fits, rows_after, replies_to, of_each_kind};
+ghost use Rattle.auction_core.specs.Examples.{auction_of_three, posting, fit, refuted, one_line, three_fits, four_fits, state_after, all_on_air, start_after, no_station, lone_start, other_fits, rows_after, replies_to, of_each_kind, one_of_five, five_bids, five_after};
 
 use crate::posting::{Entry, Posting, Reply};
 use crate::record::{Ending, Record, Shown};
@@ -120,4 +120,15 @@ pub fn auctions_without_a_query()
     ensures bare { has_ended (opening lone_bid lone_station) ≡ true }
     ensures bare_steps { (opening lone_bid lone_station).steps ≡ record { round = 1; station = 1; shown = Shown.NoChannel 1 } ∷ [] }
     ensures bare_total { (record_of lone_bid (opening lone_bid lone_station)).total ≡ 100 }
+{}
+
+/// Stations without a channel are settled in a row: those before the one query by the opening, those after it by its
+/// answer, which is told that no query is left.
+pub fn settled_in_a_row()
+    ensures before { map test_of (five_after []).steps ≡ test 1 1 ∷ test 1 2 ∷ [] }
+    ensures query { (five_after []).number ≡ 1 }
+    ensures last { (take five_bids one_of_five (five_after []) (posting 0 1 (fit 3 14))).0 ≡ Reply.Advanced None }
+    ensures after { map test_of (five_after (posting 0 1 (fit 3 14) ∷ [])).steps ≡ test 1 1 ∷ test 1 2 ∷ test 1 3 ∷ test 1 4 ∷ test 1 5 ∷ [] }
+    ensures map { (five_after (posting 0 1 (fit 3 14) ∷ [])).map ≡ (3, 14) ∷ [] }
+    ensures total { (record_of five_bids (five_after (posting 0 1 (fit 3 14) ∷ []))).total ≡ 400 }
 {}
