@@ -1,6 +1,6 @@
 //! The receipts that stand noted on a query.
 
-ghost use Rattle.std.specs.Prelude.{◌≡◌, ◌<◌, [], IfOk, false, length};
+ghost use Rattle.std.specs.Prelude.{◌≡◌, ◌<◌, ◌≤◌, ◌+◌, ◌++◌, [], IfOk, false, length, map, vec_len, vec_capacity};
 ghost use Rattle.auction_core.specs.Take.{is_noted, noted_with};
 ghost use Rattle.auction_core.specs.Notes.{notes_of};
 
@@ -53,6 +53,21 @@ impl Notes {
     {
         self.places[worker as usize] = Some(receipt);
     }
+
+    /// Moves every noted receipt behind those of the list, in order of worker; none is noted any more. It takes no memory.
+    pub fn move_into(&mut self, receipts: &mut Vec<Receipt>)
+        requires { vec_len receipts.old + length self.old ≤ vec_capacity receipts.old }
+        ensures moved { receipts.new.items ≡ receipts.old.items ++ map (λ n. n.receipt) (notes_of self.old) }
+        ensures none { notes_of self.new ≡ [] }
+        ensures places { length self.new ≡ length self.old }
+    {
+        for i in 0..self.places.len() {
+            let Some(receipt) = self.places[i].take() else {
+                continue;
+            };
+            receipts.push_reserved(receipt);
+        }
+    }
 }
 
 #[cfg(test)]
@@ -77,6 +92,18 @@ mod tests {
         notes.note(1, receipt(alloc));
         assert!(rt; notes.has(1));
         assert!(rt; !notes.has(0));
+        Ok(())
+    }
+
+    #[test]
+    fn moves_the_noted_receipts(rt: HostRuntime) -> Result<(), Fail> {
+        let alloc = rt.alloc();
+        let mut notes = Notes::of_none(alloc, 2)?;
+        let mut receipts = Vec::with_capacity(alloc, 2)?;
+        notes.note(1, receipt(alloc));
+        notes.move_into(&mut receipts);
+        assert_eq!(rt; receipts.len(), 1);
+        assert!(rt; !notes.has(1));
         Ok(())
     }
 }
