@@ -1,0 +1,71 @@
+-- The places of the workers and the list of those that are noted.
+use Rattle.std.proofs.Common.{◌≡◌, ℕ, zero, suc, ◌+◌, ◌<◌, false, ◌==◌, ◌||◌, if◌then◌else◌, List, [], ◌∷◌, ◌++◌, length, Option, Some, None, is_some, get_or, refl, sym, ap, ◌∙◌, arith, eq-eqb, ne_eqb, lt-ltb, le-ltb}
+use Rattle.std.specs.Prelude.{slice_set}
+use Rattle.std.proofs.lemmas.Bool.{or_left}
+use Rattle.cert_types.specs.declared.answer.Receipt.{Receipt}
+use Rattle.auction_core.specs.State.{NotedSpent}
+use Rattle.auction_core.specs.Take.{is_noted, noted_with}
+use Rattle.auction_core.specs.Notes.{notes_from, notes_of}
+use Rattle.auction_core.proofs.Cases.{noted_as}
+
+-- no note is of a worker before the first place
+not-before : (w i : ℕ) (xs : List (Option Receipt)) → i < w → is_noted (notes_from w xs) i ≡ false
+not-before w i [] h = refl
+not-before w i (None ∷ xs) h = not-before (w + 1) i xs (omega arith)
+not-before w i (Some r ∷ xs) h =
+    ap (λ b. b || is_noted (notes_from (w + 1) xs) i) (ne_eqb w i (λ e. omega arith)) ∙ not-before (w + 1) i xs (omega arith)
+
+-- a worker is noted exactly where its place has a receipt
+noted-from : (w i : ℕ) (xs : List (Option Receipt)) (d : Option Receipt) → i < length xs → is_noted (notes_from w xs) (w + i) ≡ is_some (get_or xs i d)
+noted-from w i [] d h = absurd (omega arith)
+noted-from w zero (None ∷ xs) d h = not-before (w + 1) (w + 0) xs (omega arith)
+noted-from w zero (Some r ∷ xs) d h = or_left (w == w + 0) (is_noted (notes_from (w + 1) xs) (w + 0)) (eq-eqb w (w + 0) (omega arith))
+noted-from w (suc i) (None ∷ xs) d h =
+    let next : w + suc i ≡ w + 1 + i = omega arith in
+    ap (is_noted (notes_from (w + 1) xs)) next ∙ noted-from (w + 1) i xs d (omega arith)
+noted-from w (suc i) (Some r ∷ xs) d h =
+    let next : w + suc i ≡ w + 1 + i = omega arith in
+    ap (λ b. b || is_noted (notes_from (w + 1) xs) (w + suc i)) (ne_eqb w (w + suc i) (λ e. omega arith))
+    ∙ ap (is_noted (notes_from (w + 1) xs)) next ∙ noted-from (w + 1) i xs d (omega arith)
+
+pub noted-at : (i : ℕ) (xs : List (Option Receipt)) (d : Option Receipt) → i < length xs → is_noted (notes_of xs) i ≡ is_some (get_or xs i d)
+noted-at i xs d h =
+    let here : i ≡ 0 + i = omega arith in
+    ap (is_noted (notes_of xs)) here ∙ noted-from 0 i xs d h
+
+-- a note of a worker before the first place comes first
+comes-first : (x : NotedSpent) (w : ℕ) (xs : List (Option Receipt)) → x.worker < w → noted_with x (notes_from w xs) ≡ x ∷ notes_from w xs
+comes-first x w [] h = refl
+comes-first x w (None ∷ xs) h = comes-first x (w + 1) xs (omega arith)
+comes-first x w (Some r ∷ xs) h =
+    ap (λ b. if b then x ∷ noted_as w r ∷ notes_from (w + 1) xs else noted_as w r ∷ noted_with x (notes_from (w + 1) xs)) (lt-ltb x.worker w h)
+
+-- a receipt put into a worker's empty place is noted
+with-from : (w i : ℕ) (xs : List (Option Receipt)) (r : Receipt) → i < length xs → get_or xs i None ≡ None → noted_with (noted_as (w + i) r) (notes_from w xs) ≡ notes_from w (slice_set xs i (Some r))
+with-from w i [] r h e = absurd (omega arith)
+with-from w zero (None ∷ xs) r h e =
+    let here : w + 0 ≡ w = omega arith in
+    ap (λ (v : ℕ). noted_with (noted_as v r) (notes_from (w + 1) xs)) here ∙ comes-first (noted_as w r) (w + 1) xs (omega arith)
+with-from w zero (Some y ∷ xs) r h e = cc
+with-from w (suc i) (None ∷ xs) r h e =
+    let next : w + suc i ≡ w + 1 + i = omega arith in
+    ap (λ (v : ℕ). noted_with (noted_as v r) (notes_from (w + 1) xs)) next ∙ with-from (w + 1) i xs r (omega arith) e
+with-from w (suc i) (Some y ∷ xs) r h e =
+    let next : w + suc i ≡ w + 1 + i = omega arith in
+    ap (λ b. if b then noted_as (w + suc i) r ∷ noted_as w y ∷ notes_from (w + 1) xs else noted_as w y ∷ noted_with (noted_as (w + suc i) r) (notes_from (w + 1) xs)) (le-ltb (w + suc i) w (omega arith))
+    ∙ ap (λ ns. noted_as w y ∷ ns) (ap (λ (v : ℕ). noted_with (noted_as v r) (notes_from (w + 1) xs)) next ∙ with-from (w + 1) i xs r (omega arith) e)
+
+pub with-at : (i : ℕ) (xs : List (Option Receipt)) (r : Receipt) → i < length xs → is_noted (notes_of xs) i ≡ false → notes_of (slice_set xs i (Some r)) ≡ noted_with (noted_as i r) (notes_of xs)
+with-at i xs r h e =
+    let here : i ≡ 0 + i = omega arith in
+    sym (ap (λ (v : ℕ). noted_with (noted_as v r) (notes_of xs)) here ∙ with-from 0 i xs r h (empty (get_or xs i None) (sym (noted-at i xs None h) ∙ e)))
+  where
+    empty : (o : Option Receipt) → is_some o ≡ false → o ≡ None
+    empty None k = refl
+    empty (Some x) k = cc
+
+-- one more place, without a receipt
+pub place-more : (w : ℕ) (xs : List (Option Receipt)) → notes_from w (xs ++ None ∷ []) ≡ notes_from w xs
+place-more w [] = refl
+place-more w (None ∷ xs) = place-more (w + 1) xs
+place-more w (Some r ∷ xs) = ap (λ ns. noted_as w r ∷ ns) (place-more (w + 1) xs)

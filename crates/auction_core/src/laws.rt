@@ -1,0 +1,134 @@
+ghost use Rattle.std.specs.Prelude.{◌≡◌, ℕ, List, [], ◌∷◌, ◌++◌, Some, None, true, map};
+ghost use Rattle.pack_defs.specs.Examples.{three_stations, lone_station, lone_bid, row, test};
+ghost use Rattle.pack_defs.specs.ResultRows.{Outcome};
+ghost use Rattle.pack_defs.specs.Book.{BookView};
+ghost use Rattle.pack_defs.specs.Packing.{IsClean};
+ghost use Rattle.pack_defs.specs.declared.scenario.Scenario.{Scenario};
+ghost use Rattle.pack_defs.specs.ClockRule.{clock_rule, on_air_set};
+ghost use Rattle.cert_types.specs.Examples.{learner};
+ghost use Rattle.auction_core.specs.State.{CoreState, opening, has_ended};
+ghost use Rattle.auction_core.specs.Take.{PostingView, take, turned_away, fault_of};
+ghost use Rattle.auction_core.specs.Backed.{IsBacked, record_of, test_of, undecided_of};
+ghost use Rattle.auction_core.specs.Postings.{HoldsAfter};
+ghost use Rattle.auction_core.specs.Replay.{replay};
+ghost use Rattle.auction_core.specs.Said.{StandsFor, taken, with_answer};
+ghost use Rattle.auction_core.specs.Rule.{IsAuction, KeepsTheRule};
+ghost use Rattle.auction_core.specs.Examples.{auction_of_three, posting, fit, refuted, one_line, three_fits, four_fits, state_after, all_on_air, start_after, no_station, lone_start, other_fits, rows_after, replies_to, of_each_kind, one_of_five, five_bids, five_after};
+
+use crate::posting::{Entry, Posting, Reply};
+use crate::record::{Ending, Record, Shown};
+use cert_types::answer::{Answer, Place};
+
+/// At the fourth query an answer to the third is told so and changes nothing; after the fifth the auction has ended.
+pub fn an_old_answer()
+    ensures fourth { (state_after (learner 1000 ∷ []) three_fits).number ≡ 4 }
+    ensures wrong_query { let state = state_after (learner 1000 ∷ []) three_fits in (take (auction_of_three (learner 1000 ∷ [])) three_stations state (posting 0 3 (fit 3 15))).0 ≡ Reply.WrongQuery 4 }
+    ensures last { let state = state_after (learner 1000 ∷ []) four_fits in (take (auction_of_three (learner 1000 ∷ [])) three_stations state (posting 0 5 refuted)).0 ≡ Reply.Advanced None }
+    ensures ended { let state = state_after (learner 1000 ∷ []) (four_fits ++ posting 0 5 refuted ∷ []) in (take (auction_of_three (learner 1000 ∷ [])) three_stations state (posting 0 6 refuted)).0 ≡ Reply.Ended }
+    ensures number { (state_after (learner 1000 ∷ []) (four_fits ++ posting 0 5 refuted ∷ [])).number ≡ 6 }
+{}
+
+/// Of two workers' Spents at the fifth query the first is noted, its second is told so, and the other's settles the test.
+pub fn two_receipts()
+    ensures noted { let state = state_after (learner 1 ∷ learner 1 ∷ []) four_fits in (take (auction_of_three (learner 1 ∷ learner 1 ∷ [])) three_stations state (posting 0 5 one_line)).0 ≡ Reply.Noted }
+    ensures again { let state = state_after (learner 1 ∷ learner 1 ∷ []) (four_fits ++ posting 0 5 one_line ∷ []) in (take (auction_of_three (learner 1 ∷ learner 1 ∷ [])) three_stations state (posting 0 5 one_line)).0 ≡ Reply.AlreadySpent }
+    ensures settled { let state = state_after (learner 1 ∷ learner 1 ∷ []) (four_fits ++ posting 0 5 one_line ∷ []) in (take (auction_of_three (learner 1 ∷ learner 1 ∷ [])) three_stations state (posting 1 5 one_line)).0 ≡ Reply.Advanced None }
+    ensures stranger { let state = state_after (learner 1 ∷ learner 1 ∷ []) four_fits in (take (auction_of_three (learner 1 ∷ learner 1 ∷ [])) three_stations state (posting 2 5 (fit 3 15))).0 ≡ Reply.Stranger }
+{}
+
+/// A posting that is turned away, or whose answer is at fault, leaves the state.
+pub fn a_refused_posting_changes_nothing()
+    ensures turned { (sc : Scenario) (book : BookView) (state : CoreState) (p : PostingView) (reply : Reply) → turned_away sc state p.worker p.number ≡ Some reply → take sc book state p ≡ (reply, state) }
+    ensures rejected { (sc : Scenario) (book : BookView) (state : CoreState) (p : PostingView) (place : Place) → turned_away sc state p.worker p.number ≡ None → fault_of sc book state p ≡ Some place → take sc book state p ≡ (Reply.Rejected place, state) }
+{}
+
+/// A posting whose answer was looked at before does what a posting with that answer does.
+pub fn looked_at_before()
+    ensures { (sc : Scenario) (book : BookView) (state : CoreState) (posting : Posting) (answer : Answer) → StandsFor sc book state posting answer → taken sc book state posting ≡ take sc book state (with_answer posting answer) }
+{}
+
+/// Whatever is posted, by any workers, in any order, stale, doubled or lying: the history of the postings replays to the
+/// state, the state keeps the clock rule, and once the auction has ended its record is backed. The postings so far are a
+/// list too, so this holds at every point of an auction. Memory has no part in it.
+pub fn whatever_is_posted()
+    ensures { (sc : Scenario) (book : BookView) (postings : List PostingView) → IsAuction sc book → HoldsAfter sc book postings }
+{}
+
+/// What a history replays to keeps the clock rule, and its record is backed once the auction has ended. A history is any
+/// list of entries that replays, whoever kept it.
+pub fn a_replayed_state_keeps_the_rule()
+    ensures rule { (sc : Scenario) (book : BookView) (history : List Entry) (state : CoreState) → IsAuction sc book → replay sc book history ≡ Some state → KeepsTheRule sc book state }
+    ensures backed { (sc : Scenario) (book : BookView) (history : List Entry) (state : CoreState) → IsAuction sc book → replay sc book history ≡ Some state → has_ended state ≡ true → IsBacked sc book (record_of sc state) }
+{}
+
+/// The state that an auction opens with keeps the clock rule, and so does the state after any one posting.
+pub fn a_posting_keeps_the_rule()
+    ensures opening { (sc : Scenario) (book : BookView) → IsAuction sc book → KeepsTheRule sc book (opening sc book) }
+    ensures posting { (sc : Scenario) (book : BookView) (state : CoreState) (p : PostingView) → IsAuction sc book → KeepsTheRule sc book state → KeepsTheRule sc book (take sc book state p).1 }
+{}
+
+/// The record of an auction that keeps the clock rule and has ended is backed.
+pub fn an_ended_record_is_backed()
+    ensures { (sc : Scenario) (book : BookView) (state : CoreState) → KeepsTheRule sc book state → has_ended state ≡ true → IsBacked sc book (record_of sc state) }
+{}
+
+/// The map of a backed record of an auction that was carried through is clean, and of exactly the stations on air once the
+/// clock rule has gone through every test, with those that its steps show undecided left open.
+pub fn a_done_record_has_a_clean_map()
+    ensures { (sc : Scenario) (book : BookView) (rec : Record) → IsAuction sc book → IsBacked sc book rec → rec.ending ≡ Ending.Done → IsClean book rec.map × (map (λ x. x.0) rec.map ≡ on_air_set sc (clock_rule sc book (undecided_of rec.steps))) }
+{}
+
+/// The records of the example: its total is 60 cents, and with two budgets of one line its last test is undecided.
+pub fn records_of_three_stations()
+    ensures decided { let state = state_after (learner 1000 ∷ []) (four_fits ++ posting 0 5 refuted ∷ []) in (record_of (auction_of_three (learner 1000 ∷ [])) state).total ≡ 60 }
+    ensures none_undecided { let state = state_after (learner 1000 ∷ []) (four_fits ++ posting 0 5 refuted ∷ []) in undecided_of state.steps ≡ [] }
+    ensures undecided { let state = state_after (learner 1 ∷ learner 1 ∷ []) (four_fits ++ posting 0 5 one_line ∷ posting 1 5 one_line ∷ []) in undecided_of state.steps ≡ record { round = 2; station = 3 } ∷ [] }
+    ensures map { let state = state_after (learner 1000 ∷ []) (four_fits ++ posting 0 5 refuted ∷ []) in state.map ≡ (1, 15) ∷ (2, 14) ∷ [] }
+{}
+
+/// The example is an auction, so that the laws above speak of it.
+pub fn three_stations_are_an_auction()
+    ensures { IsAuction (auction_of_three (learner 1000 ∷ [])) three_stations }
+{}
+
+/// Each of the eight replies, in one list of postings.
+pub fn each_reply()
+    ensures { replies_to (learner 1 ∷ learner 1 ∷ []) of_each_kind ≡ Reply.WrongQuery 1 ∷ Reply.Stranger ∷ Reply.Rejected (Place.Station 1) ∷ Reply.Advanced (Some 2) ∷ Reply.Advanced (Some 3) ∷ Reply.Advanced (Some 4) ∷ Reply.Advanced (Some 5) ∷ Reply.Noted ∷ Reply.AlreadySpent ∷ Reply.Advanced None ∷ Reply.Ended ∷ [] }
+{}
+
+/// The rows of the result are the same, whichever way the fits put the stations on air; the map isn't.
+pub fn rows_of_either_way()
+    ensures one { rows_after (learner 1000 ∷ []) (four_fits ++ posting 0 5 refuted ∷ []) ≡ row 1 Outcome.Exit 2 0 ∷ row 2 Outcome.Exit 1 0 ∷ row 3 Outcome.Frozen 2 60 ∷ [] }
+    ensures other { rows_after (learner 1000 ∷ []) (other_fits ++ posting 0 5 refuted ∷ []) ≡ row 1 Outcome.Exit 2 0 ∷ row 2 Outcome.Exit 1 0 ∷ row 3 Outcome.Frozen 2 60 ∷ [] }
+    ensures map { (state_after (learner 1000 ∷ []) (other_fits ++ posting 0 5 refuted ∷ [])).map ≡ (1, 14) ∷ (2, 15) ∷ [] }
+{}
+
+/// A start set that is refuted, or on which every worker spends its budget, ends the auction with nothing done.
+pub fn starts_that_end_an_auction()
+    ensures refuted { has_ended (start_after (learner 1000 ∷ []) (posting 0 1 refuted ∷ [])) ≡ true }
+    ensures refuted_so { (record_of (all_on_air (learner 1000 ∷ [])) (start_after (learner 1000 ∷ []) (posting 0 1 refuted ∷ []))).ending ≡ Ending.StartRefuted }
+    ensures undecided { has_ended (start_after (learner 1 ∷ []) (posting 0 1 one_line ∷ [])) ≡ true }
+    ensures undecided_so { (record_of (all_on_air (learner 1 ∷ [])) (start_after (learner 1 ∷ []) (posting 0 1 one_line ∷ []))).ending ≡ Ending.StartUndecided }
+    ensures bare { has_ended (opening lone_start lone_station) ≡ true }
+    ensures bare_so { (opening lone_start lone_station).start ≡ Some (Shown.NoChannel 1) }
+{}
+
+/// Without a station, and where the only station has no channel, an auction ends without a query.
+pub fn auctions_without_a_query()
+    ensures none { has_ended (opening no_station three_stations) ≡ true }
+    ensures none_total { (record_of no_station (opening no_station three_stations)).total ≡ 0 }
+    ensures bare { has_ended (opening lone_bid lone_station) ≡ true }
+    ensures bare_steps { (opening lone_bid lone_station).steps ≡ record { round = 1; station = 1; shown = Shown.NoChannel 1 } ∷ [] }
+    ensures bare_total { (record_of lone_bid (opening lone_bid lone_station)).total ≡ 100 }
+{}
+
+/// Stations without a channel are settled in a row: those before the one query by the opening, those after it by its
+/// answer, which is told that no query is left.
+pub fn settled_in_a_row()
+    ensures before { map test_of (five_after []).steps ≡ test 1 1 ∷ test 1 2 ∷ [] }
+    ensures query { (five_after []).number ≡ 1 }
+    ensures last { (take five_bids one_of_five (five_after []) (posting 0 1 (fit 3 14))).0 ≡ Reply.Advanced None }
+    ensures after { map test_of (five_after (posting 0 1 (fit 3 14) ∷ [])).steps ≡ test 1 1 ∷ test 1 2 ∷ test 1 3 ∷ test 1 4 ∷ test 1 5 ∷ [] }
+    ensures map { (five_after (posting 0 1 (fit 3 14) ∷ [])).map ≡ (3, 14) ∷ [] }
+    ensures total { (record_of five_bids (five_after (posting 0 1 (fit 3 14) ∷ []))).total ≡ 400 }
+{}

@@ -1,0 +1,52 @@
+use cert_types::answer::{Answer, Place};
+use cert_types::certified::Certified;
+
+/// What a worker posts for a query, once its answer was looked at.
+#[derive(Drop)]
+pub struct Posting {
+    /// The worker, from 0.
+    pub worker: u32,
+    /// The number of the query that it answers.
+    pub number: u64,
+    pub said: Said,
+}
+
+/// An answer that was looked at.
+#[derive(Drop)]
+pub enum Said {
+    /// It was let through.
+    Good(Certified),
+    /// It was not: its first place at fault.
+    Bad(Place),
+}
+
+/// What a posting is told, by the first that holds.
+#[derive(Clone, Copy, Debug, PartialEq, Eq)]
+pub enum Reply {
+    /// The auction has ended.
+    Ended,
+    /// It answers another query than the standing one, whose number is `now`.
+    WrongQuery { now: u64 },
+    /// The scenario has no such worker.
+    Stranger,
+    /// The answer is not valid: its first place at fault.
+    Rejected { place: Place },
+    /// The standing query is settled. `next` is the next query's number, if there is one.
+    Advanced { next: Option<u64> },
+    /// The worker's receipt for this query stands noted already.
+    AlreadySpent,
+    /// The worker's receipt is noted on the standing query.
+    Noted,
+}
+
+/// One posting of a history, and what it was told.
+#[derive(Debug, Drop)]
+pub struct Entry {
+    /// The worker, from 0.
+    pub worker: u32,
+    /// The number of the query that it answers.
+    pub number: u64,
+    pub reply: Reply,
+    /// The answer, where it settled the query or was noted.
+    pub answer: Option<Answer>,
+}

@@ -1,0 +1,82 @@
+ghost use Rattle.std.specs.Prelude.{◌≡◌};
+ghost use Rattle.auction_core.specs.State.{shows_room};
+ghost use Rattle.auction_core.specs.Backed.{ending_of};
+
+use cert_types::answer::{Receipt, Refutation};
+use pack_defs::channel_map::ChannelMap;
+use pack_defs::items::Items;
+use pack_defs::scenario::Scenario;
+
+/// How a test was settled.
+#[derive(Debug, Drop)]
+pub enum Shown {
+    /// The start set is empty.
+    Empty,
+    /// By the channels that make the last map one of the test's set; for the start test, by a map of the start set.
+    Fits(ChannelMap),
+    /// By a station without a channel.
+    NoChannel(u32),
+    /// By a worker's proof that the test's set does not fit.
+    Refuted { worker: u32, how: Refutation },
+    /// By a receipt of every worker, in order of worker, that it has spent its budget on the test.
+    Undecided(Items<Receipt>),
+}
+
+impl Shown {
+    /// Whether this says that the test's set fits.
+    pub fn shows_room(&self) -> bool
+        ensures { result ≡ shows_room self.now }
+    {
+        match self {
+            Shown::Empty | Shown::Fits(_) => true,
+            Shown::NoChannel(_) | Shown::Refuted { .. } | Shown::Undecided(_) => false,
+        }
+    }
+
+    /// How an auction ends whose start was shown so.
+    pub fn ending(&self) -> Ending
+        ensures { result ≡ ending_of self.now }
+    {
+        match self {
+            Shown::Empty | Shown::Fits(_) => Ending::Done,
+            Shown::NoChannel(_) | Shown::Refuted { .. } => Ending::StartRefuted,
+            Shown::Undecided(_) => Ending::StartUndecided,
+        }
+    }
+}
+
+/// A test of the clock, and how it was settled.
+#[derive(Debug, Drop)]
+pub struct Step {
+    /// The round, from 1.
+    pub round: u32,
+    /// The station, by its facility number.
+    pub station: u32,
+    pub shown: Shown,
+}
+
+/// How an auction ended.
+#[derive(Clone, Copy, Debug, PartialEq, Eq)]
+pub enum Ending {
+    /// Every test was settled.
+    Done,
+    /// The start set does not fit, so there is no auction.
+    StartRefuted,
+    /// Every worker spent its budget on the start set, so there is no auction.
+    StartUndecided,
+}
+
+/// What is left of a finished auction.
+#[derive(Debug, Drop)]
+pub struct Record {
+    pub scenario: Scenario,
+    pub ending: Ending,
+    /// How the test of the start set was settled.
+    pub start: Shown,
+    /// The clock's tests in order.
+    pub steps: Items<Step>,
+    /// A channel for each station on air.
+    pub map: ChannelMap,
+    /// What the frozen stations are paid together, in cents.
+    pub total: u64,
+}
