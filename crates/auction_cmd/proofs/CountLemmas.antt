@@ -12,11 +12,11 @@ use Rattle.pack_defs.specs.Standing.{entries_of}
 use Rattle.pack_defs.proofs.Members.{Contains-here, Contains-there, is_in-gives, list_any-from}
 use Rattle.pack_defs.proofs.Rounds.{Apart, apart_from_increasing}
 use Rattle.pack_defs.proofs.Standings.{never_there}
-use Rattle.auction_cmd.specs.declared.clock.Standing.{Standing}
-use Rattle.auction_cmd.specs.Clock.{AreStandings, standing_of, stands_frozen, stands_on_air}
+use Rattle.auction_core.specs.declared.clock.Standing.{Standing}
+use Rattle.auction_core.specs.Clock.{AreStandings, standing_of, stands_frozen, stands_on_air}
 use Rattle.auction_cmd.specs.ResultText.{count_line, summary_text}
-use Rattle.auction_cmd.proofs.ClockLemmas.{length-standings}
-use Rattle.auction_cmd.proofs.Finds.{find_cases, is_in-here, is_in-later}
+use Rattle.auction_core.proofs.ClockLemmas.{length-standings}
+use Rattle.auction_core.proofs.Finds.{find_cases, is_in-here, is_in-later}
 
 -- ---- sums over numbers
 

@@ -22,16 +22,16 @@ use Rattle.pack_defs.proofs.MapLemmas.{overlaid-all}
 use Rattle.pack_defs.proofs.Members.{Contains-filter, Contains-from_filter, is_in-from, is_in-gives}
 use Rattle.pack_defs.proofs.TestOrder.{asked_in_turn, in_turn}
 use Rattle.pack_defs.proofs.Words.{ascending-from}
-use Rattle.auction_cmd.specs.declared.clock.Standing.{Standing}
-use Rattle.auction_cmd.specs.declared.clock.Standing.TheVariants.{Active, OnAir, Frozen as Froze}
+use Rattle.auction_core.specs.declared.clock.Standing.{Standing}
+use Rattle.auction_core.specs.declared.clock.Standing.TheVariants.{Active, OnAir, Frozen as Froze}
 use Rattle.auction_cmd.specs.declared.record.Shown.{Shown}
 use Rattle.auction_cmd.specs.declared.record.Shown.TheVariants.{Empty, Fits, NoChannel, Unfit}
 use Rattle.auction_cmd.specs.declared.record.Step.{Step}
 use Rattle.auction_cmd.specs.Backed.{AreShown, IsShown, Point, after_steps, delta_of, settled, shows_room, start_point, test_of}
-use Rattle.auction_cmd.specs.Clock.{AreStandings, answered_standing, asked_by, stands_on_air}
+use Rattle.auction_core.specs.Clock.{AreStandings, answered_standing, asked_by, stands_on_air}
 use Rattle.auction_cmd.specs.PlainRule.{AnswersTest, IsAfter, map_after, most_paid, paid, test_at, tests_before}
 use Rattle.auction_cmd.proofs.BackedLemmas.{AreShown_push, after_steps_push, shown-moves}
-use Rattle.auction_cmd.proofs.ClockLemmas.{answer-standings, asked_by-is}
+use Rattle.auction_core.proofs.ClockLemmas.{answer-standings, asked_by-is}
 
 -- a list is longer than it is without a number that it has
 length-without : (xs : List ℕ) (x : ℕ) → is_in xs x ≡ true → length (without xs x) + 1 ≤ length xs

@@ -1,11 +1,7 @@
-pub mod AskedLemmas
 pub mod BackedLemmas
-pub mod ClockLemmas
 pub mod CountLemmas
 pub mod CourseLemmas
 pub mod EndLemmas
-pub mod Finds
-pub mod Places
 pub mod PlanLemmas
 pub mod PromiseLemmas
 pub mod ReadingLemmas

@@ -9,15 +9,15 @@ use Rattle.pack_defs.specs.Scenario.{StationsAscend, facilities}
 use Rattle.pack_defs.specs.Book.{BookView}
 use Rattle.pack_defs.specs.ClockRule.{clock_rule}
 use Rattle.pack_defs.proofs.Members.{is_in-from}
-use Rattle.auction_cmd.specs.declared.clock.Standing.{Standing}
-use Rattle.auction_cmd.specs.declared.clock.Standing.TheVariants.{Active}
+use Rattle.auction_core.specs.declared.clock.Standing.{Standing}
+use Rattle.auction_core.specs.declared.clock.Standing.TheVariants.{Active}
 use Rattle.auction_cmd.specs.declared.record.Record.{Record}
 use Rattle.auction_cmd.specs.declared.record.Shown.{Shown}
 use Rattle.auction_cmd.specs.declared.record.Step.{Step}
 use Rattle.auction_cmd.specs.Backed.{IsCarriedThrough, after_steps, shows_room, start_point, test_of}
-use Rattle.auction_cmd.specs.Clock.{AreStandings, answered_standing}
+use Rattle.auction_core.specs.Clock.{AreStandings, answered_standing}
 use Rattle.auction_cmd.proofs.BackedLemmas.{IsNext, backed-clock}
-use Rattle.auction_cmd.proofs.ClockLemmas.{active-is, answer-standings, is_active_at}
+use Rattle.auction_core.proofs.ClockLemmas.{active-is, answer-standings, is_active_at}
 
 -- the station of the next step stands somewhere
 pub next-there : {sc : Scenario} {start : Shown} {steps : List Step} {k : ℕ} {x : Step} (stations : List Station) → IsNext sc start steps k x → stations ≡ sc.stations → is_in (map (λ y. y.id) stations) x.station ≡ false → ⊥

@@ -15,12 +15,12 @@ use Rattle.pack_defs.specs.ClockRule.{ClockTest, ClockState, OnAirSince, after_t
 use Rattle.pack_defs.proofs.ClockSteps.{run_inactive, test_idle}
 use Rattle.pack_defs.proofs.Members.{Contains-from_filter, Contains-nil, is_in-gives}
 use Rattle.pack_defs.proofs.TestOrder.{asked_in_turn, in_turn}
-use Rattle.auction_cmd.specs.declared.clock.Standing.{Standing}
-use Rattle.auction_cmd.specs.declared.clock.Standing.TheVariants.{Active, OnAir}
+use Rattle.auction_core.specs.declared.clock.Standing.{Standing}
+use Rattle.auction_core.specs.declared.clock.Standing.TheVariants.{Active, OnAir}
 use Rattle.auction_cmd.specs.declared.record.Step.{Step}
 use Rattle.auction_cmd.specs.declared.record.Shown.{Shown}
 use Rattle.auction_cmd.specs.Backed.{IsStartShown, after_steps, delta_of, shows_room, start_point, test_of}
-use Rattle.auction_cmd.specs.Clock.{AreStandings, answered_standing}
+use Rattle.auction_core.specs.Clock.{AreStandings, answered_standing}
 use Rattle.auction_cmd.proofs.StartLemmas.{opening-on_air, start-packing}
 use Rattle.auction_cmd.specs.PlainRule.{IsAfter, most_paid, paid, test_at, tests_before}
 

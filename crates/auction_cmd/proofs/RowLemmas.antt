@@ -11,10 +11,10 @@ use Rattle.pack_defs.specs.declared.station.Station.{Station}
 use Rattle.pack_defs.specs.Scenario.{facilities}
 use Rattle.pack_defs.specs.ClockRule.{ClockState, FrozenAt, OnAirSince}
 use Rattle.pack_defs.specs.ResultRows.{ResultRow, frozen_row, on_air_row, row_of, result_rows}
-use Rattle.auction_cmd.specs.declared.clock.Standing.{Standing}
-use Rattle.auction_cmd.specs.Clock.{AreStandings, standing_of}
+use Rattle.auction_core.specs.declared.clock.Standing.{Standing}
+use Rattle.auction_core.specs.Clock.{AreStandings, standing_of}
 use Rattle.auction_cmd.specs.ResultText.{header_line, result_text, row_fields, row_line, standing_line, standing_lines}
-use Rattle.auction_cmd.proofs.Finds.{find_cases}
+use Rattle.auction_core.proofs.Finds.{find_cases}
 
 -- ---- a row has no quotes
 

@@ -21,8 +21,8 @@ use Rattle.auction_cmd.specs.declared.record.Record.{Record}
 use Rattle.auction_cmd.specs.declared.record.Shown.{Shown}
 use Rattle.auction_cmd.specs.declared.record.Shown.TheVariants.{Empty, Fits, NoChannel, Unfit}
 use Rattle.auction_cmd.specs.Backed.{IsBacked, IsSearched, IsStartShown, delta_of, ending_of, first_bare, rule_ending, shows_room, start_unasked}
-use Rattle.auction_cmd.specs.Clock.{declines_offer}
-use Rattle.auction_cmd.proofs.ClockLemmas.{declines_at}
+use Rattle.auction_core.specs.Clock.{declines_offer}
+use Rattle.auction_core.proofs.ClockLemmas.{declines_at}
 
 -- ---- one station more
 

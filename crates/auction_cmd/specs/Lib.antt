@@ -1,5 +1,4 @@
 pub mod Backed
-pub mod Clock
 pub mod Counts
 pub mod Ends
 pub mod Inputs

@@ -7,14 +7,14 @@ use Rattle.pack_defs.specs.Packing.{IsPacking, fits}
 use Rattle.pack_defs.specs.Prices.{bidders, declines}
 use Rattle.pack_defs.specs.Scenario.{facilities}
 use Rattle.pack_defs.specs.ClockRule.{ClockTest, ClockState, after_tests, asked_from, on_air_set, opening_state, tests_of}
-use Rattle.auction_cmd.specs.declared.clock.Standing.{Standing}
-use Rattle.auction_cmd.specs.declared.clock.Standing.TheVariants.{Active, OnAir, Frozen}
+use Rattle.auction_core.specs.declared.clock.Standing.{Standing}
+use Rattle.auction_core.specs.declared.clock.Standing.TheVariants.{Active, OnAir, Frozen}
 use Rattle.auction_cmd.specs.declared.plain_rule.Course.{Course}
 use Rattle.auction_cmd.specs.declared.record.Shown.{Shown}
 use Rattle.auction_cmd.specs.declared.record.Shown.TheVariants.{Empty, Fits, NoChannel, Unfit}
 use Rattle.auction_cmd.specs.declared.record.Step.{Step}
 use Rattle.auction_cmd.specs.Backed.{AreShown, IsStartShown, after_steps, delta_of, shows_room, start_point, test_of}
-use Rattle.auction_cmd.specs.Clock.{AreStandings, stands_on_air}
+use Rattle.auction_core.specs.Clock.{AreStandings, stands_on_air}
 
 -- the test of the station at this place, in this round
 abbrev pub test_at : Scenario → ℕ → ℕ → ClockTest

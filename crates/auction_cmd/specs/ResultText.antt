@@ -7,8 +7,8 @@ use Rattle.csv.specs.declared.writer.Writer.{Writer}
 use Rattle.pack_defs.specs.declared.scenario.Scenario.{Scenario}
 use Rattle.pack_defs.specs.ClockRule.{ClockTest, ClockState, is_listed}
 use Rattle.pack_defs.specs.ResultRows.{Outcome, Start, Exit, Frozen, Undecided, ResultRow, frozen_row, on_air_row, result_rows}
-use Rattle.auction_cmd.specs.declared.clock.Standing.{Standing}
-use Rattle.auction_cmd.specs.declared.clock.Standing.TheVariants as standing
+use Rattle.auction_core.specs.declared.clock.Standing.{Standing}
+use Rattle.auction_core.specs.declared.clock.Standing.TheVariants as standing
 
 -- the word for an outcome
 abbrev pub outcome_word : Outcome → List ℕ

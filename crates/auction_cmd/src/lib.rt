@@ -3,7 +3,6 @@
 
 pub mod auction;
 mod check;
-pub mod clock;
 mod explain;
 pub mod finish;
 pub mod inputs;

@@ -6,10 +6,10 @@ ghost use Rattle.pack_defs.specs.Packing.{IsPacking};
 ghost use Rattle.pack_defs.specs.Prices.{last_round, prices};
 ghost use Rattle.pack_defs.specs.ClockRule.{clock_rule, clock_tests, on_air_set};
 ghost use Rattle.auction_cmd.specs.Backed.{IsBacked, IsStartShown, delta_of, rule_ending, shows_room};
-ghost use Rattle.auction_cmd.specs.Clock.{asked_by, stands_on_air};
+ghost use Rattle.auction_core.specs.Clock.{asked_by, stands_on_air};
 ghost use Rattle.auction_cmd.specs.PlainRule.{AnswersTest, IsCourse, map_after, paid, tests_before};
 
-use crate::clock::{Clock, Standing};
+use auction_core::clock::{Clock, Standing};
 use crate::record::{Ending, Record, Shown, Step};
 use crate::start::start_test;
 use offer_sched::offers::{last_round, schedule};

@@ -7,10 +7,10 @@ ghost use Rattle.pack_defs.specs.Lists.{is_in};
 ghost use Rattle.pack_defs.specs.Scenario.{IsWithinLimits};
 ghost use Rattle.pack_defs.specs.ClockRule.{clock_rule};
 ghost use Rattle.auction_cmd.specs.Backed.{IsBacked};
-ghost use Rattle.auction_cmd.specs.Clock.{AreStandings, stands_frozen, stands_on_air};
+ghost use Rattle.auction_core.specs.Clock.{AreStandings, stands_frozen, stands_on_air};
 ghost use Rattle.auction_cmd.specs.ResultText.{IsBetweenRows, count_line, header_line, result_text, row_fields, standing_line, standing_lines, summary_text, text_held};
 
-use crate::clock::{Clock, Standing};
+use auction_core::clock::{Clock, Standing};
 use crate::record::{Ending, Record};
 use csv::{Writer, WriterBuilder};
 use itoa::Buffer;

@@ -6,7 +6,7 @@ ghost use Rattle.pack_defs.specs.Scenario.{IsWithinLimits};
 ghost use Rattle.pack_defs.specs.Prices.{start_set};
 ghost use Rattle.auction_cmd.specs.Backed.{IsSearched, IsStartShown, first_bare};
 
-use crate::clock::declines_opening;
+use auction_core::clock::declines_opening;
 use crate::record::Shown;
 use pack_defs::book::Book;
 use pack_defs::scenario::Scenario;

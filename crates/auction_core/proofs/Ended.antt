@@ -6,7 +6,7 @@ use Rattle.pack_defs.specs.declared.scenario.Scenario.{Scenario}
 use Rattle.pack_defs.specs.ClockRule.{ClockTest, FrozenAt, clock_tests, opening_state, after_tests, asked_from, clock_rule, asked_tests}
 use Rattle.auction_core.specs.declared.record.Shown.{Shown}
 use Rattle.auction_core.specs.declared.record.Record.{Record}
-use Rattle.auction_core.specs.declared.record.Shown.TheVariants.{Empty, Fits, NoChannel, Refuted, Undecided}
+use Rattle.auction_core.specs.declared.record.Shown.TheVariants.{Empty, Fits, NoChannel, Unfit, Refuted, Undecided}
 use Rattle.auction_core.specs.State.{CoreState, has_ended, shows_room}
 use Rattle.auction_core.specs.Backed.{undecided_of, ending_of, IsCarriedThrough, IsStopped, IsEnded, IsBacked, record_of}
 use Rattle.auction_core.specs.Rule.{IsStartKept}
@@ -18,6 +18,7 @@ done sc book rec Empty f g = f refl
 done sc book rec (Fits delta) f g = f refl
 done sc book rec (NoChannel s) f g = g refl
 done sc book rec (Refuted w how) f g = g refl
+done sc book rec Unfit f g = g refl
 done sc book rec (Undecided xs) f g = g refl
 
 -- what is left once the start was shown so

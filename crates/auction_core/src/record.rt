@@ -16,6 +16,8 @@ pub enum Shown {
     Fits(ChannelMap),
     /// By a station without a channel.
     NoChannel(u32),
+    /// By a search through every channel map of the test's set, none of which is clean.
+    Unfit,
     /// By a worker's proof that the test's set does not fit.
     Refuted { worker: u32, how: Refutation },
     /// By a receipt of every worker, in order of worker, that it has spent its budget on the test.
@@ -29,7 +31,8 @@ impl Shown {
     {
         match self {
             Shown::Empty | Shown::Fits(_) => true,
-            Shown::NoChannel(_) | Shown::Refuted { .. } | Shown::Undecided(_) => false,
+            Shown::NoChannel(_) | Shown::Unfit | Shown::Refuted { .. } => false,
+            Shown::Undecided(_) => false,
         }
     }
 
@@ -39,7 +42,7 @@ impl Shown {
     {
         match self {
             Shown::Empty | Shown::Fits(_) => Ending::Done,
-            Shown::NoChannel(_) | Shown::Refuted { .. } => Ending::StartRefuted,
+            Shown::NoChannel(_) | Shown::Unfit | Shown::Refuted { .. } => Ending::StartRefuted,
             Shown::Undecided(_) => Ending::StartUndecided,
         }
     }

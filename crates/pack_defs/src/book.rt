@@ -65,6 +65,19 @@ impl Book {
         })
     }
 
+    /// A book of the same stations, channels and pairs. It takes as much memory as this one. The only error is want of
+    /// memory.
+    pub fn copy(&self, alloc: Global) -> Result<Book, NoMemory>
+        ensures { IfOk result (λ book. book ≡ self.now) }
+    {
+        Ok(Book {
+            top: self.top,
+            domains: copied(alloc, &self.domains)?,
+            pairs: Vec::from_slice(alloc, &self.pairs)?,
+            by_second: Vec::from_slice(alloc, &self.by_second)?,
+        })
+    }
+
     /// The number of stations. Each book is in order: its stations, the channels of each, and its pairs ascend, and each
     /// pair is of channels of its two stations.
     pub fn len(&self) -> u32
@@ -143,6 +156,17 @@ impl Book {
         };
         self.pairs.binary_search(&one_way).is_ok() || self.pairs.binary_search(&other_way).is_ok()
     }
+}
+
+// A copy of each domain.
+fn copied(alloc: Global, domains: &[Domain]) -> Result<Vec<Domain>, NoMemory>
+    ensures { IfOk result (λ copy. copy.items ≡ domains.now) }
+{
+    let mut copy = Vec::with_capacity(alloc, domains.len())?;
+    for domain in domains {
+        copy.push(domain.copy(alloc)?)?;
+    }
+    Ok(copy)
 }
 
 // The channels of a station, by halves; none where the domains haven't it.
@@ -291,6 +315,18 @@ mod tests {
             on_one(30, 40, 15),
         ];
         Book::build(alloc, 15, &[10, 20, 30, 40, 50], &domains, &pairs)
+    }
+
+    #[test]
+    fn copy_has_all(rt: HostRuntime) -> Result<(), Fail> {
+        let alloc = rt.alloc();
+        let book = five_stations(alloc)?;
+        let copy = book.copy(alloc)?;
+        assert_eq!(rt; copy.top(), 15);
+        assert_eq!(rt; copy.domain(40), [14, 15].as_slice());
+        assert_eq!(rt; copy.pairs(), book.pairs());
+        assert_eq!(rt; copy.pairs_to(20), [on_one(10, 20, 14)].as_slice());
+        Ok(())
     }
 
     #[test]

@@ -1,8 +1,23 @@
+ghost use Rattle.std.specs.Prelude.{◌≡◌, IfOk};
+
 use crate::items::Items;
+use std::alloc::{AllocError as NoMemory, Global};
 
 /// A station and the channels that it may use, ascending.
 #[derive(Debug, Drop)]
 pub struct Domain {
     pub station: u32,
     pub channels: Items<u8>,
+}
+
+impl Domain {
+    /// The same station with the same channels. The only error is want of memory.
+    pub fn copy(&self, alloc: Global) -> Result<Domain, NoMemory>
+        ensures { IfOk result (λ domain. domain ≡ self.now) }
+    {
+        Ok(Domain {
+            station: self.station,
+            channels: Items::from_vec(Vec::from_slice(alloc, self.channels.as_slice())?),
+        })
+    }
 }

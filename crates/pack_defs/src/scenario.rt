@@ -1,6 +1,9 @@
+ghost use Rattle.std.specs.Prelude.{◌≡◌, IfOk};
+
 use crate::items::Items;
 use crate::station::Station;
 use crate::worker::Worker;
+use std::alloc::{AllocError as NoMemory, Global};
 
 /// An auction as its scenario file tells it.
 #[derive(Debug, Drop)]
@@ -17,4 +20,20 @@ pub struct Scenario {
     pub stations: Items<Station>,
     /// The workers that may answer a query.
     pub workers: Items<Worker>,
+}
+
+impl Scenario {
+    /// A scenario of the same members. The only error is want of memory.
+    pub fn copy(&self, alloc: Global) -> Result<Scenario, NoMemory>
+        ensures { IfOk result (λ copy. copy ≡ self.now) }
+    {
+        Ok(Scenario {
+            version: self.version,
+            top: self.top,
+            opening: self.opening,
+            decrements: Items::from_vec(Vec::from_slice(alloc, self.decrements.as_slice())?),
+            stations: Items::from_vec(Vec::from_slice(alloc, self.stations.as_slice())?),
+            workers: Items::from_vec(Vec::from_slice(alloc, self.workers.as_slice())?),
+        })
+    }
 }

@@ -1,6 +1,6 @@
 use Rattle.std.proofs.Common.{◌∙◌, ap}
 use Rattle.pack_defs.specs.Lists.{is_ascending}
-use Rattle.auction_cmd.proofs.AskedLemmas.{asked-ascend}
+use Rattle.auction_core.proofs.AskedLemmas.{asked-ascend}
 use Rattle.auction_cmd.proofs.plain_rule.ask.Goals as goal
 
 pub fits-requires : goal.fits-requires

@@ -1,5 +1,5 @@
 use Rattle.std.proofs.Common.{◌≡◌, ◌∙◌, ◌<◌, ◌++◌, ◌∷◌, [], true, false, length, ap, sym, arith, subst, List, ℕ}
-use Rattle.auction_cmd.proofs.AskedLemmas.{asked-passed, asked-taken}
+use Rattle.auction_core.proofs.AskedLemmas.{asked-passed, asked-taken}
 use Rattle.auction_cmd.proofs.plain_rule.asked.Goals as goal
 
 pub loop-i-preserved-then-not-is_asked : goal.loop-i-preserved-then-not-is_asked

@@ -1,6 +1,6 @@
 use Rattle.std.proofs.Common.{◌≡◌, length, take}
 use Rattle.pack_defs.specs.Scenario.{facilities}
-use Rattle.auction_cmd.specs.Clock.{asked_by}
+use Rattle.auction_core.specs.Clock.{asked_by}
 use Rattle.auction_cmd.proofs.plain_rule.asked.Given as goal
 
 abbrev pub invariant-loop-i : goal.invariant-loop-i

@@ -3,12 +3,12 @@ use Rattle.pack_defs.specs.declared.station.Station.{Station}
 use Rattle.pack_defs.specs.Scenario.{facilities}
 use Rattle.pack_defs.specs.Prices.{offer}
 use Rattle.pack_defs.specs.ClockRule.{after_tests, is_active, opening_state}
-use Rattle.auction_cmd.specs.declared.clock.Standing.{Standing}
-use Rattle.auction_cmd.specs.declared.clock.Standing.TheVariants.{Active}
+use Rattle.auction_core.specs.declared.clock.Standing.{Standing}
+use Rattle.auction_core.specs.declared.clock.Standing.TheVariants.{Active}
 use Rattle.auction_cmd.specs.Backed.{shows_room}
-use Rattle.auction_cmd.specs.Clock.{answered_standing}
+use Rattle.auction_core.specs.Clock.{answered_standing}
 use Rattle.auction_cmd.specs.PlainRule.{IsAfter, map_after, most_paid, paid, test_at, tests_before}
-use Rattle.auction_cmd.proofs.ClockLemmas.{facility_at, is_active_at, length-standings}
+use Rattle.auction_core.proofs.ClockLemmas.{facility_at, is_active_at, length-standings}
 use Rattle.auction_cmd.proofs.CourseLemmas.{one_more}
 use Rattle.auction_cmd.proofs.RoundLemmas.{comes_next, offer_at_most, paid_at_most, passed_over}
 use Rattle.auction_cmd.proofs.plain_rule.step.Goals as goal

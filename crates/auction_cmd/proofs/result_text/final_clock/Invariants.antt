@@ -1,6 +1,6 @@
 use Rattle.std.proofs.Common.{take}
 use Rattle.auction_cmd.specs.Backed.{after_steps, start_point}
-use Rattle.auction_cmd.specs.Clock.{AreStandings}
+use Rattle.auction_core.specs.Clock.{AreStandings}
 use Rattle.auction_cmd.proofs.result_text.final_clock.Given as goal
 
 abbrev pub invariant-loop-step : goal.invariant-loop-step

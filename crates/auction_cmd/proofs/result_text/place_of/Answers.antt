@@ -2,7 +2,7 @@
 use Rattle.std.proofs.Common.{rules}
 use Rattle.std.proofs.lemmas.List.Sorted.{answers_always}
 use Rattle.pack_defs.specs.declared.station.Station.{Station}
-use Rattle.auction_cmd.proofs.Places.{place-found}
+use Rattle.auction_core.proofs.Places.{place-found}
 use Rattle.auction_cmd.proofs.result_text.place_of.Goals as goal
 
 pub returns : goal.returns

@@ -1,6 +1,6 @@
 -- Each row is the line of the station at that place.
 use Rattle.std.proofs.Common.{None}
-use Rattle.auction_cmd.specs.declared.clock.Standing.TheVariants.{Active}
+use Rattle.auction_core.specs.declared.clock.Standing.TheVariants.{Active}
 use Rattle.auction_cmd.proofs.RowLemmas.{rows_more}
 use Rattle.auction_cmd.proofs.result_text.standings_csv.Goals as goal
 

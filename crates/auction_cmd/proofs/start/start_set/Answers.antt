@@ -2,7 +2,7 @@ use Rattle.std.proofs.Common.{◌≡◌, ◌∙◌, ◌<◌, ◌++◌, ◌∷◌
 use Rattle.pack_defs.specs.declared.station.Station.{Station}
 use Rattle.pack_defs.specs.Scenario.{facilities}
 use Rattle.auction_cmd.proofs.StartLemmas.{starts-passed, starts-taken}
-use Rattle.auction_cmd.proofs.ClockLemmas.{facility_at}
+use Rattle.auction_core.proofs.ClockLemmas.{facility_at}
 use Rattle.auction_cmd.proofs.start.start_set.Goals as goal
 
 abbrev none : Station

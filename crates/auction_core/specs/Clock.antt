@@ -7,8 +7,8 @@ use Rattle.pack_defs.specs.Scenario.{facilities}
 use Rattle.pack_defs.specs.Prices.{offer}
 use Rattle.pack_defs.specs.ClockRule.{ClockTest, ClockState, OnAirSince, FrozenAt, exits}
 use Rattle.pack_defs.specs.Standing.{entries_of}
-use Rattle.auction_cmd.specs.declared.clock.Standing.{Standing}
-use Rattle.auction_cmd.specs.declared.clock.Standing.TheVariants.{Active, OnAir, Frozen}
+use Rattle.auction_core.specs.declared.clock.Standing.{Standing}
+use Rattle.auction_core.specs.declared.clock.Standing.TheVariants.{Active, OnAir, Frozen}
 
 -- the station is still asked
 abbrev pub stands_active : Standing → Bool

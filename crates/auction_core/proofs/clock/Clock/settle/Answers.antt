@@ -2,9 +2,9 @@
 use Rattle.std.proofs.Common.{◌-◌, ap, sym, arith, set, None, ℕ}
 use Rattle.pack_defs.specs.declared.station.Station.{Station}
 use Rattle.pack_defs.proofs.PriceLaws.{prices_rounds}
-use Rattle.auction_cmd.specs.declared.clock.Standing.TheVariants.{Frozen}
-use Rattle.auction_cmd.proofs.ClockLemmas.{offer_at}
-use Rattle.auction_cmd.proofs.clock.Clock.settle.Goals as goal
+use Rattle.auction_core.specs.declared.clock.Standing.TheVariants.{Frozen}
+use Rattle.auction_core.proofs.ClockLemmas.{offer_at}
+use Rattle.auction_core.proofs.clock.Clock.settle.Goals as goal
 
 pub offer-requires : goal.offer-requires
 offer-requires c = rw c.requires.schedule (omega (arith, prices_rounds c.args.sc.now))

@@ -17,10 +17,10 @@ use Rattle.pack_defs.proofs.Members.{Contains-here, Contains-there, Contains-map
 use Rattle.pack_defs.proofs.PriceLaws.{volume_own, value_own}
 use Rattle.pack_defs.proofs.Rounds.{apart_from_increasing, first_price}
 use Rattle.pack_defs.proofs.Standings.{each_once}
-use Rattle.auction_cmd.specs.declared.clock.Standing.{Standing}
-use Rattle.auction_cmd.specs.declared.clock.Standing.TheVariants.{Active, OnAir, Frozen}
-use Rattle.auction_cmd.specs.Clock.{AreStandings, standing_from, standing_of, answered_standing, stands_active, stands_on_air, declines_offer, opening_standing, stations_by, on_air_by, asked_by}
-use Rattle.auction_cmd.proofs.Finds.{find_cases, find-push_new, find-push_other, count-without, is_in-here, is_in-later, set-map}
+use Rattle.auction_core.specs.declared.clock.Standing.{Standing}
+use Rattle.auction_core.specs.declared.clock.Standing.TheVariants.{Active, OnAir, Frozen}
+use Rattle.auction_core.specs.Clock.{AreStandings, standing_from, standing_of, answered_standing, stands_active, stands_on_air, declines_offer, opening_standing, stations_by, on_air_by, asked_by}
+use Rattle.auction_core.proofs.Finds.{find_cases, find-push_new, find-push_other, count-without, is_in-here, is_in-later, set-map}
 
 -- the one standing that is active
 pub active-is : (x : Standing) → stands_active x ≡ true → x ≡ Active

@@ -6,12 +6,12 @@ use Rattle.std.proofs.lemmas.List.{append-nil, length-map}
 use Rattle.pack_defs.specs.declared.scenario.Scenario.{Scenario}
 use Rattle.pack_defs.specs.declared.station.Station.{Station}
 use Rattle.pack_defs.specs.Scenario.{facilities}
-use Rattle.auction_cmd.specs.declared.clock.Standing.{Standing}
+use Rattle.auction_core.specs.declared.clock.Standing.{Standing}
 use Rattle.pack_defs.specs.Scenario.{StationsAscend}
 use Rattle.pack_defs.specs.Lists.{is_ascending, is_in}
 use Rattle.pack_defs.proofs.Words.{ascending-from, ascending-rest, below-later}
-use Rattle.auction_cmd.specs.Clock.{asked_by, stands_on_air, stations_by}
-use Rattle.auction_cmd.proofs.ClockLemmas.{facility_at, stations_by_more}
+use Rattle.auction_core.specs.Clock.{asked_by, stands_on_air, stations_by}
+use Rattle.auction_core.proofs.ClockLemmas.{facility_at, stations_by_more}
 
 next : (s : ℕ) (sc : Scenario) (v : List Standing) (i : ℕ) (x : Station) (y : Standing) (b : Bool) → i < length sc.stations → length v ≡ length sc.stations → b ≡ (stands_on_air (get_or v i y) || (eqb (get_or sc.stations i x).id s)) → asked_by s (take (i + 1) (facilities sc)) (take (i + 1) v) ≡ asked_by s (take i (facilities sc)) (take i v) ++ cond b ((get_or sc.stations i x).id ∷ []) []
 next s sc v i x y b h same is =

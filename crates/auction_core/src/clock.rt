@@ -4,7 +4,7 @@ ghost use Rattle.std.specs.Prelude.{◌≡◌, ◌<◌, ◌≤◌, ◌*◌, IfOk
 ghost use Rattle.pack_defs.specs.Scenario.{IsWithinLimits, facilities};
 ghost use Rattle.pack_defs.specs.Prices.{last_round, prices};
 ghost use Rattle.pack_defs.specs.ClockRule.{exits, opening_state};
-ghost use Rattle.auction_cmd.specs.Clock.{AreStandings, answered_standing, declines_offer, opening_standing, stands_active};
+ghost use Rattle.auction_core.specs.Clock.{AreStandings, answered_standing, declines_offer, opening_standing, stands_active};
 
 use offer_sched::offers::{last_round, offer};
 use pack_defs::scenario::Scenario;
@@ -31,7 +31,7 @@ pub struct Clock {
 
 impl Model for Clock {
     ghost use Rattle.std.specs.Prelude.{List};
-    ghost use Rattle.auction_cmd.specs.declared.clock.Standing.{Standing};
+    ghost use Rattle.auction_core.specs.declared.clock.Standing.{Standing};
 
     ghost Value = { List Standing };
 

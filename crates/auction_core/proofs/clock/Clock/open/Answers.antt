@@ -2,10 +2,10 @@
 use Rattle.std.proofs.Common.{◌≡◌, ◌∙◌, ap, subst, sym, map, List}
 use Rattle.std.proofs.lemmas.List.{take_all}
 use Rattle.pack_defs.specs.ClockRule.{opening_state}
-use Rattle.auction_cmd.specs.declared.clock.Standing.{Standing}
-use Rattle.auction_cmd.specs.Clock.{AreStandings, opening_standing}
-use Rattle.auction_cmd.proofs.ClockLemmas.{opening-standings}
-use Rattle.auction_cmd.proofs.clock.Clock.open.Goals as goal
+use Rattle.auction_core.specs.declared.clock.Standing.{Standing}
+use Rattle.auction_core.specs.Clock.{AreStandings, opening_standing}
+use Rattle.auction_core.proofs.ClockLemmas.{opening-standings}
+use Rattle.auction_core.proofs.clock.Clock.open.Goals as goal
 
 pub returns : goal.returns
 returns c =

@@ -5,8 +5,8 @@ use Rattle.pack_defs.specs.declared.station.Station.{Station}
 use Rattle.pack_defs.specs.Prices.{declines, last_round}
 use Rattle.pack_defs.specs.Scenario.{facilities}
 use Rattle.pack_defs.proofs.PriceLaws.{prices_rounds}
-use Rattle.auction_cmd.proofs.ClockLemmas.{declines_at}
-use Rattle.auction_cmd.proofs.clock.exits.Goals as goal
+use Rattle.auction_core.proofs.ClockLemmas.{declines_at}
+use Rattle.auction_core.proofs.clock.exits.Goals as goal
 
 pub offer-requires : goal.offer-requires
 offer-requires c = rw c.requires.schedule (omega (arith, prices_rounds c.args.sc.now, c.last_round.ensures))
