@@ -1,6 +1,7 @@
 //! The auction's core: what each posting of a worker does, and what a finished record shows.
 #![tactic(auto)]
 
+pub mod air_map;
 pub mod clock;
 pub mod laws;
 pub mod notes;

@@ -4,16 +4,32 @@ ghost use Rattle.pack_defs.specs.Lists.{is_ascending};
 ghost use Rattle.packing_graph.specs.Sets.{with_station};
 
 use crate::reach::reached;
+use crate::station_set::{ListedStations, StationSet};
 use pack_defs::book::Book;
 use std::alloc::{AllocError as NoMemory, Global};
 use std::collections::BTreeSet;
 
 /// The stations that `s` reaches by pairs of the book among the stations on air, ascending, with `s`. It costs what
-/// these stations and their pairs cost: for each of them its `neighbours`, and for each neighbour a search by halves in
-/// `on` and one in the ordered set of those reached. The only error is want of memory.
+/// `component_among` does, with a search by halves in `on` for each question. The only error is want of memory.
 pub fn component(alloc: Global, book: &Book, on: &[u32], s: u32) -> Result<Vec<u32>, NoMemory>
     requires { IsTrue (is_ascending on.now) }
     ensures { IfOk result (λ stations. stations.items ≡ component book.now (with_station on.now s) s) }
+{
+    component_among(alloc, book, &ListedStations { list: on }, s)
+}
+
+/// The stations that `s` reaches by pairs of the book among the stations of a set, ascending, with `s`. It costs what these
+/// stations and their pairs cost, whatever the size of the set: for each of them its `neighbours`, and for each neighbour
+/// one question to `on` and a search by halves in the ordered set of those reached. The only error is want of memory.
+pub fn component_among<S: StationSet>(
+    alloc: Global,
+    book: &Book,
+    on: &S,
+    s: u32,
+) -> Result<Vec<u32>, NoMemory>
+    requires { IsTrue (is_ascending (S.stations on.now)) }
+    ensures component { IfOk result (λ stations. stations.items ≡ component book.now (with_station (S.stations on.now) s) s) }
+    ensures ascending { IfOk result (λ stations. IsTrue (is_ascending stations.items)) }
 {
     let seen = reached(alloc, book, on, s)?;
     listed(alloc, seen)

@@ -5,5 +5,6 @@ pub mod component;
 pub mod laws;
 pub mod neighbours;
 mod reach;
+pub mod station_set;
 #[cfg(test)]
 mod tests;

@@ -1,22 +1,27 @@
 //! A walk over the stations on air, from one to those that interfere with it, and on.
 
-ghost use Rattle.std.specs.Prelude.{◌≡◌, ℕ, IfOk, IsTrue, OnOk};
+ghost use Rattle.std.specs.Prelude.{◌≡◌, ℕ, IfOk, OnOk};
 ghost use Rattle.std.specs.BTreeSet.{contains};
 ghost use Rattle.std.specs.Ordering.{nat_cmp};
 ghost use Rattle.pack_defs.specs.Components.{component};
-ghost use Rattle.pack_defs.specs.Lists.{is_ascending, is_in};
+ghost use Rattle.pack_defs.specs.Lists.{is_in};
 ghost use Rattle.packing_graph.specs.Sets.{with_station};
 ghost use Rattle.packing_graph.specs.Walks.{IsVisited};
 
 use crate::neighbours::neighbours;
+use crate::station_set::StationSet;
 use pack_defs::book::Book;
 use std::alloc::{AllocError as NoMemory, Global};
 use std::collections::BTreeSet;
 
 /// The stations that `s` reaches by pairs of the book among the stations on air, with `s`.
-pub fn reached(alloc: Global, book: &Book, on: &[u32], s: u32) -> Result<BTreeSet<u32>, NoMemory>
-    requires { IsTrue (is_ascending on.now) }
-    ensures { IfOk result (λ seen. (t : ℕ) → contains nat_cmp seen t ≡ is_in (component book.now (with_station on.now s) s) t) }
+pub fn reached<S: StationSet>(
+    alloc: Global,
+    book: &Book,
+    on: &S,
+    s: u32,
+) -> Result<BTreeSet<u32>, NoMemory>
+    ensures { IfOk result (λ seen. (t : ℕ) → contains nat_cmp seen t ≡ is_in (component book.now (with_station (S.stations on.now) s) s) t) }
 {
     let mut seen = BTreeSet::new(alloc);
     seen.insert(s)?;
@@ -29,17 +34,16 @@ pub fn reached(alloc: Global, book: &Book, on: &[u32], s: u32) -> Result<BTreeSe
 }
 
 // Adds those of these neighbours that are on air, and lets each one that is new wait for its own visit.
-fn visit(
-    on: &[u32],
+fn visit<S: StationSet>(
+    on: &S,
     near: &[u32],
     seen: &mut BTreeSet<u32>,
     waiting: &mut Vec<u32>,
 ) -> Result<(), NoMemory>
-    requires { IsTrue (is_ascending on.now) }
-    ensures { OnOk result (IsVisited on.now near.now (contains nat_cmp seen.old) waiting.old.items (contains nat_cmp seen.new) waiting.new.items) }
+    ensures { OnOk result (IsVisited (S.stations on.now) near.now (contains nat_cmp seen.old) waiting.old.items (contains nat_cmp seen.new) waiting.new.items) }
 {
     for t in near {
-        if on.binary_search(t).is_err() {
+        if !on.has(*t) {
             continue;
         }
         if seen.insert(*t)? {

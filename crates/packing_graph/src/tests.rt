@@ -1,9 +1,11 @@
-ghost use Rattle.std.specs.Prelude.{◌≡◌, IfOk, IsTrue};
+ghost use Rattle.std.specs.Prelude.{◌≡◌, IfOk, IsTrue, false, filter, get_or};
+ghost use Rattle.std.specs.List.{range_with_len};
 ghost use Rattle.pack_defs.specs.Lists.{is_ascending};
 ghost use Rattle.pack_defs.specs.Book.{pairs_ascend};
 
-use crate::component::component;
+use crate::component::{component, component_among};
 use crate::neighbours::neighbours;
+use crate::station_set::StationSet;
 use pack_defs::book::Book;
 use pack_defs::domain::Domain;
 use pack_defs::items::Items;
@@ -11,11 +13,11 @@ use pack_defs::pair::Pair;
 use std::alloc::{AllocError, Global};
 use std::test::Fail;
 
-// A station that may use channel 14.
-fn on_14(alloc: Global, station: u32) -> Result<Domain, AllocError>
+// A station that may use channels 14 and 15.
+fn on_two(alloc: Global, station: u32) -> Result<Domain, AllocError>
     ensures { IfOk result (λ d. (d.station ≡ station) × IsTrue (is_ascending d.channels)) }
 {
-    let channels = Items::from_vec(Vec::from_slice(alloc, &[14])?);
+    let channels = Items::from_vec(Vec::from_slice(alloc, &[14, 15])?);
     Ok(Domain { station, channels })
 }
 
@@ -26,17 +28,24 @@ fn apart(f: u32, g: u32) -> Pair
     Pair { f, a: 14, g, b: 14 }
 }
 
+// Two stations of which the first may not use channel 14 where the second uses channel 15.
+fn apart_across(f: u32, g: u32) -> Pair
+    ensures { result ≡ record { f = f; a = 14; g = g; b = 15 } }
+{
+    Pair { f, a: 14, g, b: 15 }
+}
+
 // Four stations with these pairs.
 fn four_stations(alloc: Global, pairs: &[Pair]) -> Result<Book, AllocError>
     requires { IsTrue (pairs_ascend pairs.now) }
 {
     let domains = [
-        on_14(alloc, 1)?,
-        on_14(alloc, 2)?,
-        on_14(alloc, 3)?,
-        on_14(alloc, 4)?,
+        on_two(alloc, 1)?,
+        on_two(alloc, 2)?,
+        on_two(alloc, 3)?,
+        on_two(alloc, 4)?,
     ];
-    Book::build(alloc, 14, &[1, 2, 3, 4], &domains, pairs)
+    Book::build(alloc, 15, &[1, 2, 3, 4], &domains, pairs)
 }
 
 #[test]
@@ -74,6 +83,50 @@ fn no_way_through_a_station_off_air(rt: HostRuntime) -> Result<(), Fail> {
     assert_eq!(rt;
         component(alloc, &book, &[3, 4], 3)?.as_slice(),
         [3, 4].as_slice()
+    );
+    Ok(())
+}
+
+#[test]
+fn joined_by_a_pair_across_channels(rt: HostRuntime) -> Result<(), Fail> {
+    let alloc = rt.alloc();
+    let book = four_stations(alloc, &[apart(1, 2), apart_across(2, 4)])?;
+    assert_eq!(rt;
+        component(alloc, &book, &[2, 3, 4], 1)?.as_slice(),
+        [1, 2, 4].as_slice()
+    );
+    assert_eq!(rt; neighbours(alloc, &book, 4)?.as_slice(), [2].as_slice());
+    Ok(())
+}
+
+// The stations below 5 whose place is marked.
+#[derive(Drop)]
+struct Marks {
+    marks: [bool; 5],
+}
+
+impl StationSet for Marks {
+    ghost stations = { λ set. filter (λ s. get_or set.marks s false) (range_with_len 0 5) };
+
+    fn has(&self, station: u32) -> bool {
+        station < 5 && self.marks[station as usize]
+    }
+}
+
+#[test]
+fn among_marked_stations(rt: HostRuntime) -> Result<(), Fail> {
+    let alloc = rt.alloc();
+    let book = four_stations(alloc, &[apart(1, 2), apart(2, 3), apart(3, 4)])?;
+    let on = Marks {
+        marks: [false, true, true, false, true],
+    };
+    assert_eq!(rt;
+        component_among(alloc, &book, &on, 1)?.as_slice(),
+        [1, 2].as_slice()
+    );
+    assert_eq!(rt;
+        component_among(alloc, &book, &on, 3)?.as_slice(),
+        [1, 2, 3, 4].as_slice()
     );
     Ok(())
 }

@@ -8,16 +8,19 @@ use Rattle.packing_graph.proofs.WalkLemmas.{has_more, none-in}
 use Rattle.packing_graph.proofs.reach.reached.Goals as goal
 
 pub loop-next-init : goal.loop-next-init
-loop-next-init c =
-    rw c.in_ok-waiting.ensures.items (walk-start c.args.book.now c.args.on.now c.args.s (contains nat_cmp c.new-seen.result) (contains nat_cmp c.insert.new.self) (none-in c.new-seen.result c.new-seen.ensures.empty) (has_more c.new-seen.result c.insert.new.self c.args.s c.in_ok-insert.ensures.updates))
+loop-next-init g c =
+    let on = g.S.StationSet.stations c.args.on.now in
+    rw c.in_ok-waiting.ensures.items (walk-start c.args.book.now on c.args.s (contains nat_cmp c.new-seen.result) (contains nat_cmp c.insert.new.self) (none-in c.new-seen.result c.new-seen.ensures.empty) (has_more c.new-seen.result c.insert.new.self c.args.s c.in_ok-insert.ensures.updates))
 
 pub loop-next-preserved : goal.loop-next-preserved
-loop-next-preserved c =
-    let before : IsWalk c.args.book.now c.args.on.now c.args.s (contains nat_cmp c.loop-next.seen) _ = subst (λ ts. IsWalk c.args.book.now c.args.on.now c.args.s (contains nat_cmp c.loop-next.seen) ts) c.in-Some.ensures.items c.loop-next.invariant in
+loop-next-preserved g c =
+    let on = g.S.StationSet.stations c.args.on.now in
+    let before : IsWalk c.args.book.now on c.args.s (contains nat_cmp c.loop-next.seen) _ = subst (λ ts. IsWalk c.args.book.now on c.args.s (contains nat_cmp c.loop-next.seen) ts) c.in-Some.ensures.items c.loop-next.invariant in
     let near : (t : ℕ) → is_in c.deref.result.now t ≡ interferes c.args.book.now c.in-Some.next t = λ t. ap (λ xs. is_in xs t) c.deref.ensures.value ∙ c.in_ok-near.ensures.interfere t in
-    walk-step c.args.book.now c.args.on.now c.deref.result.now c.args.s c.in-Some.next (contains nat_cmp c.loop-next.seen) (contains nat_cmp c.visit.new.seen) c.pop.new.self.items c.visit.new.waiting.items before near c.in_ok-visit.ensures
+    walk-step c.args.book.now on c.deref.result.now c.args.s c.in-Some.next (contains nat_cmp c.loop-next.seen) (contains nat_cmp c.visit.new.seen) c.pop.new.self.items c.visit.new.waiting.items before near c.in_ok-visit.ensures
 
 pub returns : goal.returns
-returns c =
+returns g c =
+    let on = g.S.StationSet.stations c.args.on.now in
     let none : length c.loop-next.waiting.items ≡ 0 = omega (arith, c.loop-next.waiting.ok.0, c.in_default.ensures.cases.0) in
-    walk-done c.args.book.now c.args.on.now c.args.s (contains nat_cmp c.loop-next.seen) c.loop-next.waiting.items none c.loop-next.invariant
+    walk-done c.args.book.now on c.args.s (contains nat_cmp c.loop-next.seen) c.loop-next.waiting.items none c.loop-next.invariant

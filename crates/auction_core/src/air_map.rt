@@ -1,0 +1,210 @@
+//! The channel map of the stations on air, kept so that it is overwritten in place.
+
+ghost use Rattle.std.specs.Prelude.{◌≡◌, ◌<◌, ℕ, [], ◌∷◌, IfOk, IsTrue, MatchOption, false, get_or, length, map};
+ghost use Rattle.pack_defs.specs.ChannelMap.{IsAscending, channel_of, overlaid, put};
+ghost use Rattle.pack_defs.specs.Lists.{has_station, is_ascending, is_in};
+ghost use Rattle.auction_core.specs.AirMap.{placed_entries};
+ghost use Rattle.auction_core.specs.State.{restricted};
+
+use pack_defs::channel_map::ChannelMap;
+use pack_defs::station::Station;
+use std::alloc::{AllocError as NoMemory, Global};
+use std::marker::Model;
+
+/// A place for the channel of each station of an auction, ascending by station. A station on air has a channel there.
+#[derive(Debug, Drop)]
+pub struct AirMap {
+    stations: Vec<u32>,
+    channels: Vec<Option<u8>>,
+}
+
+impl Model for AirMap {
+    ghost use Rattle.std.specs.Prelude.{◌≡◌, IsTrue, length};
+    ghost use Rattle.pack_defs.specs.Lists.{is_ascending};
+    ghost use Rattle.auction_core.specs.AirMap.{AirMapView, placed_entries};
+
+    ghost Value = { AirMapView };
+
+    ghost view = { λ m. record { stations = m.stations.items; entries = placed_entries m.stations.items m.channels.items } };
+
+    ghost invariant = { λ m. IsTrue (is_ascending m.stations.items) × (length m.channels.items ≡ length m.stations.items) };
+}
+
+impl AirMap {
+    /// A place for each of these stations, none of them on air. The only error is want of memory.
+    pub fn none(alloc: Global, stations: &[Station]) -> Result<AirMap, NoMemory>
+        requires { IsTrue (is_ascending (map (λ x. x.id) stations.now)) }
+        ensures { IfOk result (λ m. m ≡ record { stations = map (λ x. x.id) stations.now; entries = [] }) }
+    {
+        let mut ids = Vec::with_capacity(alloc, stations.len())?;
+        let mut channels = Vec::with_capacity(alloc, stations.len())?;
+        for station in stations {
+            ids.push(station.id)?;
+            channels.push(None)?;
+        }
+        Ok(AirMap {
+            stations: ids,
+            channels,
+        })
+    }
+
+    /// The channel of a station, if it is on air. It searches by halves.
+    pub fn channel(&self, station: u32) -> Option<u8>
+        ensures { result ≡ channel_of station self.now.entries }
+    {
+        channel_at(&self.stations, &self.channels, station)
+    }
+
+    /// Overwrites the map by the entries of another: each station of `delta` is on air on its channel there, and every
+    /// other one keeps its own. It takes no memory, and a search by halves for each entry of `delta`.
+    pub fn overlay(&mut self, delta: &ChannelMap)
+        requires { (s : ℕ) → IsTrue (has_station delta.now s) → IsTrue (is_in self.old.stations s) }
+        ensures entries { self.new.entries ≡ overlaid self.old.entries delta.now }
+        ensures stations { self.new.stations ≡ self.old.stations }
+    {
+        for entry in delta.entries() {
+            self.put(entry.0, entry.1);
+        }
+    }
+
+    // The station is on air on this channel.
+    fn put(&mut self, station: u32, channel: u8)
+        requires { IsTrue (is_in self.old.stations station) }
+        ensures entries { self.new.entries ≡ put (station, channel) self.old.entries }
+        ensures stations { self.new.stations ≡ self.old.stations }
+    {
+        let Some(place) = place_of(&self.stations, station) else {
+            unreachable!()
+        };
+        self.channels[place] = Some(channel);
+    }
+
+    /// The map on the stations of a set. It costs a search by halves for each of these. The only error is want of memory.
+    pub fn on(&self, alloc: Global, set: &[u32]) -> Result<ChannelMap, NoMemory>
+        requires { IsTrue (is_ascending set.now) }
+        ensures { IfOk result (λ m. m ≡ restricted self.now.entries set.now) }
+    {
+        let entries = placed_on(alloc, &self.stations, &self.channels, set)?;
+        ChannelMap::of(alloc, &entries)
+    }
+
+    /// The whole map, by one pass over the places. The only error is want of memory.
+    pub fn whole(&self, alloc: Global) -> Result<ChannelMap, NoMemory>
+        ensures { IfOk result (λ m. m ≡ self.now.entries) }
+    {
+        let entries = placed(alloc, &self.stations, &self.channels)?;
+        ChannelMap::of(alloc, &entries)
+    }
+}
+
+// The place of a number in a list that ascends, if it is there.
+fn place_of(stations: &[u32], station: u32) -> Option<usize>
+    requires { IsTrue (is_ascending stations.now) }
+    ensures { MatchOption result (is_in stations.now station ≡ false) (λ i. (i < length stations.now) × (get_or stations.now i 0 ≡ station)) }
+{
+    stations.binary_search(&station).ok()
+}
+
+// The channel at a station's place.
+fn channel_at(stations: &[u32], channels: &[Option<u8>], station: u32) -> Option<u8>
+    requires ascending { IsTrue (is_ascending stations.now) }
+    requires places { length channels.now ≡ length stations.now }
+    ensures { result ≡ channel_of station (placed_entries stations.now channels.now) }
+{
+    let Some(place) = place_of(stations, station) else {
+        return None;
+    };
+    channels[place]
+}
+
+// The entries of those stations of a set that have a channel at their place.
+fn placed_on(
+    alloc: Global,
+    stations: &[u32],
+    channels: &[Option<u8>],
+    set: &[u32],
+) -> Result<Vec<(u32, u8)>, NoMemory>
+    requires ascending { IsTrue (is_ascending stations.now) }
+    requires places { length channels.now ≡ length stations.now }
+    requires set { IsTrue (is_ascending set.now) }
+    ensures { IfOk result (λ entries. (entries.items ≡ restricted (placed_entries stations.now channels.now) set.now) × IsAscending entries.items) }
+{
+    let mut entries = Vec::new(alloc);
+    for station in set {
+        let Some(channel) = channel_at(stations, channels, *station) else {
+            continue;
+        };
+        entries.push((*station, channel))?;
+    }
+    Ok(entries)
+}
+
+// The entries of those stations that have a channel at their place.
+fn placed(
+    alloc: Global,
+    stations: &[u32],
+    channels: &[Option<u8>],
+) -> Result<Vec<(u32, u8)>, NoMemory>
+    requires ascending { IsTrue (is_ascending stations.now) }
+    requires places { length channels.now ≡ length stations.now }
+    ensures { IfOk result (λ entries. (entries.items ≡ placed_entries stations.now channels.now) × IsAscending entries.items) }
+{
+    let mut entries = Vec::new(alloc);
+    for (i, station) in stations.iter().enumerate() {
+        let Some(channel) = channels[i] else {
+            continue;
+        };
+        entries.push((*station, channel))?;
+    }
+    Ok(entries)
+}
+
+#[cfg(test)]
+mod tests {
+    use super::*;
+    use std::test::Fail;
+
+    // Stations 1, 4 and 6, none of them on air.
+    fn three_stations(alloc: Global) -> Result<AirMap, NoMemory>
+        ensures { IfOk result (λ m. m ≡ record { stations = 1 ∷ 4 ∷ 6 ∷ []; entries = [] }) }
+    {
+        let station = |id| Station {
+            id,
+            volume: 1,
+            value: None,
+        };
+        AirMap::none(alloc, &[station(1), station(4), station(6)])
+    }
+
+    #[test]
+    fn begins_with_none_on_air(rt: HostRuntime) -> Result<(), Fail> {
+        let alloc = rt.alloc();
+        let map = three_stations(alloc)?;
+        assert_eq!(rt; map.channel(4), None);
+        assert!(rt; map.whole(alloc)?.entries().is_empty());
+        Ok(())
+    }
+
+    #[test]
+    fn takes_what_a_delta_says(rt: HostRuntime) -> Result<(), Fail> {
+        let alloc = rt.alloc();
+        let mut map = three_stations(alloc)?;
+        map.overlay(&ChannelMap::of(alloc, &[(1, 14), (6, 15)])?);
+        map.overlay(&ChannelMap::of(alloc, &[(4, 16), (6, 17)])?);
+        assert_eq!(rt; map.channel(6), Some(17));
+        assert_eq!(rt;
+            map.whole(alloc)?.entries(),
+            [(1, 14), (4, 16), (6, 17)].as_slice()
+        );
+        Ok(())
+    }
+
+    #[test]
+    fn gives_the_part_on_a_set(rt: HostRuntime) -> Result<(), Fail> {
+        let alloc = rt.alloc();
+        let mut map = three_stations(alloc)?;
+        map.overlay(&ChannelMap::of(alloc, &[(1, 14), (6, 15)])?);
+        assert_eq!(rt; map.on(alloc, &[4, 6])?.entries(), [(6, 15)].as_slice());
+        Ok(())
+    }
+}

@@ -1,0 +1,29 @@
+//! A set of stations, however it is kept.
+
+ghost use Rattle.std.specs.Prelude.{◌≡◌, ℕ, List, IsTrue};
+ghost use Rattle.pack_defs.specs.Lists.{is_ascending, is_in};
+
+/// A set of stations that can be asked for one station at a time.
+pub trait StationSet {
+    /// The stations of the set.
+    ghost stations: { Self → List ℕ };
+
+    /// Whether the station is one of the set. It takes no memory.
+    fn has(&self, station: u32) -> bool
+        ensures { result ≡ is_in (stations self.now) station };
+}
+
+/// The stations of a list that ascends, found by halves.
+#[derive(Clone, Copy, Drop)]
+pub struct ListedStations<'a> {
+    pub list: &'a [u32],
+    pub ghost ascending: { IsTrue (is_ascending list.now) },
+}
+
+impl<'a> StationSet for ListedStations<'a> {
+    ghost stations = { λ set. set.list.now };
+
+    fn has(&self, station: u32) -> bool {
+        self.list.binary_search(&station).is_ok()
+    }
+}
