@@ -25,7 +25,7 @@ use Rattle.auction_core.specs.declared.posting.Reply.TheVariants.{Ended, WrongQu
 use Rattle.auction_core.specs.State.{CoreState, NotedSpent, shows_room, delta_of, settled, settled_unasked, go_on, started, before_start, start_unasked, opening, has_ended, test_task, start_task, first_task, task_of, past_first, answered}
 use Rattle.auction_core.specs.Take.{PostingView, fault_of, turned_away, take, after_postings}
 use Rattle.auction_core.specs.Backed.{test_of, IsValidOf, IsSettledBy, IsStartShown, IsStepShown, after_steps, AreShown, after_start}
-use Rattle.auction_core.specs.Rule.{Answers, AreValid, AreNoted, IsQuery, IsStartKept, IsAuction}
+use Rattle.auction_core.specs.Rule.{Answers, SettlesQuery, AreValid, AreNoted, IsQuery, IsStartKept, IsAuction}
 use Rattle.auction_core.proofs.Kept.{IsAtStart, IsUnderWay, Stands, IsKept, in-case, match-true, match-false}
 use Rattle.auction_core.proofs.Cases.{take-cases, with_noted, all_spent, noted_as}
 use Rattle.auction_core.proofs.Answers.{filter-in, in-filter, filter-ascending}
@@ -192,12 +192,8 @@ task-is : (sc : Scenario) (book : BookView) (state : CoreState) (o : Option Show
 unfolding task_of
 task-is sc book state o l e f = ap₂ (λ o l. if is_none o then Some (start_task sc state) else first_task sc book state l) e f
 
--- the standing query is settled by this, and is shown so
-abbrev pub Settles : Scenario → BookView → CoreState → Shown → Type 0
-Settles sc book state shown = MatchOption (task_of sc book state) ⊥ (λ task. IsSettledBy sc book task shown)
-
 -- a settled start
-settled-start : (sc : Scenario) (book : BookView) (state : CoreState) (shown : Shown) → IsAuction sc book → IsAtStart sc book state → state.start ≡ None → Settles sc book state shown → IsKept sc book (started sc book (record state { noted = []; number = state.number + 1 }) shown)
+settled-start : (sc : Scenario) (book : BookView) (state : CoreState) (shown : Shown) → IsAuction sc book → IsAtStart sc book state → state.start ≡ None → SettlesQuery sc book state shown → IsKept sc book (started sc book (record state { noted = []; number = state.number + 1 }) shown)
 settled-start sc book state shown a h e s =
     let task : task_of sc book state ≡ Some (start_task sc state) = task-is sc book state None state.left e refl in
     let k : IsSettledBy sc book (start_task sc state) shown = subst (λ o. MatchOption o ⊥ (λ task. IsSettledBy sc book task shown)) task s in
@@ -210,7 +206,7 @@ for-false P Q true e h = cc
 for-false P Q false e h = h
 
 -- a settled test
-settled-test : (sc : Scenario) (book : BookView) (start : Shown) (state : CoreState) (t : ClockTest) (ts : List ClockTest) (shown : Shown) → IsAuction sc book → IsUnderWay sc book start state → shows_room start ≡ true → IsStartShown sc book start → state.start ≡ Some start → state.left ≡ t ∷ ts → Settles sc book state shown → IsKept sc book (go_on sc book ts (settled sc (record state { noted = []; number = state.number + 1 }) t shown))
+settled-test : (sc : Scenario) (book : BookView) (start : Shown) (state : CoreState) (t : ClockTest) (ts : List ClockTest) (shown : Shown) → IsAuction sc book → IsUnderWay sc book start state → shows_room start ≡ true → IsStartShown sc book start → state.start ≡ Some start → state.left ≡ t ∷ ts → SettlesQuery sc book state shown → IsKept sc book (go_on sc book ts (settled sc (record state { noted = []; number = state.number + 1 }) t shown))
 settled-test sc book start state t ts shown a u r k e f s =
     let next : CoreState = record state { noted = []; number = state.number + 1 } in
     let task : task_of sc book state ≡ Some (test_task sc book state t) = task-is sc book state (Some start) (t ∷ ts) e f in
@@ -229,7 +225,7 @@ settled-test sc book start state t ts shown a u r k e f s =
     (none-noted sc book (go_on sc book ts after) a g.1)
 
 -- a valid verdict on the standing query keeps the rule
-pub answered-keeps : (sc : Scenario) (book : BookView) (state : CoreState) (shown : Shown) → IsAuction sc book → IsKept sc book state → has_ended state ≡ false → Settles sc book state shown → IsKept sc book (answered sc book state shown)
+pub answered-keeps : (sc : Scenario) (book : BookView) (state : CoreState) (shown : Shown) → IsAuction sc book → IsKept sc book state → has_ended state ≡ false → SettlesQuery sc book state shown → IsKept sc book (answered sc book state shown)
 answered-keeps sc book state shown a h on s =
     let next : CoreState = record state { noted = []; number = state.number + 1 } in
     let go : (o : Option Shown) (l : List ClockTest) → state.start ≡ o → state.left ≡ l → IsKept sc book (if is_none o then started sc book next shown else past_first sc book next shown l) = λ o l. elim o as (λ o. state.start ≡ o → state.left ≡ l → IsKept sc book (if is_none o then started sc book next shown else past_first sc book next shown l)) [
@@ -292,7 +288,7 @@ fit-valid sc book w delta task h =
     ] in
     go (slice_get sc.workers w) h
 
-fit-settles : (sc : Scenario) (book : BookView) (state : CoreState) (w : ℕ) (delta : List (ℕ × ℕ)) → Answers sc book state w (Fit delta) → Settles sc book state (Fits delta)
+fit-settles : (sc : Scenario) (book : BookView) (state : CoreState) (w : ℕ) (delta : List (ℕ × ℕ)) → Answers sc book state w (Fit delta) → SettlesQuery sc book state (Fits delta)
 fit-settles sc book state w delta h =
     let go : (o : Option Task) → MatchOption o ⊥ (λ task. IsValidOf sc book task w (Fit delta)) → MatchOption o ⊥ (λ task. IsSettledBy sc book task (Fits delta)) = λ o. elim o as (λ o. MatchOption o ⊥ (λ task. IsValidOf sc book task w (Fit delta)) → MatchOption o ⊥ (λ task. IsSettledBy sc book task (Fits delta))) [
       | None ↦ λ v. v

@@ -12,11 +12,15 @@ use Rattle.cert_types.specs.declared.answer.Answer.TheVariants.{Spent}
 use Rattle.auction_core.specs.declared.record.Shown.{Shown}
 use Rattle.auction_core.specs.declared.record.Shown.TheVariants.{Empty}
 use Rattle.auction_core.specs.State.{CoreState, NotedSpent, shows_room, start_unasked, task_of}
-use Rattle.auction_core.specs.Backed.{test_of, undecided_of, IsValidOf, IsStartShown, AreShown, after_steps, after_start}
+use Rattle.auction_core.specs.Backed.{test_of, undecided_of, IsValidOf, IsSettledBy, IsStartShown, AreShown, after_steps, after_start}
 
 -- there is a standing query, and a worker's answer to it is valid
 abbrev pub Answers : Scenario → BookView → CoreState → ℕ → Answer → Type 0
 Answers sc book state w answer = MatchOption (task_of sc book state) ⊥ (λ task. IsValidOf sc book task w answer)
+
+-- there is a standing query, and it is settled so
+abbrev pub SettlesQuery : Scenario → BookView → CoreState → Shown → Type 0
+SettlesQuery sc book state shown = MatchOption (task_of sc book state) ⊥ (λ task. IsSettledBy sc book task shown)
 
 -- each noted Spent is of a worker of the scenario, and is valid for the standing query
 abbrev pub AreValid : Scenario → BookView → CoreState → List NotedSpent → Type 0

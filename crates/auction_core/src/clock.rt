@@ -4,7 +4,7 @@ ghost use Rattle.std.specs.Prelude.{◌≡◌, ◌<◌, ◌≤◌, ◌*◌, IfOk
 ghost use Rattle.pack_defs.specs.Scenario.{IsWithinLimits, facilities};
 ghost use Rattle.pack_defs.specs.Prices.{last_round, prices};
 ghost use Rattle.pack_defs.specs.ClockRule.{exits, opening_state};
-ghost use Rattle.auction_core.specs.Clock.{AreStandings, answered_standing, declines_offer, opening_standing, stands_active};
+ghost use Rattle.auction_core.specs.Clock.{AreStandings, answered_standing, declines_offer, opening_standing, stands_active, stands_on_air};
 
 use offer_sched::offers::{last_round, offer};
 use pack_defs::scenario::Scenario;
@@ -21,6 +21,18 @@ pub enum Standing {
     OnAir { round: u32 },
     /// It was frozen in this round, and is paid this price, in cents.
     Frozen { round: u32, price: u64 },
+}
+
+impl Standing {
+    /// Whether the station is on air.
+    pub fn is_on_air(&self) -> bool
+        ensures { result ≡ stands_on_air self.now }
+    {
+        match self {
+            Standing::OnAir { .. } => true,
+            _ => false,
+        }
+    }
 }
 
 /// Where each station of a scenario stands, in the scenario's order.

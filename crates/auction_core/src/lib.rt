@@ -3,7 +3,11 @@
 
 pub mod air_map;
 pub mod clock;
+pub mod clockwork;
+pub mod course;
 pub mod laws;
 pub mod notes;
+pub mod on_air;
 pub mod posting;
 pub mod record;
+pub mod start;

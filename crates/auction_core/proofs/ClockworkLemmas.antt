@@ -1,0 +1,1 @@
+-- An auction between two queries.

@@ -1,0 +1,1 @@
+-- One test more of a course.
