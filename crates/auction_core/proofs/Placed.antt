@@ -99,11 +99,14 @@ put-there (s ∷ ss) (Some d ∷ cs) (suc i) c a e l =
 pub put-at : (ss : List ℕ) (cs : List (Option ℕ)) (i s c : ℕ) → is_ascending ss ≡ true → length cs ≡ length ss → (i < length ss) × (get_or ss i 0 ≡ s) → placed_entries ss (slice_set cs i (Some c)) ≡ put (s, c) (placed_entries ss cs)
 put-at ss cs i s c a e at = subst (λ t. placed_entries ss (slice_set cs i (Some c)) ≡ put (t, c) (placed_entries ss cs)) at.1 (put-there ss cs i c a e at.0)
 
--- one more station without a channel
+-- no entry without channels, and none more where one more station has none
+pub none-anywhere : (ss : List ℕ) → placed_entries ss [] ≡ []
+none-anywhere [] = refl
+none-anywhere (s ∷ ss) = refl
+
 pub none-more : (ss : List ℕ) (cs : List (Option ℕ)) → placed_entries ss (cs ++ None ∷ []) ≡ placed_entries ss cs
 none-more [] cs = refl
-none-more (s ∷ []) [] = refl
-none-more (s ∷ t ∷ ss) [] = refl
+none-more (s ∷ ss) [] = none-anywhere ss
 none-more (s ∷ ss) (None ∷ cs) = none-more ss cs
 none-more (s ∷ ss) (Some c ∷ cs) = ap (λ (es : List (ℕ × ℕ)). (s, c) ∷ es) (none-more ss cs)
 
