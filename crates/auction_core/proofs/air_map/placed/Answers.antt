@@ -1,5 +1,5 @@
 -- By the lemmas on one place more.
-use Rattle.std.proofs.Common.{rules, None, sym, refl}
+use Rattle.std.proofs.Common.{rules, None, refl}
 use Rattle.auction_core.specs.AirMap.{placed_entries}
 use Rattle.auction_core.proofs.Placed.{place-passed, places-done, placed-ascending}
 use Rattle.auction_core.proofs.air_map.placed.Goals as goal

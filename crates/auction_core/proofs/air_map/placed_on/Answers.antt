@@ -1,5 +1,5 @@
 -- By the lemmas on one station of the set more.
-use Rattle.std.proofs.Common.{rules, ◌≡◌, None, Some, sym, refl}
+use Rattle.std.proofs.Common.{rules, None, Some, refl}
 use Rattle.auction_core.specs.AirMap.{placed_entries}
 use Rattle.auction_core.proofs.Merged.{restricted-ascending}
 use Rattle.auction_core.proofs.Placed.{placed-ascending, set-done, set-passed, set-taken}

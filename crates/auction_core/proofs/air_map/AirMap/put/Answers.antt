@@ -1,5 +1,4 @@
 -- By the lemma on a channel put at a place.
-use Rattle.std.proofs.Common.{◌≡◌}
 use Rattle.auction_core.proofs.Placed.{put-at}
 use Rattle.auction_core.proofs.air_map.AirMap.put.Goals as goal
 
