@@ -1,9 +1,9 @@
 -- The entries of the stations that have a channel at their place.
-use Rattle.std.proofs.Common.{◌≡◌, ℕ, zero, suc, ◌+◌, ◌<◌, ◌≤◌, Bool, true, false, cond, ◌==◌, ◌||◌, nat_lt, List, [], ◌∷◌, ◌++◌, map, filter, drop, length, get_or, slice_set, Option, Some, None, MatchOption, Result, Ok, Err, refl, sym, ap, ◌∙◌, subst, inl, inr, arith, eq-eqb, ne_eqb, map-id, append_assoc, append-nil}
+use Rattle.std.proofs.Common.{◌≡◌, ℕ, zero, suc, ◌+◌, ◌<◌, ◌≤◌, true, false, cond, ◌==◌, ◌||◌, nat_lt, List, [], ◌∷◌, ◌++◌, map, drop, length, get_or, slice_set, Option, Some, None, MatchOption, Result, Ok, Err, refl, sym, ap, ◌∙◌, subst, inl, inr, arith, eq-eqb, ne_eqb, map-id, append_assoc, append-nil}
 use Rattle.std.specs.List.Sorted.{IsBinarySearchResult, IsSearchInRange}
 use Rattle.std.specs.Ordering.{nat_cmp}
 use Rattle.std.specs.Result.{result_ok}
-use Rattle.std.proofs.lemmas.Bool.{and_parts, and_from, or_parts, or_left, or_right, cases_order, cond-true, cond-false, lt-ltb, both_ways, false_from_ne_true}
+use Rattle.std.proofs.lemmas.Bool.{and_parts, and_from, or_parts, or_left, or_right, cases_order, cond-true, cond-false, lt-ltb, false_from_ne_true}
 use Rattle.std.proofs.lemmas.List.{drop_more, get_or_default}
 use Rattle.std.proofs.Math.ListN.{drop_of_length-le}
 use Rattle.pack_defs.specs.ChannelMap.{IsAscending, channel_of, overlaid, put}
@@ -99,11 +99,14 @@ put-there (s ∷ ss) (Some d ∷ cs) (suc i) c a e l =
 pub put-at : (ss : List ℕ) (cs : List (Option ℕ)) (i s c : ℕ) → is_ascending ss ≡ true → length cs ≡ length ss → (i < length ss) × (get_or ss i 0 ≡ s) → placed_entries ss (slice_set cs i (Some c)) ≡ put (s, c) (placed_entries ss cs)
 put-at ss cs i s c a e at = subst (λ t. placed_entries ss (slice_set cs i (Some c)) ≡ put (t, c) (placed_entries ss cs)) at.1 (put-there ss cs i c a e at.0)
 
--- one more station without a channel
+-- no entry without channels, and none more where one more station has none
+pub none-anywhere : (ss : List ℕ) → placed_entries ss [] ≡ []
+none-anywhere [] = refl
+none-anywhere (s ∷ ss) = refl
+
 pub none-more : (ss : List ℕ) (cs : List (Option ℕ)) → placed_entries ss (cs ++ None ∷ []) ≡ placed_entries ss cs
 none-more [] cs = refl
-none-more (s ∷ []) [] = refl
-none-more (s ∷ t ∷ ss) [] = refl
+none-more (s ∷ ss) [] = none-anywhere ss
 none-more (s ∷ ss) (None ∷ cs) = none-more ss cs
 none-more (s ∷ ss) (Some c ∷ cs) = ap (λ (es : List (ℕ × ℕ)). (s, c) ∷ es) (none-more ss cs)
 

@@ -1,4 +1,4 @@
--- The channel map of the stations on air, as a place for each station of the auction.
+-- The channel map of the stations on air, kept as a place for each station of the auction.
 use Rattle.std.specs.Prelude.{ℕ, List, [], ◌∷◌, Option, Some, None}
 
 -- the stations, ascending, and the entries of those on air

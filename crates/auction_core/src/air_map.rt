@@ -1,6 +1,6 @@
 //! The channel map of the stations on air, kept so that it is overwritten in place.
 
-ghost use Rattle.std.specs.Prelude.{◌≡◌, ◌<◌, ℕ, [], ◌∷◌, IfOk, IsTrue, MatchOption, false, get_or, length, map};
+ghost use Rattle.std.specs.Prelude.{◌≡◌, ◌<◌, ℕ, [], ◌∷◌, IfOk, IsTrue, List, MatchOption, false, get_or, length, map};
 ghost use Rattle.pack_defs.specs.ChannelMap.{IsAscending, channel_of, overlaid, put};
 ghost use Rattle.pack_defs.specs.Lists.{has_station, is_ascending, is_in};
 ghost use Rattle.auction_core.specs.AirMap.{placed_entries};
@@ -36,15 +36,9 @@ impl AirMap {
         requires { IsTrue (is_ascending (map (λ x. x.id) stations.now)) }
         ensures { IfOk result (λ m. m ≡ record { stations = map (λ x. x.id) stations.now; entries = [] }) }
     {
-        let mut ids = Vec::with_capacity(alloc, stations.len())?;
-        let mut channels = Vec::with_capacity(alloc, stations.len())?;
-        for station in stations {
-            ids.push(station.id)?;
-            channels.push(None)?;
-        }
         Ok(AirMap {
-            stations: ids,
-            channels,
+            stations: ids(alloc, stations)?,
+            channels: no_channels(alloc, stations.len())?,
         })
     }
 
@@ -95,6 +89,28 @@ impl AirMap {
         let entries = placed(alloc, &self.stations, &self.channels)?;
         ChannelMap::of(alloc, &entries)
     }
+}
+
+// The stations' numbers.
+fn ids(alloc: Global, stations: &[Station]) -> Result<Vec<u32>, NoMemory>
+    ensures { IfOk result (λ ids. ids.items ≡ map (λ x. x.id) stations.now) }
+{
+    let mut ids = Vec::with_capacity(alloc, stations.len())?;
+    for station in stations {
+        ids.push(station.id)?;
+    }
+    Ok(ids)
+}
+
+// So many places without a channel.
+fn no_channels(alloc: Global, places: usize) -> Result<Vec<Option<u8>>, NoMemory>
+    ensures { IfOk result (λ channels. (length channels.items ≡ places) × ((ss : List ℕ) → placed_entries ss channels.items ≡ [])) }
+{
+    let mut channels = Vec::with_capacity(alloc, places)?;
+    for _ in 0..places {
+        channels.push(None)?;
+    }
+    Ok(channels)
 }
 
 // The place of a number in a list that ascends, if it is there.

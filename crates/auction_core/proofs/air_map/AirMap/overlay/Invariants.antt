@@ -1,0 +1,9 @@
+-- What is left of the other map, over the map as it is, gives the whole.
+use Rattle.std.proofs.Common.{◌≡◌, drop}
+use Rattle.pack_defs.specs.ChannelMap.{overlaid}
+use Rattle.auction_core.proofs.air_map.AirMap.overlay.Given as goal
+
+abbrev pub invariant-loop-entry : goal.invariant-loop-entry
+invariant-loop-entry l =
+    (overlaid l.self.entries (drop l.entry-index l.entry-items) ≡ overlaid l.fn.self.entries l.delta)
+    × (l.self.stations ≡ l.fn.self.stations)
