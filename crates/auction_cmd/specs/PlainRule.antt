@@ -1,12 +1,12 @@
 -- The plain rule between two of the clock's tests.
-use Rattle.std.specs.Prelude.{◌≡◌, ◌≢◌, ◌≤◌, ◌+◌, ◌-◌, ◌*◌, ℕ, Bool, true, false, not, if◌then◌else◌, ◌&&◌, List, [], ◌++◌, map, filter, take, length, sum_by, IsFalse, slice_index}
+use Rattle.std.specs.Prelude.{◌≡◌, ◌≢◌, ◌≤◌, ◌+◌, ◌-◌, ◌*◌, ℕ, true, not, if◌then◌else◌, ◌&&◌, List, [], ◌++◌, map, filter, take, length, sum_by, IsFalse, slice_index}
 use Rattle.pack_defs.specs.declared.scenario.Scenario.{Scenario}
 use Rattle.pack_defs.specs.Book.{BookView, domain_of}
 use Rattle.pack_defs.specs.ChannelMap.{overlaid}
 use Rattle.pack_defs.specs.Packing.{IsPacking, fits}
 use Rattle.pack_defs.specs.Prices.{bidders, declines}
 use Rattle.pack_defs.specs.Scenario.{facilities}
-use Rattle.pack_defs.specs.ClockRule.{ClockTest, ClockState, after_tests, asked_from, on_air_set, opening_state, tests_of}
+use Rattle.pack_defs.specs.ClockRule.{ClockTest, after_tests, asked_from, on_air_set, opening_state, tests_of}
 use Rattle.auction_cmd.specs.declared.clock.Standing.{Standing}
 use Rattle.auction_cmd.specs.declared.clock.Standing.TheVariants.{Active, OnAir, Frozen}
 use Rattle.auction_cmd.specs.declared.plain_rule.Course.{Course}
