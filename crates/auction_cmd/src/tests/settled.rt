@@ -92,18 +92,21 @@ fn has_tests(record: &Record, tests: &[(u32, u32)]) -> bool {
             .all(|(step, test)| (step.round, step.station) == *test)
 }
 
-// Whether the record of the three stations has these tests, a total of 60, and two channels, of which none is station 3's.
+// Whether the record has these tests, a total of 60, and two channels, of which none is station 3's.
+fn is_of_three(record: &Record, tests: &[(u32, u32)]) -> bool {
+    record.total == 60
+        && record.map.len() == 2
+        && record.map.get(3).is_none()
+        && has_tests(record, tests)
+}
+
+// Whether the record of the three stations is that, with these tests.
 fn records(alloc: Global, tests: &[(u32, u32)]) -> Result<bool, NoMemory> {
     let ended = run_on(alloc, COMMAND, texts(DOMAINS, ROWS, SCENARIO))?;
     let Some(record) = &ended.finish.result else {
         return Ok(false);
     };
-    Ok(
-        record.total == 60
-            && record.map.len() == 2
-            && record.map.get(3).is_none()
-            && has_tests(record, tests),
-    )
+    Ok(is_of_three(record, tests))
 }
 
 #[test]
