@@ -144,6 +144,20 @@ fn a_scenario_is_refused(rt: HostRuntime) -> Result<(), Fail> {
             "[60,41]",
             "s.json: decrements exceed the opening\n",
         ),
+        ("\"cdcl\"", "\"walk\"", "s.json: out of limit kind at 1\n"),
+        (
+            "[{\"kind\":\"cdcl\",\"budget\":1000}]",
+            "[]",
+            "s.json: out of limit workers\n",
+        ),
+    ];
+    assert_eq!(rt; unrefused_change(rt.alloc(), &table)?, None);
+    Ok(())
+}
+
+#[test]
+fn stations_are_refused(rt: HostRuntime) -> Result<(), Fail> {
+    let table = [
         ("\"id\":2", "\"id\":1", "s.json: repeated station 1\n"),
         (
             "{\"id\":1,\"volume\":1,",
@@ -156,12 +170,6 @@ fn a_scenario_is_refused(rt: HostRuntime) -> Result<(), Fail> {
             "s.json: wrong kind value at 1\n",
         ),
         ("{\"id\":3,", "{", "s.json: missing id at 3\n"),
-        ("\"cdcl\"", "\"walk\"", "s.json: out of limit kind at 1\n"),
-        (
-            "[{\"kind\":\"cdcl\",\"budget\":1000}]",
-            "[]",
-            "s.json: out of limit workers\n",
-        ),
     ];
     assert_eq!(rt; unrefused_change(rt.alloc(), &table)?, None);
     Ok(())
