@@ -1,5 +1,5 @@
 -- How the program ends: at which status, with which record, and what it leaves outside.
-use Rattle.std.specs.Prelude.{◌≡◌, ◌≢◌, ◌<◌, ℕ, true, IsFalse, IsTrue, List, [], length, Option, Some, None, Result, Ok, Err}
+use Rattle.std.specs.Prelude.{◌≡◌, ◌≢◌, ◌<◌, ℕ, true, IsFalse, IsTrue, List, [], length, Option, Some, None, Ok, Err}
 use Rattle.pack_defs.specs.ClockRule.{ClockState, clock_rule, on_air_set}
 use Rattle.pack_defs.specs.Packing.{IsPacking, fits}
 use Rattle.pack_defs.specs.Prices.{start_set}
