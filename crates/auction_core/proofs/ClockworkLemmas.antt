@@ -1,5 +1,5 @@
 -- An auction between two queries, as the program keeps it.
-use Rattle.std.proofs.Common.{◌≡◌, ◌≢◌, ◌∙◌, ℕ, zero, suc, ◌+◌, ◌-◌, ◌*◌, ◌<◌, ◌≤◌, ◌^◌, Bool, true, false, not, cond, ◌||◌, ◌==◌, eqb, inl, inr, List, [], ◌∷◌, ◌++◌, length, map, filter, find, drop, get_or, Option, Some, None, is_none, is_some, option_map, refl, sym, ap, ap₂, subst, arith, nat_lt, unwrap_or, MatchOption, Contains, length-append}
+use Rattle.std.proofs.Common.{◌≡◌, ◌≢◌, ◌∙◌, ℕ, zero, suc, ◌+◌, ◌-◌, ◌*◌, ◌<◌, ◌≤◌, ◌^◌, Bool, true, false, not, cond, ◌||◌, ◌==◌, eqb, inl, inr, List, [], ◌∷◌, ◌++◌, length, map, filter, find, drop, get_or, Option, Some, None, is_none, is_some, option_map, refl, sym, ap, ap₂, subst, arith, nat_lt, unwrap_or, MatchBool, MatchOption, Contains, length-append}
 use Rattle.std.specs.Option.{option_map_or}
 use Rattle.std.proofs.lemmas.Bool.{cases_Bool, cond-true, cond-false, false≢true, true≢false, or_cases, or_left, or_right, both_ways, eq-eqb, eqb-true}
 use Rattle.std.proofs.lemmas.List.{length-map}
@@ -8,10 +8,14 @@ use Rattle.pack_defs.specs.declared.station.Station.{Station}
 use Rattle.pack_defs.specs.Book.{BookView, IsInOrder, domain_of}
 use Rattle.pack_defs.specs.ChannelMap.{overlaid, put}
 use Rattle.pack_defs.specs.Lists.{has_entry, has_station, is_ascending, is_in, is_empty}
+use Rattle.pack_defs.specs.Components.{component}
+use Rattle.pack_defs.specs.Packing.{IsPacking}
+use Rattle.assign_check.specs.Fault.{IsCleanOn}
 use Rattle.pack_defs.specs.Scenario.{IsWithinLimits, StationsAscend, facilities}
 use Rattle.pack_defs.specs.Prices.{bidders, declines, last_round, prices, start_set}
 use Rattle.pack_defs.specs.ClockRule.{ClockTest, ClockState, asked_set, clock_tests, is_active, is_on_air, on_air_set, tests_of}
-use Rattle.pack_defs.proofs.Words.{ascending-from, list_any-map, same-ascending}
+use Rattle.pack_defs.proofs.MapLemmas.{overlaid-all}
+use Rattle.pack_defs.proofs.Words.{ascending-from, list_any-map, same-ascending, station-in}
 use Rattle.pack_defs.proofs.Members.{is_in-from, is_in-gives}
 use Rattle.packing_graph.specs.Sets.{with_station}
 use Rattle.packing_graph.proofs.SetLemmas.{with_station-ascending, with_station-gives, with_station-has, with_station-keeps}
@@ -21,13 +25,13 @@ use Rattle.auction_core.specs.declared.record.Shown.TheVariants.{Empty, Fits, No
 use Rattle.auction_core.specs.Backed.{IsSettledBy, after_start, after_steps}
 use Rattle.auction_core.specs.Clockwork.{IsClockwork, IsOfAuction}
 use Rattle.auction_core.specs.Course.{CourseView, GivesWithin, IsAtRest, IsCourse, IsDue, IsOver, IsSettled, NeedsQuery, clock_of, core_state, has_room, left_of, test_at, tests_left}
-use Rattle.auction_core.specs.Rule.{IsAuction, KeepsTheRule, SettlesQuery}
-use Rattle.auction_core.specs.State.{CoreState, answered, before_start, delta_of, first_task, go_on, has_ended, opening, past_first, past_test, settled, settled_unasked, shows_room, start_task, start_unasked, started, task_of, test_task}
-use Rattle.auction_core.proofs.Answers.{filter-ascending, filter-in, in-filter}
+use Rattle.auction_core.specs.Rule.{IsAuction, KeepsTheRule, SettlesQuery, is_running}
+use Rattle.auction_core.specs.State.{CoreState, answered, before_start, delta_of, first_task, go_on, has_ended, opening, past_first, past_test, restricted, settled, settled_unasked, shows_room, start_task, start_unasked, started, task_of, test_task}
+use Rattle.auction_core.proofs.Answers.{component-ascending, filter-ascending, filter-in, in-filter}
 use Rattle.auction_core.proofs.CourseLemmas.{due-left, go_on-left, left-all, over-empty}
 use Rattle.auction_core.proofs.Keeps.{answered-keeps, go-on-start, opening-keeps, task-is}
 use Rattle.auction_core.proofs.Kept.{kept-rule, rule-kept}
-use Rattle.auction_core.proofs.Merged.{in-component}
+use Rattle.auction_core.proofs.Merged.{in-component, restricted-ascending}
 use Rattle.auction_core.proofs.Overlay.{its-channel}
 
 -- ---- how many tests there are
@@ -162,7 +166,7 @@ begun-state sc book old shown n fresh h room =
 
 -- ---- how many tests are left
 
-go_on-fewer : (sc : Scenario) (book : BookView) (ts : List ClockTest) (state : CoreState) → length (go_on sc book ts state).left ≤ length ts
+pub go_on-fewer : (sc : Scenario) (book : BookView) (ts : List ClockTest) (state : CoreState) → length (go_on sc book ts state).left ≤ length ts
 go_on-fewer sc book [] state = omega arith
 go_on-fewer sc book (t ∷ ts) state =
     let at : CoreState = record state { left = t ∷ ts } in
@@ -175,14 +179,14 @@ go_on-fewer sc book (t ∷ ts) state =
       | false ↦ let rest = go_on-fewer sc book ts state in omega (arith, rest)
     ]
 
-started-fewer : (sc : Scenario) (book : BookView) (state : CoreState) (shown : Shown) → state.left ≡ [] → length (started sc book state shown).left ≤ length (clock_tests sc)
+pub started-fewer : (sc : Scenario) (book : BookView) (state : CoreState) (shown : Shown) → state.left ≡ [] → length (started sc book state shown).left ≤ length (clock_tests sc)
 started-fewer sc book state shown none =
     elim (shows_room shown) as (λ b. length (cond b (go_on sc book (clock_tests sc) (record state { start = Some shown; map = overlaid state.map (delta_of shown) })) (record state { start = Some shown })).left ≤ length (clock_tests sc)) [
       | true ↦ go_on-fewer sc book (clock_tests sc) (record state { start = Some shown; map = overlaid state.map (delta_of shown) })
       | false ↦ let nought : length state.left ≡ 0 = ap length none in omega (arith, nought)
     ]
 
-started-start : (sc : Scenario) (book : BookView) (state : CoreState) (shown : Shown) → (started sc book state shown).start ≡ Some shown
+pub started-start : (sc : Scenario) (book : BookView) (state : CoreState) (shown : Shown) → (started sc book state shown).start ≡ Some shown
 started-start sc book state shown =
     elim (shows_room shown) as (λ b. (cond b (go_on sc book (clock_tests sc) (record state { start = Some shown; map = overlaid state.map (delta_of shown) })) (record state { start = Some shown })).start ≡ Some shown) [
       | true ↦ (go-on-start sc book (clock_tests sc) (record state { start = Some shown; map = overlaid state.map (delta_of shown) })).0
@@ -379,3 +383,75 @@ with-station sc st s ascend there =
       | inl air ↦ is_in-from (with_station on s) z (with_station-keeps on s z (is_in-gives on z (in-filter (λ f. is_on_air st f) (facilities sc) z parts.0 air)))
       | inr same ↦ subst (λ y. is_in (with_station on s) y ≡ true) (sym (eqb-true z s same)) (is_in-from (with_station on s) s (with_station-has on s))
     ])
+
+-- ---- what a query's task is
+
+-- what holds of the start's query and of each test's holds of the standing one
+pub task-has : (sc : Scenario) (book : BookView) (state : CoreState) (P : Task → Type 0) → P (start_task sc state) → ((t : ClockTest) → P (test_task sc book state t)) → (task : Task) → task_of sc book state ≡ Some task → P task
+task-has sc book state P start test task e =
+    let go : (o : Option Shown) (l : List ClockTest) → cond (is_none o) (Some (start_task sc state)) (first_task sc book state l) ≡ Some task → P task = λ o l. elim o as (λ o. cond (is_none o) (Some (start_task sc state)) (first_task sc book state l) ≡ Some task → P task) [
+      | None ↦ λ k. let same : start_task sc state ≡ task = cc in subst P same start
+      | Some shown ↦ elim l as (λ l. first_task sc book state l ≡ Some task → P task) [
+        | [] ↦ λ k. cc
+        | t ∷ ts ↦ λ k. let same : test_task sc book state t ≡ task = cc in subst P same (test t)
+      ]
+    ] in
+    go state.start state.left (sym (task-is sc book state state.start state.left refl refl) ∙ e)
+
+-- its set ascends
+pub task-rises : (sc : Scenario) (book : BookView) (state : CoreState) (task : Task) → StationsAscend sc → task_of sc book state ≡ Some task → is_ascending task.set ≡ true
+task-rises sc book state task ascend e =
+    let rises = ascending-from (facilities sc) ascend in
+    task-has sc book state (λ task. is_ascending task.set ≡ true)
+    (filter-ascending (λ f. declines sc f 0) (facilities sc) rises)
+    (λ t. component-ascending book (asked_set sc state.clock t.station) t.station (filter-ascending (λ f. is_on_air state.clock f || (f == t.station)) (facilities sc) rises))
+    task e
+
+-- the auction's map ascends
+map-rises : (sc : Scenario) (book : BookView) (state : CoreState) → StationsAscend sc → KeepsTheRule sc book state → is_ascending (map (λ y. y.0) state.map) ≡ true
+map-rises sc book state ascend k =
+    let go : (b : Bool) → MatchBool b (IsPacking book (on_air_set sc state.clock) state.map) (state.map ≡ []) → is_ascending (map (λ y. y.0) state.map) ≡ true = λ b. elim b as (λ b. MatchBool b (IsPacking book (on_air_set sc state.clock) state.map) (state.map ≡ []) → is_ascending (map (λ y. y.0) state.map) ≡ true) [
+      | true ↦ λ packing. subst (λ xs. is_ascending xs ≡ true) (sym packing.stations) (filter-ascending (λ f. is_on_air state.clock f) (facilities sc) (ascending-from (facilities sc) ascend))
+      | false ↦ λ none. subst (λ (m : List (ℕ × ℕ)). is_ascending (map (λ y. y.0) m) ≡ true) (sym none) refl
+    ] in
+    go (is_running state) k.map
+
+restricted-in : (m : List (ℕ × ℕ)) (set : List ℕ) (s : ℕ) → is_in (map (λ y. y.0) (restricted m set)) s ≡ true → is_in set s ≡ true
+restricted-in [] set s h = absurd (false≢true h)
+restricted-in (x ∷ xs) set s h =
+    (elim (is_in set x.0) as (λ b. is_in set x.0 ≡ b → is_in (map (λ y. y.0) (cond b (x ∷ restricted xs set) (restricted xs set))) s ≡ true → is_in set s ≡ true) [
+      | true ↦ λ e k. elim (or_cases (eqb x.0 s) (is_in (map (λ y. y.0) (restricted xs set)) s) k) [
+        | inl here ↦ subst (λ z. is_in set z ≡ true) (eqb-true x.0 s here) e
+        | inr there ↦ restricted-in xs set s there
+      ]
+      | false ↦ λ e k. restricted-in xs set s k
+    ]) refl h
+
+-- a clean map of exactly the query's set settles it, laid over the last one
+pub packing-settles : (sc : Scenario) (book : BookView) (state : CoreState) (task : Task) (entries : List (ℕ × ℕ)) → StationsAscend sc → KeepsTheRule sc book state → task_of sc book state ≡ Some task → IsPacking book task.set entries → IsSettledBy sc book task (Fits entries)
+packing-settles sc book state task entries ascend k e packing =
+    let set : List ℕ = task.set in
+    let rises = task-rises sc book state task ascend e in
+    let last : (is_ascending (map (λ y. y.0) task.last) ≡ true) × ((s : ℕ) → is_in (map (λ y. y.0) task.last) s ≡ true → is_in task.set s ≡ true) = task-has sc book state (λ task. (is_ascending (map (λ y. y.0) task.last) ≡ true) × ((s : ℕ) → is_in (map (λ y. y.0) task.last) s ≡ true → is_in task.set s ≡ true))
+        (refl, λ s h. absurd (false≢true h))
+        (λ t. (restricted-ascending state.map (component book (asked_set sc state.clock t.station) t.station) (map-rises sc book state ascend k), λ s h. restricted-in state.map (component book (asked_set sc state.clock t.station) t.station) s h))
+        task e in
+    let new : is_ascending (map (λ y. y.0) entries) ≡ true = subst (λ xs. is_ascending xs ≡ true) (sym packing.stations) rises in
+    let all : overlaid task.last entries ≡ entries = overlaid-all task.last entries last.0 new (λ s h. subst (λ xs. is_in xs s ≡ true) (sym packing.stations) (last.1 s h)) in
+    subst (IsCleanOn book set) (sym all) (record {
+      each = λ s h. sym (list_any-map (λ z. z == s) (λ (y : ℕ × ℕ). y.0) entries) ∙ subst (λ xs. is_in xs s ≡ true) (sym packing.stations) h;
+      only = λ x h. subst (λ xs. is_in xs x.0 ≡ true) packing.stations (station-in entries x h);
+      clean = packing.clean;
+    })
+
+-- where no query stands the auction has ended
+pub no-task : (sc : Scenario) (book : BookView) (state : CoreState) → has_ended state ≡ false → task_of sc book state ≡ None → ⊥
+no-task sc book state on none =
+    let go : (o : Option Shown) (l : List ClockTest) → cond (is_none o) false (is_empty l) ≡ false → cond (is_none o) (Some (start_task sc state)) (first_task sc book state l) ≡ None → ⊥ = λ o l. elim o as (λ o. cond (is_none o) false (is_empty l) ≡ false → cond (is_none o) (Some (start_task sc state)) (first_task sc book state l) ≡ None → ⊥) [
+      | None ↦ λ h k. cc
+      | Some shown ↦ elim l as (λ l. is_empty l ≡ false → first_task sc book state l ≡ None → ⊥) [
+        | [] ↦ λ h k. absurd (true≢false h)
+        | t ∷ ts ↦ λ h k. cc
+      ]
+    ] in
+    go state.start state.left on (sym (task-is sc book state state.start state.left refl refl) ∙ none)

@@ -2,7 +2,7 @@ use super::{
     COMMAND, DOMAINS, Ended, Files, ROWS, SCENARIO, THREE, changed, has_stopped, is_held, run_on,
     texts,
 };
-use crate::record::{Ending, Record, Shown};
+use auction_core::record::{Ending, Record, Shown};
 use std::alloc::{AllocError as NoMemory, Global};
 use std::test::Fail;
 
