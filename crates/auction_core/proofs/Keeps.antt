@@ -68,7 +68,7 @@ from-parts sc book state o e k s n = record {
 
 -- ---- the start
 
-is-start : (sc : Scenario) → is_ascending (facilities sc) ≡ true → start_set sc ≡ on_air_set sc (opening_state sc)
+pub is-start : (sc : Scenario) → is_ascending (facilities sc) ≡ true → start_set sc ≡ on_air_set sc (opening_state sc)
 is-start sc a =
     let p : ℕ → Bool = λ s. declines sc s 0 in
     let on : (f : ℕ) → is_on_air (opening_state sc) f ≡ is_in (start_set sc) f = λ f. list_any-map (λ (x : OnAirSince). x.station == f) (λ s. record { station = s; round = 0 }) (start_set sc) in

@@ -106,7 +106,7 @@ refuted-room sc book state s r x =
     by-component sc book state s r ∙
     false_from_ne_true (fits book set) (λ yes. refuted-unfit book set r.auction.in_order x (fits-gives book set yes))
 
-by-worker : (sc : Scenario) (book : BookView) (task : Task) (w : ℕ) (how : Refutation) → IsValidOf sc book task w (Refutes' how) → Refutes book task.set
+pub by-worker : (sc : Scenario) (book : BookView) (task : Task) (w : ℕ) (how : Refutation) → IsValidOf sc book task w (Refutes' how) → Refutes book task.set
 by-worker sc book task w how e =
     let go : (o : Option Worker) → MatchOption o ⊥ (λ worker. IsValid book task worker (Refutes' how)) → Refutes book task.set = λ o. elim o as (λ o. MatchOption o ⊥ (λ worker. IsValid book task worker (Refutes' how)) → Refutes book task.set) [
       | None ↦ λ f. absurd f
