@@ -1,0 +1,4 @@
+pub mod CountLemmas
+pub mod ReplayLemmas
+pub mod RowLemmas
+pub mod StepLemmas

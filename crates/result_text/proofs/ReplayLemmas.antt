@@ -1,0 +1,109 @@
+-- Where the stations stand, and which are undecided, after one step more of a record.
+use Rattle.std.proofs.Common.{◌≡◌, ◌∙◌, ℕ, zero, suc, ◌+◌, ◌<◌, ◌≤◌, ◌==◌, Bool, true, false, if◌then◌else◌, inl, inr, List, [], ◌∷◌, Option, Some, None, find, map, take, length, get_or, set, replicate, refl, sym, ap, subst, arith}
+use Rattle.std.proofs.lemmas.Bool.{true≢false}
+use Rattle.std.proofs.lemmas.List.{length-map, take_all}
+use Rattle.pack_defs.specs.Lists.{is_in}
+use Rattle.pack_defs.specs.declared.scenario.Scenario.{Scenario}
+use Rattle.pack_defs.specs.declared.station.Station.{Station}
+use Rattle.pack_defs.specs.Scenario.{IsWithinLimits, StationsAscend, facilities}
+use Rattle.pack_defs.specs.Book.{BookView, IsInOrder}
+use Rattle.pack_defs.specs.ClockRule.{ClockTest, ClockState, OnAirSince, clock_rule, exits, is_listed, opening_state}
+use Rattle.pack_defs.proofs.Members.{is_in-from}
+use Rattle.auction_core.specs.declared.clock.Standing.{Standing}
+use Rattle.auction_core.specs.declared.clock.Standing.TheVariants.{Active, OnAir, Frozen}
+use Rattle.auction_core.specs.declared.record.Record.{Record}
+use Rattle.auction_core.specs.declared.record.Shown.{Shown}
+use Rattle.auction_core.specs.declared.record.Shown.TheVariants.{Empty, Fits, NoChannel, Unfit, Refuted, Undecided}
+use Rattle.auction_core.specs.declared.record.Step.{Step}
+use Rattle.auction_core.specs.declared.record.Ending.TheVariants.{Done}
+use Rattle.auction_core.specs.State.{shows_room}
+use Rattle.auction_core.specs.Backed.{IsBacked, after_start, after_steps, is_undecided, test_of, undecided_of}
+use Rattle.auction_core.specs.Clock.{AreStandings, answered_standing, standing_from, standing_of}
+use Rattle.auction_core.specs.Rule.{IsAuction}
+use Rattle.auction_core.proofs.ClockLemmas.{active-is, answer-standings, is_active_at, length-standings}
+use Rattle.result_text.specs.ResultText.{each_frozen_by, frozen_by}
+use Rattle.result_text.proofs.StepLemmas.{IsNext, backed-clock}
+
+-- a scenario within the limits and a book in order are an auction
+pub auction-of : (sc : Scenario) (book : BookView) → IsWithinLimits sc → IsInOrder book → IsAuction sc book
+auction-of sc book limits in_order = record { stations = limits.ascend; in_order = in_order; workers = limits.some_worker }
+
+-- ---- the standings
+
+-- the station of the next step stands somewhere
+pub next-there : {sc : Scenario} {rec : Record} {steps : List Step} {k : ℕ} {x : Step} (stations : List Station) → IsNext sc rec steps k x → stations ≡ sc.stations → is_in (map (λ y. y.id) stations) x.station ≡ false → ⊥
+next-there {sc} {rec} {steps} {k} {x} stations next same absent =
+    true≢false (sym (is_in-from (facilities sc) x.station next.station) ∙ subst (λ (ys : List Station). is_in (map (λ y. y.id) ys) x.station ≡ false) same absent)
+
+-- where it stands, it is active
+pub next-active : {sc : Scenario} {rec : Record} {steps : List Step} {k : ℕ} {x : Step} {v : List Standing} (i : ℕ) → IsNext sc rec steps k x → AreStandings sc (after_steps sc (after_start sc rec.start) (take k steps)).clock v → i < length sc.stations → get_or (facilities sc) i 0 ≡ x.station → get_or v i Active ≡ Active
+next-active {sc} {rec} {steps} {k} {x} {v} i next are h at = active-is (get_or v i Active) (sym (is_active_at i x.station Active are h at) ∙ next.active)
+
+-- and its standing alone moves
+pub next-standings : {sc : Scenario} {rec : Record} {steps : List Step} {k : ℕ} {x : Step} {v : List Standing} (i : ℕ) → IsNext sc rec steps k x → StationsAscend sc → AreStandings sc (after_steps sc (after_start sc rec.start) (take k steps)).clock v → i < length sc.stations → get_or (facilities sc) i 0 ≡ x.station →
+    AreStandings sc (after_steps sc (after_start sc rec.start) (take (k + 1) steps)).clock (set v i (answered_standing sc (test_of x) (shows_room x.shown)))
+next-standings {sc} {rec} {steps} {k} {x} {v} i next ascend are h at =
+    subst (λ p. AreStandings sc p.clock (set v i (answered_standing sc (test_of x) (shows_room x.shown)))) (sym next.moves)
+    (answer-standings i (test_of x) (shows_room x.shown) ascend are h at next.active)
+
+-- after a backed record's last step the standings are the rule's
+pub last-standings : {sc : Scenario} {v : List Standing} (book : BookView) (rec : Record) (steps : List Step) (k : ℕ) → IsAuction sc book → IsBacked sc book rec → rec.ending ≡ Done → steps ≡ rec.steps → length steps ≤ k → AreStandings sc (after_steps sc (after_start sc rec.start) (take k steps)).clock v → AreStandings sc (clock_rule sc book (undecided_of rec.steps)) v
+last-standings {sc} {v} book rec steps k a backed done same h are =
+    subst (λ z. AreStandings sc z v) (ap (λ ys. (after_steps sc (after_start sc rec.start) ys).clock) (take_all k steps h ∙ same) ∙ backed-clock sc book rec a backed done) are
+
+-- ---- the undecided
+
+-- as many are asked about as there are stations
+pub length-each : (tests : List ClockTest) (fs : List ℕ) (xs : List Standing) → length xs ≡ length fs → length (each_frozen_by tests fs xs) ≡ length fs
+length-each tests [] xs same = refl
+length-each tests (f ∷ fs) [] same = absurd (omega arith)
+length-each tests (f ∷ fs) (x ∷ xs) same = ap suc (length-each tests fs xs (omega arith))
+
+pub length-frozen : {sc : Scenario} {st : ClockState} {v : List Standing} (tests : List ClockTest) → AreStandings sc st v → length (each_frozen_by tests (facilities sc) v) ≡ length sc.stations
+length-frozen {sc} {st} {v} tests are =
+    let n = length-map sc.stations (λ (x : Station). x.id) in
+    length-each tests (facilities sc) v (length-standings are ∙ sym n) ∙ n
+
+-- one station that stands otherwise
+each-set : (tests : List ClockTest) (fs : List ℕ) (xs : List Standing) (i : ℕ) (y : Standing) → i < length fs → each_frozen_by tests fs (set xs i y) ≡ set (each_frozen_by tests fs xs) i (frozen_by tests (get_or fs i 0) y)
+each-set tests [] xs i y h = absurd (omega arith)
+each-set tests (f ∷ fs) [] zero y h = refl
+each-set tests (f ∷ fs) [] (suc i) y h = refl
+each-set tests (f ∷ fs) (x ∷ xs) zero y h = refl
+each-set tests (f ∷ fs) (x ∷ xs) (suc i) y h = ap (λ us. frozen_by tests f x ∷ us) (each-set tests fs xs i y (omega arith))
+
+-- where a test fits, its station isn't frozen
+fits-unfrozen : (sc : Scenario) (tests : List ClockTest) (t : ClockTest) → frozen_by tests t.station (answered_standing sc t true) ≡ false
+fits-unfrozen sc tests t = elim (exits sc t) as (λ b. frozen_by tests t.station (if b then OnAir t.round else Active) ≡ false) [ true ↦ refl | false ↦ refl ]
+
+-- a step's station is frozen by one of these tests exactly where the step is shown undecided
+answered-frozen : (sc : Scenario) (tests : List ClockTest) (t : ClockTest) (shown : Shown) → is_listed tests t ≡ is_undecided shown → frozen_by tests t.station (answered_standing sc t (shows_room shown)) ≡ is_undecided shown
+answered-frozen sc tests t Empty h = fits-unfrozen sc tests t
+answered-frozen sc tests t (Fits delta) h = fits-unfrozen sc tests t
+answered-frozen sc tests t (NoChannel s) h = h
+answered-frozen sc tests t Unfit h = h
+answered-frozen sc tests t (Refuted worker how) h = h
+answered-frozen sc tests t (Undecided receipts) h = h
+
+-- one step more
+pub next-frozen : {sc : Scenario} {rec : Record} {steps : List Step} {k : ℕ} {x : Step} (v : List Standing) (i : ℕ) → IsNext sc rec steps k x → i < length sc.stations → get_or (facilities sc) i 0 ≡ x.station →
+    set (each_frozen_by (undecided_of rec.steps) (facilities sc) v) i (is_undecided x.shown) ≡ each_frozen_by (undecided_of rec.steps) (facilities sc) (set v i (answered_standing sc (test_of x) (shows_room x.shown)))
+next-frozen {sc} {rec} {steps} {k} {x} v i next h at =
+    let U : List ClockTest = undecided_of rec.steps in
+    let y : Standing = answered_standing sc (test_of x) (shows_room x.shown) in
+    let n = length-map sc.stations (λ (z : Station). z.id) in
+    sym (each-set U (facilities sc) v i y (omega (arith, h, n))
+    ∙ ap (set (each_frozen_by U (facilities sc) v) i) (ap (λ f. frozen_by U f y) at ∙ answered-frozen sc U (test_of x) x.shown next.listed))
+
+-- at the opening no station is frozen
+none-frozen : (tests : List ClockTest) (st : ClockState) (fs : List ℕ) → st.frozen ≡ [] → replicate (length fs) false ≡ each_frozen_by tests fs (map (standing_of st) fs)
+none-frozen tests st [] none = refl
+none-frozen tests st (f ∷ fs) none =
+    let go : (o : Option OnAirSince) → frozen_by tests f (standing_from None o) ≡ false = λ o. elim o as (λ o. frozen_by tests f (standing_from None o) ≡ false) [ None ↦ refl | Some x ↦ refl ] in
+    let here : frozen_by tests f (standing_of st f) ≡ false = rw none (go (find (λ (x : OnAirSince). x.station == f) st.on_air)) in
+    ap (λ us. false ∷ us) (none-frozen tests st fs none) ∙ ap (λ b. b ∷ each_frozen_by tests fs (map (standing_of st) fs)) (sym here)
+
+pub opening-frozen : {sc : Scenario} {v : List Standing} (tests : List ClockTest) (n : ℕ) → n ≡ length sc.stations → AreStandings sc (opening_state sc) v → replicate n false ≡ each_frozen_by tests (facilities sc) v
+opening-frozen {sc} {v} tests n count are =
+    ap (λ m. replicate m false) (count ∙ sym (length-map sc.stations (λ (x : Station). x.id)))
+    ∙ (none-frozen tests (opening_state sc) (facilities sc) refl ∙ ap (each_frozen_by tests (facilities sc)) (sym are.each))

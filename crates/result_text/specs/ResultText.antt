@@ -1,0 +1,85 @@
+-- The texts of the result and of the summary.
+use Rattle.std.specs.Prelude.{ℕ, Bool, true, false, if◌then◌else◌, List, [], ◌∷◌, ◌++◌, ◌≡◌, Vec, length, sum_by, count_by, codes, decimal}
+use Rattle.std.specs.List.{flat_map}
+use Rattle.std.specs.declared.alloc.Global.{Global}
+use Rattle.csv.specs.Writing.{default_writer, fields_written, has_written, writer_pending, writer_setup, writer_under}
+use Rattle.csv.specs.declared.writer.Writer.{Writer}
+use Rattle.pack_defs.specs.declared.scenario.Scenario.{Scenario}
+use Rattle.pack_defs.specs.ClockRule.{ClockTest, ClockState, is_listed}
+use Rattle.pack_defs.specs.ResultRows.{Outcome, Start, Exit, Frozen, Undecided, ResultRow, on_air_row, result_rows}
+use Rattle.auction_core.specs.declared.clock.Standing.{Standing}
+use Rattle.auction_core.specs.declared.clock.Standing.TheVariants as standing
+
+-- the word for an outcome
+abbrev pub outcome_word : Outcome → List ℕ
+outcome_word Start = codes "start"
+outcome_word Exit = codes "exit"
+outcome_word Frozen = codes "frozen"
+outcome_word Undecided = codes "undecided"
+
+-- a line of four fields with commas between: a facility, what became of it, the round and the price
+abbrev pub row_fields : ℕ → List ℕ → ℕ → ℕ → List ℕ
+row_fields facility word round price =
+    decimal facility ++ codes "," ++ word ++ codes "," ++ decimal round ++ codes "," ++ decimal price ++ codes "\n"
+
+-- a line of the result
+abbrev pub row_line : ResultRow → List ℕ
+row_line row = row_fields row.facility (outcome_word row.outcome) row.round row.price
+
+-- the first line of the result
+unfoldable pub header_line : List ℕ
+header_line = codes "facility,outcome,round,price\n"
+
+-- The result: a header, and a line for each station of the scenario, ascending by facility.
+unfoldable pub result_text : Scenario → ClockState → List ClockTest → List ℕ
+result_text sc state undecided = header_line ++ flat_map row_line (result_rows sc state undecided)
+
+-- the station is frozen, by one of these tests
+abbrev pub frozen_by : List ClockTest → ℕ → Standing → Bool
+frozen_by tests f standing.Active = false
+frozen_by tests f (standing.OnAir round) = false
+frozen_by tests f (standing.Frozen round price) = is_listed tests (record { round = round; station = f })
+
+-- the same of each of these stations, each beside its standing
+abbrev pub each_frozen_by : List ClockTest → List ℕ → List Standing → List Bool
+each_frozen_by tests [] xs = []
+each_frozen_by tests (f ∷ fs) [] = []
+each_frozen_by tests (f ∷ fs) (x ∷ xs) = frozen_by tests f x ∷ each_frozen_by tests fs xs
+
+-- the line of a station that stands so, and whether it is undecided, which a frozen one may be; none while it is active
+abbrev pub standing_line : ℕ → Standing → Bool → List ℕ
+standing_line f standing.Active u = []
+standing_line f (standing.OnAir round) u = row_line (on_air_row (record { station = f; round = round }))
+standing_line f (standing.Frozen round price) u =
+    row_line (record { facility = f; outcome = if u then Undecided else Frozen; round = round; price = price })
+
+-- the lines of these stations, each beside its standing and whether it is undecided
+abbrev pub standing_lines : List ℕ → List Standing → List Bool → List ℕ
+standing_lines [] xs us = []
+standing_lines (f ∷ fs) [] us = []
+standing_lines (f ∷ fs) (x ∷ xs) [] = []
+standing_lines (f ∷ fs) (x ∷ xs) (u ∷ us) = standing_line f x u ++ standing_lines fs xs us
+
+-- a line of the summary
+unfoldable pub count_line : List ℕ → ℕ → List ℕ
+count_line name n = name ++ codes " " ++ decimal n ++ codes "\n"
+
+-- The summary: how many stations there are, are on air, are frozen (the undecided ones included) and are undecided, and
+-- what the frozen ones are paid together, in cents.
+unfoldable pub summary_text : Scenario → ClockState → List ClockTest → List ℕ
+summary_text sc state undecided =
+    count_line (codes "stations") (length sc.stations)
+    ++ count_line (codes "on-air") (length state.on_air)
+    ++ count_line (codes "frozen") (length state.frozen)
+    ++ count_line (codes "undecided") (count_by (λ x. is_listed undecided (record { round = x.round; station = x.station })) state.frozen)
+    ++ count_line (codes "total") (sum_by (λ x. x.price) state.frozen)
+
+-- a writer of rows with the defaults, between two of them
+pub record IsBetweenRows (w : Writer (Vec ℕ Global)) : Type 0 where
+  pub setup : writer_setup w ≡ default_writer
+  pub fields : fields_written w ≡ 0
+  pub wrote : has_written w ≡ false
+
+-- what a writer over a list of bytes has written
+abbrev pub text_held : Writer (Vec ℕ Global) → List ℕ
+text_held w = (writer_under w).items ++ writer_pending w

@@ -1,0 +1,80 @@
+//! The text of the summary.
+
+ghost use Rattle.std.specs.Prelude.{◌≡◌, ◌++◌, IfOk, OnOk, count_by};
+ghost use Rattle.pack_defs.specs.Scenario.{IsWithinLimits};
+ghost use Rattle.pack_defs.specs.ClockRule.{clock_rule};
+ghost use Rattle.auction_core.specs.Backed.{IsBacked, undecided_of};
+ghost use Rattle.auction_core.specs.Clock.{stands_frozen, stands_on_air};
+ghost use Rattle.result_text.specs.ResultText.{count_line, summary_text};
+
+use crate::replay::final_outcomes;
+use auction_core::clock::Standing;
+use auction_core::record::{Ending, Record};
+use itoa::Buffer;
+use pack_defs::book::Book;
+use std::alloc::{AllocError as NoMemory, Global};
+
+/// Adds a name and a number, with a space between, on a line of their own. The only error is want of memory.
+pub fn push_count(text: &mut Vec<u8>, name: &str, n: u64) -> Result<(), NoMemory>
+    ensures { OnOk result (text.new.items ≡ text.old.items ++ count_line name.now n) }
+{
+    let mut buffer = Buffer::new();
+    text.extend_from_slice(name.as_bytes())?;
+    text.extend_from_slice(b" ")?;
+    text.extend_from_slice(buffer.format(n).as_bytes())?;
+    text.extend_from_slice(b"\n")
+}
+
+// How many of the stations are on air.
+fn on_air_count(standings: &[Standing]) -> usize
+    ensures { result ≡ count_by stands_on_air standings.now }
+{
+    standings
+        .iter()
+        .filter(|standing| matches!(standing, Standing::OnAir { .. }))
+        .count()
+}
+
+// How many of the stations are frozen.
+fn frozen_count(standings: &[Standing]) -> usize
+    ensures { result ≡ count_by stands_frozen standings.now }
+{
+    standings
+        .iter()
+        .filter(|standing| matches!(standing, Standing::Frozen { .. }))
+        .count()
+}
+
+// How many of the stations are undecided.
+fn undecided_count(undecided: &[bool]) -> usize
+    ensures { result ≡ count_by (λ u. u) undecided.now }
+{
+    undecided.iter().filter(|undecided| **undecided).count()
+}
+
+/// The summary of a finished auction: how many stations it has, are on air, are frozen (the undecided ones included) and
+/// are undecided, and what the frozen ones are paid together, in cents, each on a line of its own. The book is the one by
+/// which the record is backed. One pass over the steps, each with a search by halves, and three over the stations. The
+/// only error is want of memory.
+pub fn summary(alloc: Global, rec: &Record, book: &Book) -> Result<Vec<u8>, NoMemory>
+    requires backed { IsBacked rec.now.scenario book.now rec.now }
+    requires done { rec.now.ending ≡ Ending.Done }
+    requires limits { IsWithinLimits rec.now.scenario }
+    ensures { IfOk result
+        (λ v. let tests = undecided_of rec.now.steps in
+        v.items ≡ summary_text rec.now.scenario (clock_rule rec.now.scenario book.now tests) tests) }
+{
+    let outcomes = final_outcomes(alloc, rec, book)?;
+    let standings = outcomes.clock.standings();
+    let mut text = Vec::new(alloc);
+    push_count(&mut text, "stations", standings.len() as u64)?;
+    push_count(&mut text, "on-air", on_air_count(standings) as u64)?;
+    push_count(&mut text, "frozen", frozen_count(standings) as u64)?;
+    push_count(
+        &mut text,
+        "undecided",
+        undecided_count(&outcomes.undecided) as u64,
+    )?;
+    push_count(&mut text, "total", rec.total)?;
+    Ok(text)
+}

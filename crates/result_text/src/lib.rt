@@ -1,0 +1,6 @@
+//! The texts of a finished auction's result and of its summary, from its record.
+#![tactic(auto)]
+
+pub mod counts;
+mod replay;
+pub mod rows;

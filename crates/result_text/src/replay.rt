@@ -1,0 +1,72 @@
+//! What became of each station of a finished auction, from its record.
+
+ghost use Rattle.std.specs.Prelude.{◌≡◌, ◌<◌, IfOk, IsFalse, MatchOption, length, map, slice_index};
+ghost use Rattle.std.specs.List.Sorted.{IsStrictlyIncreasing};
+ghost use Rattle.pack_defs.specs.Lists.{is_in};
+ghost use Rattle.pack_defs.specs.Scenario.{IsWithinLimits, facilities};
+ghost use Rattle.pack_defs.specs.ClockRule.{clock_rule};
+ghost use Rattle.auction_core.specs.Backed.{IsBacked, is_undecided, undecided_of};
+ghost use Rattle.auction_core.specs.Clock.{AreStandings};
+ghost use Rattle.result_text.specs.ResultText.{each_frozen_by};
+
+use auction_core::clock::{Clock, Standing};
+use auction_core::record::{Ending, Record, Shown};
+use offer_sched::offers::schedule;
+use pack_defs::book::Book;
+use pack_defs::station::Station;
+use std::alloc::{AllocError as NoMemory, Global};
+
+/// What became of each station, in the scenario's order.
+#[derive(Debug, Drop)]
+pub(crate) struct Outcomes {
+    pub(crate) clock: Clock,
+    /// Whether an undecided test froze the station.
+    pub(crate) undecided: Vec<bool>,
+}
+
+// The place of the station of this number.
+fn place_of(stations: &[Station], id: u32) -> Option<usize>
+    requires { IsStrictlyIncreasing (map (λ x. x.id) stations.now) }
+    ensures { MatchOption result (IsFalse (is_in (map (λ x. x.id) stations.now) id))
+        (λ i. (i < length stations.now) × (slice_index (map (λ x. x.id) stations.now) i ≡ id)) }
+{
+    stations
+        .binary_search_by_key(&id, |station| station.id)
+        .ok()
+}
+
+// Whether every worker spent its budget on the test.
+fn is_undecided(shown: &Shown) -> bool
+    ensures { result ≡ is_undecided shown.now }
+{
+    matches!(shown, Shown::Undecided(_))
+}
+
+/// What became of each station of a finished auction: its steps in turn move the clock, and the last step of a station
+/// says whether it is undecided. Only the clauses speak of the book. The only error is want of memory.
+pub(crate) fn final_outcomes(alloc: Global, rec: &Record, book: &Book) -> Result<Outcomes, NoMemory>
+    requires backed { IsBacked rec.now.scenario book.now rec.now }
+    requires done { rec.now.ending ≡ Ending.Done }
+    requires limits { IsWithinLimits rec.now.scenario }
+    ensures standings { IfOk result
+        (λ o. let tests = undecided_of rec.now.steps in
+        AreStandings rec.now.scenario (clock_rule rec.now.scenario book.now tests) o.clock) }
+    ensures undecided { IfOk result
+        (λ o. o.undecided.items ≡ each_frozen_by (undecided_of rec.now.steps) (facilities rec.now.scenario) o.clock) }
+{
+    let _stations = book.len();
+    let sc = &rec.scenario;
+    let prices = schedule(alloc, sc)?;
+    let mut clock = Clock::open(alloc, sc)?;
+    let mut undecided = vec![in alloc; false; sc.stations.as_slice().len()]?;
+    for step in rec.steps.as_slice() {
+        match place_of(sc.stations.as_slice(), step.station) {
+            Some(i) => {
+                clock.settle(sc, &prices, i, step.round, step.shown.shows_room());
+                undecided[i] = is_undecided(&step.shown);
+            }
+            None => unreachable!(),
+        }
+    }
+    Ok(Outcomes { clock, undecided })
+}
