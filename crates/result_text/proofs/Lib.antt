@@ -1,4 +1,5 @@
 pub mod CountLemmas
+pub mod ExampleLemmas
 pub mod ReplayLemmas
 pub mod RowLemmas
 pub mod StepLemmas

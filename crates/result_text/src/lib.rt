@@ -4,3 +4,7 @@
 pub mod counts;
 mod replay;
 pub mod rows;
+#[cfg(test)]
+mod samples;
+#[cfg(test)]
+mod tests;

@@ -1,0 +1,43 @@
+-- Records of the three-station auction, and of one without a station.
+use Rattle.std.specs.Prelude.{ℕ, List, [], ◌∷◌}
+use Rattle.cert_types.specs.declared.answer.Refutation.TheVariants.{Proof}
+use Rattle.cert_types.specs.declared.answer.Receipt.TheVariants.{Lines}
+use Rattle.cert_types.specs.Examples.{learner, log, not_one, the_end}
+use Rattle.auction_core.specs.declared.record.Shown.{Shown}
+use Rattle.auction_core.specs.declared.record.Shown.TheVariants.{Empty, Fits, Refuted, Undecided}
+use Rattle.auction_core.specs.declared.record.Step.{Step}
+use Rattle.auction_core.specs.declared.record.Record.{Record}
+use Rattle.auction_core.specs.declared.record.Ending.TheVariants.{Done}
+use Rattle.auction_core.specs.Examples.{auction_of_three, no_station}
+
+-- a step that fits, with this channel for its station
+abbrev pub fitted : ℕ → ℕ → ℕ → Step
+fitted round s c = record { round = round; station = s; shown = Fits ((s, c) ∷ []) }
+
+-- the steps of the three-station auction, of which the last was shown so
+abbrev pub steps_of_three : Shown → List Step
+steps_of_three last =
+    fitted 1 1 14 ∷ fitted 1 2 14 ∷ fitted 1 3 15 ∷ fitted 2 1 15 ∷ record { round = 2; station = 3; shown = last } ∷ []
+
+-- the record of the three-station auction with one worker of this budget, of which the last step was shown so
+abbrev pub record_of_three : ℕ → Shown → Record
+record_of_three budget last = record {
+  scenario = auction_of_three (learner budget ∷ []);
+  ending = Done;
+  start = Empty;
+  steps = steps_of_three last;
+  map = (1, 15) ∷ (2, 14) ∷ [];
+  total = 60;
+}
+
+-- the set of all three does not fit, by a log of two lines
+abbrev pub refuted_set : Shown
+refuted_set = Refuted 0 (Proof (1 ∷ 2 ∷ 3 ∷ []) (log (not_one ∷ the_end ∷ [])))
+
+-- the one worker has derived one line
+abbrev pub spent_on : Shown
+spent_on = Undecided (Lines (log (not_one ∷ [])) ∷ [])
+
+-- the record of the auction without a station
+abbrev pub record_of_none : Record
+record_of_none = record { scenario = no_station; ending = Done; start = Empty; steps = []; map = []; total = 0 }
