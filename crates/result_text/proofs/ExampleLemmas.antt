@@ -1,20 +1,24 @@
 -- The records that the tests build are backed.
-use Rattle.std.proofs.Common.{◌≡◌, ℕ, zero, suc, ◌+◌, ◌<◌, ◌≤◌, true, List, [], ◌∷◌, ◌++◌, length, refl, subst, rules, arith}
+use Rattle.std.proofs.Common.{◌≡◌, ℕ, zero, suc, ◌+◌, ◌<◌, ◌≤◌, true, List, [], ◌∷◌, ◌++◌, length, Some, refl, sym, ap, ◌∙◌, subst, rules, arith}
 use Rattle.std.specs.Prelude.{slice_index}
 use Rattle.pack_defs.specs.declared.scenario.Scenario.{Scenario}
-use Rattle.pack_defs.specs.declared.domain.Domain.{Domain}
-use Rattle.pack_defs.specs.declared.pair.Pair.{Pair}
-use Rattle.pack_defs.specs.Scenario.{IsWithinLimits, StationsAscend}
-use Rattle.pack_defs.specs.Book.{BookView, cut_book}
+use Rattle.pack_defs.specs.declared.station.Station.{Station}
+use Rattle.pack_defs.specs.declared.worker.Worker.{Worker}
+use Rattle.pack_defs.specs.Scenario.{IsWithinLimits}
+use Rattle.pack_defs.specs.Book.{BookView}
 use Rattle.pack_defs.specs.ClockRule.{asked_tests, clock_rule}
 use Rattle.pack_defs.specs.Components.{component}
-use Rattle.pack_defs.specs.Examples.{pair, three_bids, three_stations}
+use Rattle.pack_defs.specs.Examples.{three_bids, three_stations}
 use Rattle.assign_check.specs.Fault.{first_fault}
 use Rattle.cnf_encode.specs.Formula.{packing_formula}
-use Rattle.cnf_encode.proofs.ExampleLemmas.{example_domain}
 use Rattle.rup_check.specs.Follows.{line_fault}
 use Rattle.cert_types.specs.Examples.{learner}
 use Rattle.cert_types.specs.Valid.{answer_fault}
+use Rattle.auction_core.specs.declared.record.Record.{Record}
+use Rattle.auction_core.specs.declared.record.Shown.{Shown}
+use Rattle.auction_core.specs.declared.record.Shown.TheVariants.{Empty}
+use Rattle.auction_core.specs.declared.record.Step.{Step}
+use Rattle.auction_core.specs.declared.record.Ending.TheVariants.{Done}
 use Rattle.auction_core.specs.Backed.{IsBacked, record_of}
 use Rattle.auction_core.specs.Examples.{auction_of_three, four_fits, no_station, one_line, posting, refuted, state_after}
 use Rattle.auction_core.specs.Rule.{IsAuction}
@@ -22,7 +26,7 @@ use Rattle.auction_core.specs.State.{has_ended, opening, task_of}
 use Rattle.auction_core.specs.Take.{PostingView, take}
 use Rattle.auction_core.proofs.Ended.{ended-backed}
 use Rattle.auction_core.proofs.Keeps.{opening-keeps, postings-keep}
-use Rattle.result_text.specs.Examples.{record_of_none, record_of_three, refuted_set, spent_on}
+use Rattle.result_text.specs.Examples.{record_of_none, record_of_three, refuted_set, spent_on, steps_of_three}
 
 abbrev numbers : List ℕ
 numbers = 1 ∷ 2 ∷ 3 ∷ []
@@ -95,3 +99,57 @@ three-limits budget some most = record {
   workers = omega arith;
   each_worker = search rules;
 }
+
+pub none-limits : IsWithinLimits no_station
+unfolding three_bids
+none-limits = record {
+  least_top = omega arith;
+  top = omega arith;
+  some_opening = omega arith;
+  opening = omega arith;
+  rounds = omega arith;
+  decrements = search rules;
+  falls = omega arith;
+  stations = omega arith;
+  ascend = λ k l. absurd (omega arith);
+  each_station = search rules;
+  some_worker = omega arith;
+  workers = omega arith;
+  each_worker = search rules;
+}
+
+-- ---- what the tests build
+
+-- an auction of these stations
+pub scenario-is : (budget : ℕ) (decrements : List ℕ) (stations : List Station) (workers : List Worker) → decrements ≡ 40 ∷ 40 ∷ [] → workers ≡ learner budget ∷ [] →
+    record { version = 1; top = 15; opening = 100; decrements = decrements; stations = stations; workers = workers } ≡ record (auction_of_three (learner budget ∷ [])) { stations = stations }
+unfolding three_bids
+scenario-is budget decrements stations workers e f = rw (e, f) refl
+
+-- a record of the three stations
+pub three-is : (budget : ℕ) (last : Shown) (sc : Scenario) (stations : List Station) (steps : List Step) → sc ≡ record (auction_of_three (learner budget ∷ [])) { stations = stations } →
+    stations ≡ record { id = 1; volume = 1; value = Some 50 } ∷ record { id = 2; volume = 1; value = Some 70 } ∷ record { id = 3; volume = 1; value = Some 10 } ∷ [] → steps ≡ steps_of_three last →
+    record { scenario = sc; ending = Done; start = Empty; steps = steps; map = (1, 15) ∷ (2, 14) ∷ []; total = 60 } ≡ record_of_three budget last
+unfolding three_bids
+three-is budget last sc stations steps e f g = rw (e, f, g) refl
+
+-- a record of no station
+pub none-is : (sc : Scenario) (stations : List Station) (steps : List Step) → sc ≡ record (auction_of_three (learner 1000 ∷ [])) { stations = stations } → stations ≡ [] → steps ≡ [] →
+    record { scenario = sc; ending = Done; start = Empty; steps = steps; map = []; total = 0 } ≡ record_of_none
+unfolding three_bids
+none-is sc stations steps e f g = rw (e, f, g) refl
+
+abbrev IsHeld : BookView → Record → Type 0
+IsHeld book rec = IsBacked rec.scenario book rec × IsWithinLimits rec.scenario
+
+held : {book : BookView} {rec : Record} (want : BookView) (like : Record) → IsHeld want like → book ≡ want → rec ≡ like → IsHeld book rec
+held {book} {rec} want like h e f = subst (λ b. IsHeld b rec) (sym e) (subst (λ r. IsHeld want r) (sym f) h)
+
+pub refuted-held : {book : BookView} {rec : Record} (last : Shown) → book ≡ three_stations → last ≡ refuted_set → rec ≡ record_of_three 1000 last → IsHeld book rec
+refuted-held last e f g = held three_stations (record_of_three 1000 refuted_set) (refuted-backed, three-limits 1000 (omega arith) (omega arith)) e (g ∙ ap (record_of_three 1000) f)
+
+pub undecided-held : {book : BookView} {rec : Record} (last : Shown) → book ≡ three_stations → last ≡ spent_on → rec ≡ record_of_three 1 last → IsHeld book rec
+undecided-held last e f g = held three_stations (record_of_three 1 spent_on) (undecided-backed, three-limits 1 (omega arith) (omega arith)) e (g ∙ ap (record_of_three 1) f)
+
+pub none-held : {rec : Record} (book : BookView) → rec ≡ record_of_none → IsHeld book rec
+none-held book e = held book record_of_none (none-backed book, none-limits) refl e

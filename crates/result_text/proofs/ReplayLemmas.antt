@@ -1,5 +1,5 @@
 -- Where the stations stand, and which are undecided, after one step more of a record.
-use Rattle.std.proofs.Common.{◌≡◌, ◌∙◌, ℕ, zero, suc, ◌+◌, ◌<◌, ◌≤◌, ◌==◌, Bool, true, false, if◌then◌else◌, inl, inr, List, [], ◌∷◌, Option, Some, None, find, map, take, length, get_or, set, replicate, refl, sym, ap, subst, arith}
+use Rattle.std.proofs.Common.{◌≡◌, ◌∙◌, ℕ, zero, suc, ◌+◌, ◌<◌, ◌≤◌, ◌==◌, true, false, if◌then◌else◌, List, [], ◌∷◌, Option, Some, None, find, map, take, length, get_or, set, replicate, refl, sym, ap, subst, arith}
 use Rattle.std.proofs.lemmas.Bool.{true≢false}
 use Rattle.std.proofs.lemmas.List.{length-map, take_all}
 use Rattle.pack_defs.specs.Lists.{is_in}
@@ -10,7 +10,7 @@ use Rattle.pack_defs.specs.Book.{BookView, IsInOrder}
 use Rattle.pack_defs.specs.ClockRule.{ClockTest, ClockState, OnAirSince, clock_rule, exits, is_listed, opening_state}
 use Rattle.pack_defs.proofs.Members.{is_in-from}
 use Rattle.auction_core.specs.declared.clock.Standing.{Standing}
-use Rattle.auction_core.specs.declared.clock.Standing.TheVariants.{Active, OnAir, Frozen}
+use Rattle.auction_core.specs.declared.clock.Standing.TheVariants.{Active, OnAir}
 use Rattle.auction_core.specs.declared.record.Record.{Record}
 use Rattle.auction_core.specs.declared.record.Shown.{Shown}
 use Rattle.auction_core.specs.declared.record.Shown.TheVariants.{Empty, Fits, NoChannel, Unfit, Refuted, Undecided}

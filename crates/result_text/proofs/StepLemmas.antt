@@ -14,7 +14,7 @@ use Rattle.auction_core.specs.declared.record.Record.{Record}
 use Rattle.auction_core.specs.declared.record.Step.{Step}
 use Rattle.auction_core.specs.declared.record.Ending.TheVariants.{Done}
 use Rattle.auction_core.specs.State.{CoreState, settled, shows_room}
-use Rattle.auction_core.specs.Backed.{AreShown, IsBacked, IsCarriedThrough, IsEnded, IsStepShown, after_start, after_steps, is_undecided, test_of, undecided_of}
+use Rattle.auction_core.specs.Backed.{AreShown, IsBacked, IsCarriedThrough, IsEnded, after_start, after_steps, is_undecided, test_of, undecided_of}
 use Rattle.auction_core.specs.Rule.{IsAuction}
 use Rattle.auction_core.proofs.Done.{AreListed, asked-apart, done-room, listed-shown, step-moves}
 use Rattle.auction_core.proofs.Keeps.{start-map}

@@ -2,7 +2,7 @@
 use Rattle.std.proofs.Common.{◌≡◌, ◌∙◌, ap, false, length, replicate, rules}
 use Rattle.auction_core.specs.Backed.{undecided_of}
 use Rattle.result_text.proofs.StepLemmas.{IsNext, backed-next}
-use Rattle.result_text.proofs.ReplayLemmas.{auction-of, last-standings, length-frozen, next-active, next-frozen, next-standings, next-there, opening-frozen}
+use Rattle.result_text.proofs.ReplayLemmas.{auction-of, last-standings, next-active, next-frozen, next-standings, next-there, opening-frozen}
 use Rattle.result_text.proofs.replay.final_outcomes.Goals as goal
 use Rattle.result_text.proofs.replay.final_outcomes.Goals.{After-place_of}
 
