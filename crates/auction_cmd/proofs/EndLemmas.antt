@@ -10,9 +10,10 @@ use Rattle.outside_io.specs.Loads.{Stores, Writes}
 use Rattle.outside_io.specs.declared.folder.StoreErr.TheVariants.{Failed as StoreFailed, NoMemory as StoreNoMemory}
 use Rattle.outside_io.specs.declared.sink.Failed.{Failed}
 use Rattle.auction_cmd.specs.declared.inputs.Inputs.{Inputs}
-use Rattle.auction_cmd.specs.declared.record.Ending.{Ending}
-use Rattle.auction_cmd.specs.declared.record.Record.{Record}
-use Rattle.auction_cmd.specs.Backed.{IsBacked, rule_ending}
+use Rattle.auction_core.specs.declared.record.Ending.{Ending}
+use Rattle.auction_core.specs.declared.record.Record.{Record}
+use Rattle.auction_core.specs.Backed.{IsBacked}
+use Rattle.auction_cmd.specs.PlainRule.{rule_ending}
 use Rattle.auction_cmd.specs.Counts.{counts_text}
 use Rattle.auction_cmd.specs.Ends.{AreHeld, CheckEnds, Delivers, IsRecordOf, IsRefutedRecordOf, RunEnds, StartFits, StartUnfit, result_of, summary_of}
 use Rattle.auction_cmd.specs.Ends.CheckEnds.{Counted, CountsCut}
@@ -22,7 +23,6 @@ use Rattle.auction_cmd.specs.Outside.{Outside, IsSaid, outside}
 use Rattle.auction_cmd.specs.Says.{unfit_line}
 use Rattle.auction_cmd.specs.Words.{InputNames, RunNames}
 use Rattle.auction_cmd.proofs.SaysLemmas.{rises-before, says-write}
-use Rattle.auction_cmd.proofs.StartLemmas.{backed-ending}
 
 -- ---- the start
 
@@ -34,17 +34,17 @@ fit-by : (b : Bool) → Ending.Done ≡ cond b Ending.Done Ending.StartRefuted �
 fit-by true e = refl
 fit-by false e = cc
 
--- an auction that ended at its start has a start set that doesn't fit
-pub refuted : (inputs : Inputs) (rec : Record) → IsBacked inputs.scenario inputs.book rec → rec.ending ≡ Ending.StartRefuted → IsRefutedRecordOf inputs rec
-refuted inputs rec backed ending = record {
+-- an auction that wasn't carried through has a start set that doesn't fit
+pub refuted : (inputs : Inputs) (rec : Record) → IsBacked inputs.scenario inputs.book rec → rec.ending ≡ rule_ending inputs.scenario inputs.book → rec.ending ≡ Ending.StartRefuted → IsRefutedRecordOf inputs rec
+refuted inputs rec backed rule ending = record {
   backed = backed;
   ending = ending;
-  starts = unfit-by (fits inputs.book (start_set inputs.scenario)) (sym ending ∙ backed-ending inputs.scenario inputs.book rec backed);
+  starts = unfit-by (fits inputs.book (start_set inputs.scenario)) (sym ending ∙ rule);
 }
 
 -- one that is done has one that fits
-pub done-starts : (inputs : Inputs) (rec : Record) → IsBacked inputs.scenario inputs.book rec → rec.ending ≡ Ending.Done → StartFits inputs
-done-starts inputs rec backed ending = fit-by (fits inputs.book (start_set inputs.scenario)) (sym ending ∙ backed-ending inputs.scenario inputs.book rec backed)
+pub done-starts : (inputs : Inputs) (rec : Record) → rec.ending ≡ rule_ending inputs.scenario inputs.book → rec.ending ≡ Ending.Done → StartFits inputs
+done-starts inputs rec rule ending = fit-by (fits inputs.book (start_set inputs.scenario)) (sym ending ∙ rule)
 
 -- ---- a delivery, seen from before the reading
 

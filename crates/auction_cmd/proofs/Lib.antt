@@ -1,12 +1,6 @@
-pub mod BackedLemmas
-pub mod CountLemmas
-pub mod CourseLemmas
 pub mod EndLemmas
+pub mod PlainLemmas
 pub mod PlanLemmas
 pub mod PromiseLemmas
 pub mod ReadingLemmas
-pub mod ReplayLemmas
-pub mod RoundLemmas
-pub mod RowLemmas
 pub mod SaysLemmas
-pub mod StartLemmas

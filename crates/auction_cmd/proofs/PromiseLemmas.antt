@@ -14,8 +14,8 @@ use Rattle.outside_io.specs.declared.folder.StoreErr.{StoreErr}
 use Rattle.auction_cmd.specs.declared.inputs.Inputs.{Inputs}
 use Rattle.auction_cmd.specs.declared.inputs.Stop.{Stop}
 use Rattle.auction_cmd.specs.declared.inputs.Stop.TheVariants.{CannotRead, Refused, NoMemory}
-use Rattle.auction_cmd.specs.declared.record.Ending.{Ending}
-use Rattle.auction_cmd.specs.declared.record.Record.{Record}
+use Rattle.auction_core.specs.declared.record.Ending.{Ending}
+use Rattle.auction_core.specs.declared.record.Record.{Record}
 use Rattle.auction_cmd.specs.declared.refusal.Input.{Input}
 use Rattle.auction_cmd.specs.declared.refusal.Refusal.{Refusal}
 use Rattle.auction_cmd.specs.Counts.{counts_text}

@@ -1,7 +1,7 @@
 -- The counts that a check prints.
 use Rattle.std.specs.Prelude.{ℕ, List, ◌++◌, length, codes}
 use Rattle.auction_cmd.specs.declared.inputs.Inputs.{Inputs}
-use Rattle.auction_cmd.specs.ResultText.{count_line}
+use Rattle.result_text.specs.ResultText.{count_line}
 
 -- How many stations the book has and how many pairs; and, of the rows file, how many fields pair a station with itself and
 -- how many name a station without a domain row.

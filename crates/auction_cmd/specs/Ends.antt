@@ -1,5 +1,5 @@
 -- How the program ends: at which status, with which record, and what it leaves outside.
-use Rattle.std.specs.Prelude.{◌≡◌, ◌≢◌, ◌<◌, ℕ, true, IsFalse, IsTrue, List, [], length, Option, Some, None, Result, Ok, Err}
+use Rattle.std.specs.Prelude.{◌≡◌, ◌≢◌, ◌<◌, ℕ, true, IsFalse, IsTrue, List, [], length, Option, Some, None, Ok, Err}
 use Rattle.pack_defs.specs.ClockRule.{ClockState, clock_rule, on_air_set}
 use Rattle.pack_defs.specs.Packing.{IsPacking, fits}
 use Rattle.pack_defs.specs.Prices.{start_set}
@@ -10,15 +10,15 @@ use Rattle.outside_io.specs.declared.folder.StoreErr.TheVariants.{Failed, NoMemo
 use Rattle.auction_cmd.specs.declared.inputs.Inputs.{Inputs}
 use Rattle.auction_cmd.specs.declared.inputs.Stop.{Stop}
 use Rattle.auction_cmd.specs.declared.inputs.Stop.TheVariants.{CannotRead, Refused, NoMemory}
-use Rattle.auction_cmd.specs.declared.record.Ending.TheVariants.{Done, StartRefuted}
-use Rattle.auction_cmd.specs.declared.record.Record.{Record}
-use Rattle.auction_cmd.specs.Backed.{IsBacked}
+use Rattle.auction_core.specs.declared.record.Ending.TheVariants.{Done, StartRefuted}
+use Rattle.auction_core.specs.declared.record.Record.{Record}
+use Rattle.auction_core.specs.Backed.{IsBacked, undecided_of}
 use Rattle.auction_cmd.specs.Counts.{counts_text}
 use Rattle.auction_cmd.specs.Inputs.{Agrees, CountsFault, inputs_of}
 use Rattle.auction_cmd.specs.Outside.{Outside, IsSaid}
 use Rattle.auction_cmd.specs.Plan.{Plan, no_command, repeats, runs, checks}
 use Rattle.auction_cmd.specs.Refusals.{line_of, name_of}
-use Rattle.auction_cmd.specs.ResultText.{result_text, summary_text}
+use Rattle.result_text.specs.ResultText.{result_text, summary_text}
 use Rattle.auction_cmd.specs.Says.{Says, memory_line, twice_line, unfit_line, unread_line, unwritten_line}
 use Rattle.auction_cmd.specs.Words.{InputNames, RunNames}
 
@@ -43,11 +43,13 @@ StartFits inputs = IsTrue (fits inputs.book (start_set inputs.scenario))
 abbrev pub StartUnfit : Inputs → Type 0
 StartUnfit inputs = IsFalse (fits inputs.book (start_set inputs.scenario))
 
--- The record is that of the auction by the clock rule, carried through: it is backed, its start set fits, and its map is
--- clean and of exactly the stations on air at the end, so no two of its entries are a pair that interferes.
+-- The record is that of the auction by the clock rule, carried through with no test undecided: it is backed, its start set
+-- fits, and its map is clean and of exactly the stations on air at the end, so no two of its entries are a pair that
+-- interferes.
 pub record IsRecordOf (inputs : Inputs) (rec : Record) : Type 0 where
   pub backed : IsBacked inputs.scenario inputs.book rec
   pub ending : rec.ending ≡ Done
+  pub decided : undecided_of rec.steps ≡ []
   pub starts : StartFits inputs
   pub packing : IsPacking inputs.book (on_air_set inputs.scenario (outcome inputs)) rec.map
 

@@ -1,4 +1,3 @@
-pub mod Backed
 pub mod Counts
 pub mod Ends
 pub mod Inputs
@@ -7,6 +6,5 @@ pub mod PlainRule
 pub mod Plan
 pub mod Promises
 pub mod Refusals
-pub mod ResultText
 pub mod Says
 pub mod Words

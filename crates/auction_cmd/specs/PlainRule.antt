@@ -1,68 +1,36 @@
--- The plain rule between two of the clock's tests.
-use Rattle.std.specs.Prelude.{◌≡◌, ◌≢◌, ◌≤◌, ◌+◌, ◌-◌, ◌*◌, ℕ, Bool, true, false, not, if◌then◌else◌, ◌&&◌, List, [], ◌++◌, map, filter, take, length, sum_by, IsFalse, slice_index}
+-- The plain rule: each query of an auction is settled by a search through every channel map of its set.
+use Rattle.std.specs.Prelude.{◌≡◌, ◌+◌, ℕ, Bool, false, if◌then◌else◌, List, [], length, is_none, IsFalse}
+use Rattle.std.specs.Option.{option_map_or}
 use Rattle.pack_defs.specs.declared.scenario.Scenario.{Scenario}
-use Rattle.pack_defs.specs.Book.{BookView, domain_of}
-use Rattle.pack_defs.specs.ChannelMap.{overlaid}
+use Rattle.pack_defs.specs.Book.{BookView}
 use Rattle.pack_defs.specs.Packing.{IsPacking, fits}
-use Rattle.pack_defs.specs.Prices.{bidders, declines}
-use Rattle.pack_defs.specs.Scenario.{facilities}
-use Rattle.pack_defs.specs.ClockRule.{ClockTest, ClockState, after_tests, asked_from, on_air_set, opening_state, tests_of}
-use Rattle.auction_core.specs.declared.clock.Standing.{Standing}
-use Rattle.auction_core.specs.declared.clock.Standing.TheVariants.{Active, OnAir, Frozen}
-use Rattle.auction_cmd.specs.declared.plain_rule.Course.{Course}
-use Rattle.auction_cmd.specs.declared.record.Shown.{Shown}
-use Rattle.auction_cmd.specs.declared.record.Shown.TheVariants.{Empty, Fits, NoChannel, Unfit}
-use Rattle.auction_cmd.specs.declared.record.Step.{Step}
-use Rattle.auction_cmd.specs.Backed.{AreShown, IsStartShown, after_steps, delta_of, shows_room, start_point, test_of}
-use Rattle.auction_core.specs.Clock.{AreStandings, stands_on_air}
+use Rattle.pack_defs.specs.Prices.{start_set}
+use Rattle.pack_defs.specs.ClockRule.{clock_tests}
+use Rattle.auction_core.specs.declared.record.Ending.{Ending}
+use Rattle.auction_core.specs.declared.record.Ending.TheVariants.{Done, StartRefuted}
+use Rattle.auction_core.specs.declared.record.Shown.{Shown}
+use Rattle.auction_core.specs.declared.record.Shown.TheVariants.{Empty, Fits, NoChannel, Unfit, Refuted, Undecided}
+use Rattle.auction_core.specs.Backed.{is_undecided, undecided_of}
+use Rattle.auction_core.specs.State.{CoreState}
 
--- the test of the station at this place, in this round
-abbrev pub test_at : Scenario → ℕ → ℕ → ClockTest
-test_at sc round i = record { round = round; station = slice_index (facilities sc) i }
+-- how an auction by the clock rule ends: it is carried through exactly where its start set fits
+abbrev pub rule_ending : Scenario → BookView → Ending
+rule_ending sc book = if fits book (start_set sc) then Done else StartRefuted
 
--- the clock's tests before that of the station at this place in this round
-abbrev pub tests_before : Scenario → ℕ → ℕ → List ClockTest
-tests_before sc round i =
-    tests_of (bidders sc) 1 (round - 1)
-    ++ map (λ s. record { round = round; station = s }) (filter (λ s. not (declines sc s 0)) (take i (facilities sc)))
+-- what a search through every channel map of the set shows: a clean one, or that none is
+abbrev pub IsSearched : BookView → List ℕ → Shown → Type 0
+IsSearched book set Empty = ⊥
+IsSearched book set (Fits entries) = IsPacking book set entries
+IsSearched book set (NoChannel s) = ⊥
+IsSearched book set Unfit = IsFalse (fits book set)
+IsSearched book set (Refuted worker how) = ⊥
+IsSearched book set (Undecided receipts) = ⊥
 
--- the verdict of a test of s, whose set is this: a clean map of the whole set, or no channel, or no clean map
-abbrev pub AnswersTest : BookView → List ℕ → ℕ → Shown → Type 0
-AnswersTest book set s Empty = ⊥
-AnswersTest book set s (Fits map) = IsPacking book set map
-AnswersTest book set s (NoChannel f) = (f ≡ s) × (domain_of book s ≡ [])
-AnswersTest book set s Unfit = (domain_of book s ≢ []) × IsFalse (fits book set)
+-- nothing that was shown is undecided
+pub record IsDecided (state : CoreState) : Type 0 where
+  pub start : option_map_or is_undecided state.start false ≡ false
+  pub steps : undecided_of state.steps ≡ []
 
--- the map once a station stands so: that of its verdict, where it went on air
-abbrev pub map_after : List (ℕ × ℕ) → Standing → Shown → List (ℕ × ℕ)
-map_after entries standing shown =
-    if stands_on_air standing && shows_room shown then overlaid entries (delta_of shown) else entries
-
--- what a station that stands so is paid, in cents
-abbrev pub paid : Standing → ℕ
-paid Active = 0
-paid (OnAir round) = 0
-paid (Frozen round price) = price
-
--- the greatest price that a station may be paid, in cents
-abbrev pub most_paid : ℕ
-most_paid = 1000000000000
-
--- The plain rule after these tests, from such a start: where each station stands, the map of those on air, the steps so far, and what the
--- frozen ones are paid together.
-pub record IsAfter (sc : Scenario) (book : BookView) (start : Shown) (tests : List ClockTest)
-    (clock : List Standing) (entries : List (ℕ × ℕ)) (steps : List Step) (total : ℕ) : Type 0 where
-  pub started : IsStartShown sc book start
-  pub fits : shows_room start ≡ true
-  pub standings : AreStandings sc (after_tests sc book [] tests (opening_state sc)) clock
-  pub asked : map test_of steps ≡ asked_from sc book [] tests (opening_state sc)
-  pub shown : AreShown sc book (start_point sc start) steps
-  pub point : after_steps sc (start_point sc start) steps ≡ record { clock = after_tests sc book [] tests (opening_state sc); map = entries }
-  pub packing : IsPacking book (on_air_set sc (after_tests sc book [] tests (opening_state sc))) entries
-  pub sum : total ≡ sum_by (λ x. x.price) (after_tests sc book [] tests (opening_state sc)).frozen
-  pub bound : total ≤ most_paid * length (after_tests sc book [] tests (opening_state sc)).frozen
-  pub room : length (after_tests sc book [] tests (opening_state sc)).frozen + length (after_tests sc book [] tests (opening_state sc)).active ≤ length sc.stations
-
--- the course is the plain rule after these tests
-abbrev pub IsCourse : Scenario → BookView → List ClockTest → Course → Type 0
-IsCourse sc book tests course = IsAfter sc book course.start tests course.clock course.map course.steps.items course.total
+-- how many queries there may be yet
+abbrev pub queries_left : Scenario → CoreState → ℕ
+queries_left sc state = length state.left + (if is_none state.start then length (clock_tests sc) + 1 else 0)

@@ -9,11 +9,11 @@ use Rattle.outside_io.specs.Files.{OthersStand, Puts, StoredFile, bytes_of}
 use Rattle.outside_io.specs.Loads.{Writes}
 use Rattle.auction_cmd.specs.declared.inputs.Inputs.{Inputs}
 use Rattle.auction_cmd.specs.declared.inputs.Stop.TheVariants.{CannotRead, Refused}
-use Rattle.auction_cmd.specs.declared.record.Ending.TheVariants.{Done}
-use Rattle.auction_cmd.specs.declared.record.Record.{Record}
+use Rattle.auction_core.specs.declared.record.Ending.TheVariants.{Done}
+use Rattle.auction_core.specs.declared.record.Record.{Record}
 use Rattle.auction_cmd.specs.declared.refusal.Input.{Input}
 use Rattle.auction_cmd.specs.declared.refusal.Refusal.{Refusal}
-use Rattle.auction_cmd.specs.Backed.{IsBacked}
+use Rattle.auction_core.specs.Backed.{IsBacked}
 use Rattle.auction_cmd.specs.Counts.{counts_text}
 use Rattle.auction_cmd.specs.Ends.{IsRecordOf, StartFits, StartUnfit, outcome, result_of, summary_of}
 use Rattle.auction_cmd.specs.Inputs.{inputs_of}

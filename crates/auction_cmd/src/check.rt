@@ -9,7 +9,7 @@ ghost use Rattle.auction_cmd.specs.Words.{inputs_seen};
 use crate::explain::{explain, starve};
 use crate::finish::Finish;
 use crate::inputs::{Inputs, read_inputs};
-use crate::result_text::push_count;
+use result_text::counts::push_count;
 use crate::words::InputArgs;
 use outside_io::folder::Folder;
 use outside_io::sink::Sink;

@@ -1,6 +1,6 @@
 ghost use Rattle.std.specs.Prelude.{◌≡◌, None, Some};
 
-use crate::record::Record;
+use auction_core::record::Record;
 
 /// How the program ended.
 #[derive(Debug, Drop)]

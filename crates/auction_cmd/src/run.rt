@@ -10,12 +10,13 @@ use crate::explain::{explain, say_memory, starve};
 use crate::finish::Finish;
 use crate::inputs::{Inputs, read_inputs};
 use crate::plain_rule::plain_run;
-use crate::record::{Ending, Record};
-use crate::result_text::{result_csv, summary};
 use crate::says::say;
 use crate::words::RunArgs;
+use auction_core::record::{Ending, Record};
 use outside_io::folder::{Folder, StoreErr};
 use outside_io::sink::Sink;
+use result_text::counts::summary;
+use result_text::rows::result_csv;
 use std::alloc::{AllocError as NoMemory, Global};
 
 // The texts of a finished auction.
@@ -89,7 +90,7 @@ pub fn run<F: Folder, K: Sink>(
     };
     match record.ending {
         Ending::Done => {}
-        Ending::StartRefuted => {
+        Ending::StartRefuted | Ending::StartUndecided => {
             say(out, &["the start set does not fit\n"]);
             return Finish::with_record(6, record);
         }

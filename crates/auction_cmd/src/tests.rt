@@ -1,4 +1,7 @@
 //! Runs of the whole program over a folder and a sink in memory.
+//!
+//! Each helper that runs the program drops what the run left and answers a plain value, so that a test has nothing to
+//! let go.
 
 mod checked;
 mod refused;
@@ -11,7 +14,6 @@ use crate::finish::Finish;
 use outside_io::memory_folder::{MemoryFile, MemoryFolder};
 use outside_io::memory_sink::MemorySink;
 use std::alloc::{AllocError as NoMemory, Global};
-use std::test::Fail;
 
 const COMMAND: &str = "repack run d.csv r.csv s.json out.csv chan.csv tr.txt";
 
@@ -29,6 +31,14 @@ const SCENARIO: &str =
 const THREE: &str =
     "{\"id\":1,\"volume\":1,\"value\":50},{\"id\":2,\"volume\":1,\"value\":70},{\"id\":3,\"volume\":1,\"value\":10}";
 
+// The contents of the three inputs.
+#[derive(Clone, Copy)]
+struct Files<'a> {
+    domains: &'a [u8],
+    rows: &'a [u8],
+    scenario: &'a [u8],
+}
+
 // What a run left.
 #[derive(Drop)]
 struct Ended {
@@ -37,25 +47,33 @@ struct Ended {
     sink: MemorySink,
 }
 
-// The scenario with one part of it changed.
-fn changed(alloc: Global, part: &str, other: &str) -> Result<String, Fail> {
-    let (before, after) = SCENARIO.split_once(part).ok_or("there is no such part")?;
-    Ok(format!(in alloc; "{before}{other}{after}")?)
+// Inputs with these texts.
+fn texts<'a>(domains: &'a str, rows: &'a str, scenario: &'a str) -> Files<'a> {
+    Files {
+        domains: domains.as_bytes(),
+        rows: rows.as_bytes(),
+        scenario: scenario.as_bytes(),
+    }
+}
+
+// The scenario with one part of it changed. Where there is no such part it's one of which no test speaks.
+fn changed(alloc: Global, part: &str, other: &str) -> Result<String, NoMemory> {
+    let Some((before, after)) = SCENARIO.split_once(part) else {
+        return String::from_str(alloc, "{}");
+    };
+    let mut text = String::from_str(alloc, before)?;
+    text.push_str(other)?;
+    text.push_str(after)?;
+    Ok(text)
 }
 
 // A folder of the three inputs. The calls of these numbers fail.
-fn folder_of(
-    alloc: Global,
-    domains: &[u8],
-    rows: &[u8],
-    scenario: &[u8],
-    failing: &[u64],
-) -> Result<MemoryFolder, NoMemory> {
-    let mut files = Vec::new(alloc);
-    files.push(MemoryFile::new(alloc, "d.csv", domains)?)?;
-    files.push(MemoryFile::new(alloc, "r.csv", rows)?)?;
-    files.push(MemoryFile::new(alloc, "s.json", scenario)?)?;
-    Ok(MemoryFolder::new(files, failing.to_vec(alloc)?))
+fn folder_of(alloc: Global, files: Files<'_>, failing: &[u64]) -> Result<MemoryFolder, NoMemory> {
+    let mut held = Vec::new(alloc);
+    held.push(MemoryFile::new(alloc, "d.csv", files.domains)?)?;
+    held.push(MemoryFile::new(alloc, "r.csv", files.rows)?)?;
+    held.push(MemoryFile::new(alloc, "s.json", files.scenario)?)?;
+    Ok(MemoryFolder::new(held, failing.to_vec(alloc)?))
 }
 
 // The words of a command line.
@@ -68,15 +86,10 @@ fn words_of(alloc: Global, line: &str) -> Result<Vec<String>, NoMemory> {
 }
 
 // Runs the program on this command line and this folder. The writes of these numbers fail.
-fn run(
-    alloc: Global,
-    line: &str,
-    folder: MemoryFolder,
-    failing: &[u64],
-) -> Result<Ended, NoMemory> {
+fn run(alloc: Global, line: &str, folder: MemoryFolder, writes: &[u64]) -> Result<Ended, NoMemory> {
     let words = words_of(alloc, line)?;
     let mut folder = folder;
-    let mut sink = MemorySink::new(alloc, 9_999, failing.to_vec(alloc)?)?;
+    let mut sink = MemorySink::new(alloc, 9_999, writes.to_vec(alloc)?)?;
     let finish = auction_main(alloc, &words, &mut folder, &mut sink);
     Ok(Ended {
         finish,
@@ -85,21 +98,9 @@ fn run(
     })
 }
 
-// Runs it on this command line and these three texts.
-fn run_on(
-    alloc: Global,
-    line: &str,
-    domains: &str,
-    rows: &str,
-    scenario: &str,
-) -> Result<Ended, NoMemory> {
-    let folder = folder_of(
-        alloc,
-        domains.as_bytes(),
-        rows.as_bytes(),
-        scenario.as_bytes(),
-        &[],
-    )?;
+// Runs it on these files, where nothing fails.
+fn run_on(alloc: Global, line: &str, files: Files<'_>) -> Result<Ended, NoMemory> {
+    let folder = folder_of(alloc, files, &[])?;
     run(alloc, line, folder, &[])
 }
 
@@ -119,8 +120,20 @@ fn has_no_output(folder: &MemoryFolder) -> bool {
 }
 
 // Whether the run ended at this status, said this, and stored nothing.
-fn stops(ended: &Ended, status: u8, said: &str) -> bool {
+fn has_stopped(ended: &Ended, status: u8, said: &str) -> bool {
     ended.finish.status == status
         && ended.sink.bytes() == said.as_bytes()
         && has_no_output(&ended.folder)
+}
+
+// Whether a run on these files ends at this status with this said, nothing stored and no record.
+fn stops(
+    alloc: Global,
+    line: &str,
+    files: Files<'_>,
+    status: u8,
+    said: &str,
+) -> Result<bool, NoMemory> {
+    let ended = run_on(alloc, line, files)?;
+    Ok(has_stopped(&ended, status, said) && ended.finish.result.is_none())
 }

@@ -38,7 +38,7 @@ use Rattle.auction_core.proofs.Walk.{shown-number, IsStepShown-same, walk-step, 
 -- ---- parts of a state
 
 -- going on leaves how the start was shown, and what is noted
-go-on-start : (sc : Scenario) (book : BookView) (ts : List ClockTest) (state : CoreState) → ((go_on sc book ts state).start ≡ state.start) × ((go_on sc book ts state).noted ≡ state.noted)
+pub go-on-start : (sc : Scenario) (book : BookView) (ts : List ClockTest) (state : CoreState) → ((go_on sc book ts state).start ≡ state.start) × ((go_on sc book ts state).noted ≡ state.noted)
 go-on-start sc book [] state = (refl, refl)
 go-on-start sc book (t ∷ ts) state =
     let at : CoreState = record state { left = t ∷ ts } in
@@ -188,7 +188,7 @@ not-ended sc state w number e =
     ] in
     go (has_ended state) (number == state.number) (nat_le (length sc.workers) w) refl e
 
-task-is : (sc : Scenario) (book : BookView) (state : CoreState) (o : Option Shown) (l : List ClockTest) → state.start ≡ o → state.left ≡ l → task_of sc book state ≡ (if is_none o then Some (start_task sc state) else first_task sc book state l)
+pub task-is : (sc : Scenario) (book : BookView) (state : CoreState) (o : Option Shown) (l : List ClockTest) → state.start ≡ o → state.left ≡ l → task_of sc book state ≡ (if is_none o then Some (start_task sc state) else first_task sc book state l)
 unfolding task_of
 task-is sc book state o l e f = ap₂ (λ o l. if is_none o then Some (start_task sc state) else first_task sc book state l) e f
 

@@ -1,12 +1,13 @@
 //! An auction between two queries, whoever answers them.
 
 ghost use Rattle.std.specs.Prelude.{◌≡◌, ◌≢◌, ◌<◌, ◌≤◌, ℕ, None, Some, IfOk, OnOk, false, true, length};
+ghost use Rattle.pack_defs.specs.Book.{IsInOrder};
 ghost use Rattle.pack_defs.specs.Prices.{prices};
 ghost use Rattle.pack_defs.specs.Scenario.{IsWithinLimits};
 ghost use Rattle.auction_core.specs.Backed.{IsBacked, record_of};
 ghost use Rattle.auction_core.specs.Clockwork.{IsOfAuction};
 ghost use Rattle.auction_core.specs.Course.{GivesWithin, IsAtRest, IsCourse, core_state, has_room};
-ghost use Rattle.auction_core.specs.Rule.{SettlesQuery};
+ghost use Rattle.auction_core.specs.Rule.{KeepsTheRule, SettlesQuery};
 ghost use Rattle.auction_core.specs.State.{answered, has_ended, opening, start_task, started, task_of};
 
 use crate::course::Course;
@@ -41,10 +42,10 @@ impl Model for Clockwork {
     ghost Value = { ClockworkView };
 
     ghost view = { λ c. record {
-        scenario = c.scenario;
-        book = c.book;
-        state = core_state c.scenario c.course c.number;
-        room = c.course.room;
+      scenario = c.scenario;
+      book = c.book;
+      state = core_state c.scenario c.course c.number;
+      room = c.course.room;
     } };
 
     ghost invariant = { λ c. IsClockwork c.scenario c.book c.schedule.items c.course c.number };
@@ -75,6 +76,16 @@ impl Clockwork {
         ensures { result.now ≡ self.now.book }
     {
         &self.book
+    }
+
+    /// Each auction keeps the clock rule, whatever has settled its queries; it is of a scenario within the limits and a book
+    /// of its stations, in order.
+    pub fn keeps_the_rule(&self)
+        ensures rule { KeepsTheRule self.now.scenario self.now.book self.now.state }
+        ensures auction { IsOfAuction self.now.scenario self.now.book }
+        ensures in_order { IsInOrder self.now.book }
+    {
+        let _number = self.number;
     }
 
     /// The workers of the scenario.
@@ -159,7 +170,8 @@ impl Clockwork {
         ensures book { self.new.book ≡ self.old.book }
         ensures state { self.new.state ≡ self.old.state }
     {
-        self.course.reserve(self.scenario.stations.as_slice().len() + 1)
+        self.course
+            .reserve(self.scenario.stations.as_slice().len() + 1)
     }
 
     /// The standing query is settled so, and the auction goes on to its next query or its end. It takes no memory.
@@ -173,11 +185,18 @@ impl Clockwork {
     {
         self.number += 1;
         if self.course.start().is_none() {
-            begin(&mut self.course, &self.scenario, &self.book, &self.schedule, shown);
+            begin(
+                &mut self.course,
+                &self.scenario,
+                &self.book,
+                &self.schedule,
+                shown,
+            );
             return;
         }
         self.course.settle(&self.scenario, &self.schedule, shown);
-        self.course.go_on(&self.scenario, &self.book, &self.schedule);
+        self.course
+            .go_on(&self.scenario, &self.book, &self.schedule);
     }
 
     /// The record of the auction, which has ended. The only error is want of memory.
@@ -205,9 +224,10 @@ fn first_course(
     ensures state { IfOk result (λ c. core_state sc.now c 1 ≡ opening sc.now book.now) }
 {
     let mut course = Course::open(alloc, sc)?;
-    if let Some(shown) = start_unasked(alloc, sc, book)? {
-        begin(&mut course, sc, book, schedule, shown);
-    }
+    let Some(shown) = start_unasked(alloc, sc, book)? else {
+        return Ok(course);
+    };
+    begin(&mut course, sc, book, schedule, shown);
     Ok(course)
 }
 

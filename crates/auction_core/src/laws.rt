@@ -1,4 +1,4 @@
-ghost use Rattle.std.specs.Prelude.{◌≡◌, ℕ, List, [], ◌∷◌, ◌++◌, Some, None, true, map};
+ghost use Rattle.std.specs.Prelude.{◌≡◌, List, [], ◌∷◌, ◌++◌, Some, None, true, map};
 ghost use Rattle.pack_defs.specs.Examples.{three_stations, lone_station, lone_bid, row, test};
 ghost use Rattle.pack_defs.specs.ResultRows.{Outcome};
 ghost use Rattle.pack_defs.specs.Book.{BookView};

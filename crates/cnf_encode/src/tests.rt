@@ -1,7 +1,5 @@
-ghost use Rattle.std.specs.Prelude.{◌≡◌, IfOk, IsTrue, [], ◌∷◌};
-ghost use Rattle.pack_defs.specs.Book.{pairs_ascend};
+ghost use Rattle.std.specs.Prelude.{◌≡◌, IfOk, []};
 ghost use Rattle.pack_defs.specs.Examples.{three_stations};
-ghost use Rattle.pack_defs.specs.Lists.{is_ascending};
 
 use crate::decode::decode;
 use crate::encode::encode;

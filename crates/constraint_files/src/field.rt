@@ -1,5 +1,5 @@
 //! The numbers in fields.
-ghost use Rattle.std.specs.Prelude.{◌≡◌, drop, false, if◌then◌else◌};
+ghost use Rattle.std.specs.Prelude.{◌≡◌, drop, if◌then◌else◌};
 ghost use Rattle.std.specs.Option.{ok_or, option_and_then};
 ghost use Rattle.csv.specs.Records.{field_at};
 ghost use Rattle.constraint_files.specs.Numbers.{is_channel, number, numbers};

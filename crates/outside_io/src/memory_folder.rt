@@ -1,4 +1,4 @@
-ghost use Rattle.std.specs.Prelude.{◌≡◌, ◌<◌, ◌↔◌, [], take, length, slice_index_or, option_map, None, IsTrue, IfOk, OnOk, OnErr, IfSome, IfNone};
+ghost use Rattle.std.specs.Prelude.{◌≡◌, ◌<◌, ◌↔◌, [], length, option_map, None, IsTrue, IfOk, OnOk, OnErr, IfSome, IfNone};
 ghost use Rattle.outside_io.specs.Files.{StoredFile, bytes_of, IsPlace, with_file};
 
 use crate::fault_plan::FaultPlan;

@@ -1,9 +1,7 @@
 //! Whether a set of stations fits, by a plain depth-first search without a budget.
 
-ghost use Rattle.std.specs.Prelude.{◌≡◌, ◌&&◌, not, true, IfOk, IsTrue, IsFalse, MatchOption, MatchBool};
-ghost use Rattle.std.specs.List.{list_all};
+ghost use Rattle.std.specs.Prelude.{◌≡◌, true, IfOk, IsTrue, IsFalse, MatchOption, MatchBool};
 ghost use Rattle.pack_defs.specs.Lists.{is_ascending};
-ghost use Rattle.pack_defs.specs.Book.{is_forbidden};
 ghost use Rattle.pack_defs.specs.Packing.{IsPacking, fits, is_apart};
 ghost use Rattle.plain_pack.specs.Search.{Extends, NoneExtends, stands_with};
 

@@ -1,6 +1,5 @@
 ghost use Rattle.std.specs.Prelude.{◌≡◌, ◌*◌, ◌^◌, ◌<◌, ◌≤◌, ◌++◌, ◌∷◌, [], length, IfOk, true};
 ghost use Rattle.clause_db.specs.Clause.{has_lit};
-ghost use Rattle.clause_db.specs.Clauses.{LitWithin};
 ghost use Rattle.rup_check.specs.Known.{code_of, is_within, Marks};
 
 use clause_db::lit::Lit;

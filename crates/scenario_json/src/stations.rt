@@ -1,6 +1,6 @@
 ghost use Rattle.std.specs.Prelude.{◌≡◌, [], IfOk, IsFalse, map};
 ghost use Rattle.serde_json.specs.View.{view};
-ghost use Rattle.scenario_json.specs.ScenarioOf.{has_id, new_id, station_in, stations_from, stations_in, value_in};
+ghost use Rattle.scenario_json.specs.ScenarioOf.{has_id, station_in, stations_from, stations_in, value_in};
 ghost use Rattle.scenario_json.specs.Steps.{Reads};
 
 use crate::error::ScenarioErr;

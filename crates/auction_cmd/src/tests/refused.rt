@@ -1,28 +1,67 @@
-use super::{CHECK, COMMAND, DOMAINS, ROWS, SCENARIO, changed, folder_of, run, run_on, stops};
-use std::alloc::Global;
+use super::{CHECK, COMMAND, DOMAINS, Files, ROWS, SCENARIO, changed, run_on, stops, texts};
+use std::alloc::{AllocError as NoMemory, Global};
 use std::test::Fail;
 
-// Whether both commands refuse these files with this line, and store nothing.
+// Whether both commands refuse these texts with this line, and store nothing.
 fn are_refused(
     alloc: Global,
     domains: &str,
     rows: &str,
     scenario: &str,
     line: &str,
-) -> Result<bool, Fail> {
-    for command in [COMMAND, CHECK] {
-        let ended = run_on(alloc, command, domains, rows, scenario)?;
-        if !stops(&ended, 5, line) || ended.finish.result.is_some() {
-            return Ok(false);
+) -> Result<bool, NoMemory> {
+    let files = texts(domains, rows, scenario);
+    Ok(stops(alloc, COMMAND, files, 5, line)? && stops(alloc, CHECK, files, 5, line)?)
+}
+
+// Whether both commands refuse the scenario with this part changed.
+fn is_refused(alloc: Global, part: &str, other: &str, line: &str) -> Result<bool, NoMemory> {
+    let scenario = changed(alloc, part, other)?;
+    are_refused(alloc, DOMAINS, ROWS, &scenario, line)
+}
+
+// The first row whose domains file isn't refused with its line.
+fn unrefused_domains<'a>(
+    alloc: Global,
+    table: &[(&str, &'a str)],
+) -> Result<Option<&'a str>, NoMemory> {
+    for &(domains, line) in table {
+        if !are_refused(alloc, domains, "", SCENARIO, line)? {
+            return Ok(Some(line));
         }
     }
-    Ok(true)
+    Ok(None)
+}
+
+// The first row whose rows file isn't refused with its line.
+fn unrefused_rows<'a>(
+    alloc: Global,
+    table: &[(&str, &'a str)],
+) -> Result<Option<&'a str>, NoMemory> {
+    for &(rows, line) in table {
+        if !are_refused(alloc, DOMAINS, rows, SCENARIO, line)? {
+            return Ok(Some(line));
+        }
+    }
+    Ok(None)
+}
+
+// The first row whose change of the scenario isn't refused with its line.
+fn unrefused_change<'a>(
+    alloc: Global,
+    table: &[(&str, &str, &'a str)],
+) -> Result<Option<&'a str>, NoMemory> {
+    for &(part, other, line) in table {
+        if !is_refused(alloc, part, other, line)? {
+            return Ok(Some(line));
+        }
+    }
+    Ok(None)
 }
 
 #[test]
 fn domains_are_refused(rt: HostRuntime) -> Result<(), Fail> {
-    let alloc = rt.alloc();
-    for (domains, line) in [
+    let table = [
         ("DOMAIN\n", "d.csv: line 1: short row\n"),
         ("\nDOMAINS,1,14\n", "d.csv: line 2: unknown key\n"),
         ("DOMAIN,1,14\nDOMAIN,x,14\n", "d.csv: line 2: bad number\n"),
@@ -36,28 +75,35 @@ fn domains_are_refused(rt: HostRuntime) -> Result<(), Fail> {
             "DOMAIN,1,14\nDOMAIN,3,14\n",
             "d.csv: no domain row for station 2\n",
         ),
-    ] {
-        assert!(rt; are_refused(alloc, domains, "", SCENARIO, line)?, "{line}");
-    }
+    ];
+    assert_eq!(rt; unrefused_domains(rt.alloc(), &table)?, None);
     Ok(())
+}
+
+// Domain rows for this many stations, from 1.
+fn domain_rows(alloc: Global, count: u32) -> Result<String, NoMemory> {
+    let mut domains = String::new(alloc);
+    for i in 0..count {
+        domains.push_str(&format!(in alloc; "DOMAIN,{},14\n", i + 1)?)?;
+    }
+    Ok(domains)
+}
+
+// Whether a check refuses this many stations with this line.
+fn are_too_many(alloc: Global, count: u32, line: &str) -> Result<bool, NoMemory> {
+    let domains = domain_rows(alloc, count)?;
+    stops(alloc, CHECK, texts(&domains, "", SCENARIO), 5, line)
 }
 
 #[test]
 fn too_many_domains_are_refused(rt: HostRuntime) -> Result<(), Fail> {
-    let alloc = rt.alloc();
-    let mut domains = String::new(alloc);
-    for i in 1..65_538 {
-        domains.push_str(&format!(in alloc; "DOMAIN,{i},14\n")?)?;
-    }
-    let ended = run_on(alloc, CHECK, &domains, "", SCENARIO)?;
-    assert!(rt; stops(&ended, 5, "d.csv: line 65537: too many\n"));
+    assert!(rt; are_too_many(rt.alloc(), 65_537, "d.csv: line 65537: too many\n")?);
     Ok(())
 }
 
 #[test]
 fn rows_are_refused(rt: HostRuntime) -> Result<(), Fail> {
-    let alloc = rt.alloc();
-    for (rows, line) in [
+    let table = [
         ("CO,14,14\n", "r.csv: line 1: short row\n"),
         (
             "CO,14,14,1,2\nXO,14,14,1,2\n",
@@ -72,19 +118,14 @@ fn rows_are_refused(rt: HostRuntime) -> Result<(), Fail> {
             "ADJ+1,14,16,1,2\n",
             "r.csv: line 1: channels do not fit the key\n",
         ),
-    ] {
-        assert!(rt;
-            are_refused(alloc, DOMAINS, rows, SCENARIO, line)?,
-            "{line}"
-        );
-    }
+    ];
+    assert_eq!(rt; unrefused_rows(rt.alloc(), &table)?, None);
     Ok(())
 }
 
 #[test]
 fn a_scenario_is_refused(rt: HostRuntime) -> Result<(), Fail> {
-    let alloc = rt.alloc();
-    for (part, other, line) in [
+    let table = [
         ("}]}", "}]", "s.json: not JSON\n"),
         ("\"version\":1,", "", "s.json: missing version\n"),
         ("\"top\":15", "\"top\":\"15\"", "s.json: wrong kind top\n"),
@@ -103,6 +144,20 @@ fn a_scenario_is_refused(rt: HostRuntime) -> Result<(), Fail> {
             "[60,41]",
             "s.json: decrements exceed the opening\n",
         ),
+        ("\"cdcl\"", "\"walk\"", "s.json: out of limit kind at 1\n"),
+        (
+            "[{\"kind\":\"cdcl\",\"budget\":1000}]",
+            "[]",
+            "s.json: out of limit workers\n",
+        ),
+    ];
+    assert_eq!(rt; unrefused_change(rt.alloc(), &table)?, None);
+    Ok(())
+}
+
+#[test]
+fn stations_are_refused(rt: HostRuntime) -> Result<(), Fail> {
+    let table = [
         ("\"id\":2", "\"id\":1", "s.json: repeated station 1\n"),
         (
             "{\"id\":1,\"volume\":1,",
@@ -115,20 +170,15 @@ fn a_scenario_is_refused(rt: HostRuntime) -> Result<(), Fail> {
             "s.json: wrong kind value at 1\n",
         ),
         ("{\"id\":3,", "{", "s.json: missing id at 3\n"),
-        ("\"cdcl\"", "\"walk\"", "s.json: out of limit kind at 1\n"),
-        (
-            "[{\"kind\":\"cdcl\",\"budget\":1000}]",
-            "[]",
-            "s.json: out of limit workers\n",
-        ),
-    ] {
-        let scenario = changed(alloc, part, other)?;
-        assert!(rt;
-            are_refused(alloc, DOMAINS, ROWS, &scenario, line)?,
-            "{line}"
-        );
-    }
-    assert!(rt; are_refused(alloc, DOMAINS, ROWS, "[]", "s.json: wrong kind scenario\n")?);
+    ];
+    assert_eq!(rt; unrefused_change(rt.alloc(), &table)?, None);
+    Ok(())
+}
+
+#[test]
+fn a_list_is_no_scenario(rt: HostRuntime) -> Result<(), Fail> {
+    let line = "s.json: wrong kind scenario\n";
+    assert!(rt; are_refused(rt.alloc(), DOMAINS, ROWS, "[]", line)?);
     Ok(())
 }
 
@@ -136,61 +186,79 @@ fn a_scenario_is_refused(rt: HostRuntime) -> Result<(), Fail> {
 #[test]
 fn random_bytes_are_refused(rt: HostRuntime) -> Result<(), Fail> {
     let alloc = rt.alloc();
+    let files = texts(DOMAINS, ROWS, SCENARIO);
     let bytes = b"\x00\xff\x9c,\x00\n\xfe\x07".as_slice();
-    let domains = DOMAINS.as_bytes();
-    let rows = ROWS.as_bytes();
-    for (files, line) in [
-        (
-            [bytes, rows, SCENARIO.as_bytes()],
-            "d.csv: line 1: unknown key\n",
-        ),
-        (
-            [domains, bytes, SCENARIO.as_bytes()],
-            "r.csv: line 1: short row\n",
-        ),
-        ([domains, rows, bytes], "s.json: not JSON\n"),
-    ] {
-        let [first, second, third] = files;
-        let folder = folder_of(alloc, first, second, third, &[])?;
-        let ended = run(alloc, COMMAND, folder, &[])?;
-        assert!(rt; stops(&ended, 5, line), "{line}");
-    }
+    let first = Files {
+        domains: bytes,
+        ..files
+    };
+    assert!(rt; stops(alloc, COMMAND, first, 5, "d.csv: line 1: unknown key\n")?);
+    let second = Files {
+        rows: bytes,
+        ..files
+    };
+    assert!(rt; stops(alloc, COMMAND, second, 5, "r.csv: line 1: short row\n")?);
+    let third = Files {
+        scenario: bytes,
+        ..files
+    };
+    assert!(rt; stops(alloc, COMMAND, third, 5, "s.json: not JSON\n")?);
     Ok(())
+}
+
+// The first row whose line of names isn't refused with its line.
+fn unrefused_names<'a>(
+    alloc: Global,
+    table: &[(&str, &'a str)],
+) -> Result<Option<&'a str>, NoMemory> {
+    let files = texts(DOMAINS, ROWS, SCENARIO);
+    for &(command, line) in table {
+        if !stops(alloc, command, files, 5, line)? {
+            return Ok(Some(line));
+        }
+    }
+    Ok(None)
 }
 
 #[test]
 fn an_output_name_is_given_twice(rt: HostRuntime) -> Result<(), Fail> {
-    let alloc = rt.alloc();
-    for (names, line) in [
+    let table = [
         (
-            "d.csv r.csv s.json d.csv chan.csv tr.txt",
+            "repack run d.csv r.csv s.json d.csv chan.csv tr.txt",
             "d.csv: given twice\n",
         ),
         (
-            "d.csv r.csv s.json out.csv out.csv tr.txt",
+            "repack run d.csv r.csv s.json out.csv out.csv tr.txt",
             "out.csv: given twice\n",
         ),
         (
-            "d.csv r.csv s.json out.csv chan.csv chan.csv",
+            "repack run d.csv r.csv s.json out.csv chan.csv chan.csv",
             "chan.csv: given twice\n",
         ),
         (
-            "d.csv r.csv s.json out.csv chan.csv s.json",
+            "repack run d.csv r.csv s.json out.csv chan.csv s.json",
             "s.json: given twice\n",
         ),
         (
-            "d.csv r.csv s.json tr.txt s.json tr.txt",
+            "repack run d.csv r.csv s.json tr.txt s.json tr.txt",
             "tr.txt: given twice\n",
         ),
         // Names are compared before any file is read.
-        ("a b c d d e", "d: given twice\n"),
-    ] {
-        let command = format!(in alloc; "repack run {names}")?;
-        let ended = run_on(alloc, &command, DOMAINS, ROWS, SCENARIO)?;
-        assert!(rt; stops(&ended, 5, line), "{names}");
-    }
+        ("repack run a b c d d e", "d: given twice\n"),
+    ];
+    assert_eq!(rt; unrefused_names(rt.alloc(), &table)?, None);
+    Ok(())
+}
+
+// The status of a run on the three stations.
+fn status_of(alloc: Global, command: &str) -> Result<u8, NoMemory> {
+    let ended = run_on(alloc, command, texts(DOMAINS, ROWS, SCENARIO))?;
+    Ok(ended.finish.status)
+}
+
+#[test]
+fn names_of_one_place_may_differ(rt: HostRuntime) -> Result<(), Fail> {
     let command = "repack run d.csv r.csv s.json out.csv ./out.csv tr.txt";
-    let ended = run_on(alloc, command, DOMAINS, ROWS, SCENARIO)?;
-    assert_eq!(rt; ended.finish.status, 0);
+    assert_eq!(rt; status_of(rt.alloc(), command)?, 0);
     Ok(())
 }

@@ -1,9 +1,0 @@
-use Rattle.std.proofs.Common.{◌≡◌, ◌++◌, map, take}
-use Rattle.auction_cmd.specs.ResultText.{IsBetweenRows, header_line, standing_lines, text_held}
-use Rattle.auction_cmd.proofs.result_text.standings_csv.Given as goal
-
-abbrev pub invariant-rows : goal.invariant-rows
-invariant-rows l = record {
-  idle : IsBetweenRows l.wtr;
-  text : text_held l.wtr ≡ header_line ++ standing_lines (take l.i (map (λ x. x.id) l.stations)) (take l.i l.standings);
-}
