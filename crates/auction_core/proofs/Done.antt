@@ -24,7 +24,7 @@ use Rattle.auction_core.proofs.Keeps.{start-map}
 
 -- ---- which of the steps' tests are the undecided ones
 
-asked-apart : (sc : Scenario) (book : BookView) (U ts : List ClockTest) (st : ClockState) → TestsApart ts → TestsApart (asked_from sc book U ts st)
+pub asked-apart : (sc : Scenario) (book : BookView) (U ts : List ClockTest) (st : ClockState) → TestsApart ts → TestsApart (asked_from sc book U ts st)
 asked-apart sc book U [] st apart = tt
 asked-apart sc book U (t ∷ ts) st apart =
     let next : ClockState = after_test sc book U st t in
@@ -51,11 +51,11 @@ only-rest true false d e = refl
 only-rest false c d e = refl
 
 -- the steps' tests that are among these are those that are shown undecided
-abbrev AreListed : List ClockTest → List Step → Type 0
+abbrev pub AreListed : List ClockTest → List Step → Type 0
 AreListed U xs = (x : Step) → Contains xs x → is_listed U (test_of x) ≡ is_undecided x.shown
 
 -- where no test comes twice, a step's test is listed as undecided exactly where the step is shown so
-listed-shown : (xs : List Step) → TestsApart (map test_of xs) → AreListed (undecided_of xs) xs
+pub listed-shown : (xs : List Step) → TestsApart (map test_of xs) → AreListed (undecided_of xs) xs
 listed-shown [] apart x c = absurd (Contains-nil x c)
 listed-shown (y ∷ ys) apart x c =
     let option = λ (t : ClockTest). listed-option (is_undecided y.shown) (test_of y) t (undecided_of ys) in
@@ -82,7 +82,7 @@ and_true true = refl
 and_true false = refl
 
 -- a step that is shown as it has to be moves the clock as the rule does
-step-moves : (sc : Scenario) (book : BookView) (U : List ClockTest) (state : CoreState) (x : Step) → IsReady sc book state x.station → is_active state.clock x.station ≡ true → IsStepShown sc book state x → is_listed U (test_of x) ≡ is_undecided x.shown →
+pub step-moves : (sc : Scenario) (book : BookView) (U : List ClockTest) (state : CoreState) (x : Step) → IsReady sc book state x.station → is_active state.clock x.station ≡ true → IsStepShown sc book state x → is_listed U (test_of x) ≡ is_undecided x.shown →
     (settled sc state (test_of x) x.shown).clock ≡ after_test sc book U state.clock (test_of x)
 step-moves sc book U state x r active h l =
     let t : ClockTest = test_of x in
@@ -128,7 +128,7 @@ walk sc book U (t ∷ ts) done state xs a e of tests shown listed =
 
 -- ---- the record
 
-done-room : (shown : Shown) → ending_of shown ≡ Done → shows_room shown ≡ true
+pub done-room : (shown : Shown) → ending_of shown ≡ Done → shows_room shown ≡ true
 done-room Empty e = refl
 done-room (Fits delta) e = refl
 done-room (NoChannel s) e = cc
