@@ -34,13 +34,19 @@ fit-by : (b : Bool) → Ending.Done ≡ cond b Ending.Done Ending.StartRefuted �
 fit-by true e = refl
 fit-by false e = cc
 
+not-done : (b : Bool) (ending : Ending) → ending ≡ cond b Ending.Done Ending.StartRefuted → (ending ≡ Ending.Done → ⊥) → ending ≡ Ending.StartRefuted
+not-done true ending e other = absurd (other e)
+not-done false ending e other = e
+
 -- an auction that wasn't carried through has a start set that doesn't fit
-pub refuted : (inputs : Inputs) (rec : Record) → IsBacked inputs.scenario inputs.book rec → rec.ending ≡ rule_ending inputs.scenario inputs.book → rec.ending ≡ Ending.StartRefuted → IsRefutedRecordOf inputs rec
-refuted inputs rec backed rule ending = record {
-  backed = backed;
-  ending = ending;
-  starts = unfit-by (fits inputs.book (start_set inputs.scenario)) (sym ending ∙ rule);
-}
+pub refuted : (inputs : Inputs) (rec : Record) → IsBacked inputs.scenario inputs.book rec → rec.ending ≡ rule_ending inputs.scenario inputs.book → (rec.ending ≡ Ending.Done → ⊥) → IsRefutedRecordOf inputs rec
+refuted inputs rec backed rule other =
+    let ending = not-done (fits inputs.book (start_set inputs.scenario)) rec.ending rule other in
+    record {
+      backed = backed;
+      ending = ending;
+      starts = unfit-by (fits inputs.book (start_set inputs.scenario)) (sym ending ∙ rule);
+    }
 
 -- one that is done has one that fits
 pub done-starts : (inputs : Inputs) (rec : Record) → rec.ending ≡ rule_ending inputs.scenario inputs.book → rec.ending ≡ Ending.Done → StartFits inputs

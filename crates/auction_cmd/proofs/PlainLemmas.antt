@@ -18,7 +18,7 @@ use Rattle.auction_core.specs.declared.record.Ending.TheVariants.{Done, StartRef
 use Rattle.auction_core.specs.declared.record.Record.{Record}
 use Rattle.auction_core.specs.declared.record.Shown.{Shown}
 use Rattle.auction_core.specs.declared.record.Shown.TheVariants.{Empty, Fits, NoChannel, Unfit, Refuted, Undecided}
-use Rattle.auction_core.specs.Backed.{IsBacked, IsSettledBy, IsStartShown, ending_of, is_undecided, record_of, undecided_of}
+use Rattle.auction_core.specs.Backed.{IsBacked, IsSettledBy, IsStartShown, ending_of, is_undecided, record_of, shown_start, undecided_of}
 use Rattle.auction_core.specs.Clockwork.{IsOfAuction}
 use Rattle.auction_core.specs.Rule.{IsAuction, KeepsTheRule, SettlesQuery}
 use Rattle.auction_core.specs.State.{CoreState, answered, before_start, delta_of, go_on, has_ended, opening, past_first, settled, settled_unasked, shows_room, start_task, start_unasked, started, task_of}
@@ -221,7 +221,7 @@ ending-room (Undecided xs) d = absurd (true≢false d)
 
 -- ---- the record
 
-decided-start : (o : Option Shown) → option_map_or is_undecided o false ≡ false → is_undecided (unwrap_or o Empty) ≡ false
+decided-start : (o : Option Shown) → option_map_or is_undecided o false ≡ false → is_undecided (shown_start o) ≡ false
 decided-start None h = refl
 decided-start (Some shown) h = h
 

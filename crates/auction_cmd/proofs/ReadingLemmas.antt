@@ -1,5 +1,5 @@
 -- Where the input files are there, none of them can't be read.
-use Rattle.std.proofs.Common.{◌≡◌, ◌∙◌, ℕ, Bool, true, false, List, length, nat_lt, cond, refl, sym, ap, inl, inr}
+use Rattle.std.proofs.Common.{◌≡◌, ◌∙◌, ℕ, Bool, true, false, List, [], ◌∷◌, length, map, nat_lt, cond, refl, sym, ap, subst, inl, inr}
 use Rattle.std.specs.Prelude.{Option, Some, None, Result, Ok, Err, IsSome}
 use Rattle.std.proofs.lemmas.Bool.{cases_Bool}
 use Rattle.constraint_files.specs.Domains.{domains_of}
@@ -7,12 +7,15 @@ use Rattle.constraint_files.specs.Rows.{pairs_of}
 use Rattle.constraint_files.specs.declared.error.ReadErr.{ReadErr}
 use Rattle.constraint_files.specs.declared.error.ReadErr.TheVariants.{Row, NoMemory as NoRoom}
 use Rattle.outside_io.specs.Files.{StoredFile, bytes_of}
-use Rattle.pack_defs.specs.Book.{BookView}
+use Rattle.pack_defs.specs.Book.{BookView, cut_book, cut_domain, stations_of}
+use Rattle.pack_defs.specs.declared.domain.Domain.{Domain}
+use Rattle.pack_defs.specs.declared.pair.Pair.{Pair}
 use Rattle.pack_defs.specs.declared.scenario.Scenario.{Scenario}
+use Rattle.pack_defs.specs.Scenario.{facilities}
 use Rattle.scenario_json.specs.declared.error.ScenarioErr.{ScenarioErr}
 use Rattle.scenario_json.specs.declared.join.JoinErr.{JoinErr}
 use Rattle.scenario_json.specs.declared.join.JoinErr.TheVariants.{MissingDomain, NoMemory as NoSpace}
-use Rattle.scenario_json.specs.Joined.{joined}
+use Rattle.scenario_json.specs.Joined.{book_unless, first_missing, joined}
 use Rattle.scenario_json.specs.ScenarioOf.{scenario_of}
 use Rattle.auction_cmd.specs.declared.refusal.Input.{Input}
 use Rattle.auction_cmd.specs.declared.refusal.Input.TheVariants.{Domains, Rows, Scenario as ScenarioFile}
@@ -21,6 +24,21 @@ use Rattle.auction_cmd.specs.declared.inputs.Stop.TheVariants.{CannotRead}
 use Rattle.auction_cmd.specs.Inputs.{and_then, bytes_within, file_limit, file_of, inputs_from, inputs_of, rows_read, scenario_read}
 use Rattle.auction_cmd.specs.Promises.{AreThere}
 use Rattle.auction_cmd.specs.Words.{InputNames}
+
+-- a joined book is of exactly the scenario's stations
+pub joined-stations : (sc : Scenario) (domains : List Domain) (pairs : List Pair) (book : BookView) → joined sc domains pairs ≡ Ok book → stations_of book ≡ facilities sc
+unfolding joined
+joined-stations sc domains pairs book e =
+    let cut = cut_book sc.top (facilities sc) domains pairs in
+    let go : (o : Option ℕ) → book_unless o cut ≡ Ok book → stations_of book ≡ facilities sc = λ o. elim o as (λ o. book_unless o cut ≡ Ok book → stations_of book ≡ facilities sc) [
+      | None ↦ λ k. let same : cut ≡ book = cc in subst (λ b. stations_of b ≡ facilities sc) same (own sc.top domains (facilities sc))
+      | Some s ↦ λ k. cc
+    ] in
+    go (first_missing (facilities sc) domains) e
+  where
+    own : (top : ℕ) (domains : List Domain) (ids : List ℕ) → map (λ d. d.station) (map (cut_domain top domains) ids) ≡ ids
+    own top domains [] = refl
+    own top domains (x ∷ xs) = ap (λ ys. x ∷ ys) (own top domains xs)
 
 -- the reading doesn't stop at a file that can't be read
 CanRead : {A : Type 0} → Result A Stop → Type 0

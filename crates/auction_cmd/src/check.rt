@@ -9,10 +9,10 @@ ghost use Rattle.auction_cmd.specs.Words.{inputs_seen};
 use crate::explain::{explain, starve};
 use crate::finish::Finish;
 use crate::inputs::{Inputs, read_inputs};
-use result_text::counts::push_count;
 use crate::words::InputArgs;
 use outside_io::folder::Folder;
 use outside_io::sink::Sink;
+use result_text::counts::push_count;
 use std::alloc::{AllocError as NoMemory, Global};
 
 // The counts of the inputs, each on a line of its own.

@@ -4,7 +4,8 @@ ghost use Rattle.std.specs.Prelude.{◌≡◌, List, Some, IfOk};
 ghost use Rattle.outside_io.specs.Files.{StoredFile};
 ghost use Rattle.constraint_files.specs.Domains.{domains_of};
 ghost use Rattle.constraint_files.specs.Rows.{pairs_of};
-ghost use Rattle.pack_defs.specs.Scenario.{IsWithinLimits};
+ghost use Rattle.pack_defs.specs.Book.{stations_of};
+ghost use Rattle.pack_defs.specs.Scenario.{IsWithinLimits, facilities};
 ghost use Rattle.scenario_json.specs.ScenarioOf.{scenario_of};
 ghost use Rattle.auction_cmd.specs.Inputs.{Agrees, CountsFault, and_then, file_of, inputs_of, rows_read, scenario_read};
 ghost use Rattle.auction_cmd.specs.Words.{inputs_seen};
@@ -137,6 +138,7 @@ pub fn read_inputs<F: Folder>(
     ensures told { (files : List StoredFile) → F.files folder.old ≡ Some files →
         Agrees (λ i. i) (F.steady folder.old) (inputs_of files (inputs_seen names.now)) result }
     ensures limits { IfOk result (λ i. IsWithinLimits i.scenario) }
+    ensures stations { IfOk result (λ i. stations_of i.book ≡ facilities i.scenario) }
     ensures files { F.files folder.new ≡ F.files folder.old }
     ensures steady { F.steady folder.new ≡ F.steady folder.old }
     ensures counted { CountsFault (F.faults folder.old) (F.faults folder.new) result }

@@ -37,6 +37,7 @@ fn step(alloc: Global, clockwork: &mut Clockwork) -> Result<(), NoMemory>
     ensures decided { OnOk result (IsDecided clockwork.new.state) }
     ensures fewer { OnOk result (queries_left clockwork.new.scenario clockwork.new.state < queries_left clockwork.old.scenario clockwork.old.state) }
 {
+    clockwork.keeps_the_rule();
     let Some(task) = clockwork.task(alloc)? else {
         unreachable!()
     };
@@ -62,5 +63,7 @@ pub fn plain_run(alloc: Global, sc: &Scenario, book: &Book) -> Result<Record, No
     while !clockwork.has_ended() {
         step(alloc, &mut clockwork)?;
     }
-    clockwork.into_record(alloc, sc.copy(alloc)?)
+    clockwork.keeps_the_rule();
+    let rec = clockwork.into_record(alloc, sc.copy(alloc)?)?;
+    Ok(rec)
 }

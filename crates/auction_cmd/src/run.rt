@@ -90,7 +90,7 @@ pub fn run<F: Folder, K: Sink>(
     };
     match record.ending {
         Ending::Done => {}
-        Ending::StartRefuted | Ending::StartUndecided => {
+        _ => {
             say(out, &["the start set does not fit\n"]);
             return Finish::with_record(6, record);
         }

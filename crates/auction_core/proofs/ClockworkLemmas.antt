@@ -22,7 +22,7 @@ use Rattle.packing_graph.proofs.SetLemmas.{with_station-ascending, with_station-
 use Rattle.cert_types.specs.declared.task.Task.{Task}
 use Rattle.auction_core.specs.declared.record.Shown.{Shown}
 use Rattle.auction_core.specs.declared.record.Shown.TheVariants.{Empty, Fits, NoChannel, Unfit, Refuted, Undecided}
-use Rattle.auction_core.specs.Backed.{IsSettledBy, after_start, after_steps}
+use Rattle.auction_core.specs.Backed.{IsSettledBy, after_start, after_steps, shown_start}
 use Rattle.auction_core.specs.Clockwork.{IsClockwork, IsOfAuction}
 use Rattle.auction_core.specs.Course.{CourseView, GivesWithin, IsAtRest, IsCourse, IsDue, IsOver, IsSettled, NeedsQuery, clock_of, core_state, has_room, left_of, test_at, tests_left}
 use Rattle.auction_core.specs.Rule.{IsAuction, KeepsTheRule, SettlesQuery, is_running}
@@ -157,7 +157,7 @@ begun-state sc book old shown n fresh h room =
     let idle = h.idle (ap has_room fresh) in
     let all : left_of sc mid ≡ clock_tests sc = cond-true (shows_room shown) _ _ room ∙ (ap₂ (tests_left sc) idle.1.0 idle.1.1 ∙ left-all sc) in
     let on : CoreState = record (core_state sc old n) { start = Some shown; map = overlaid old.map.entries (delta_of shown) } in
-    let clock : clock_of sc mid ≡ clock_of sc old = ap (λ xs. (after_steps sc (after_start sc shown) xs).clock) idle.0 ∙ sym (ap (λ xs. (after_steps sc (after_start sc (unwrap_or old.start Empty)) xs).clock) idle.0) in
+    let clock : clock_of sc mid ≡ clock_of sc old = ap (λ xs. (after_steps sc (after_start sc shown) xs).clock) idle.0 ∙ sym (ap (λ xs. (after_steps sc (after_start sc (shown_start old.start)) xs).clock) idle.0) in
     let at : CoreState = record (core_state sc mid n) { clock = clock_of sc old } in
     ap (λ z. go_on sc book (left_of sc mid) (record (core_state sc mid n) { clock = z })) clock
     ∙ (go_on-left sc book (left_of sc mid) (left_of sc mid) on

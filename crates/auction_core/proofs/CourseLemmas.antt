@@ -21,7 +21,7 @@ use Rattle.auction_core.specs.declared.clock.Standing.TheVariants.{Active, OnAir
 use Rattle.auction_core.specs.declared.record.Shown.{Shown}
 use Rattle.auction_core.specs.declared.record.Shown.TheVariants.{Empty, NoChannel}
 use Rattle.auction_core.specs.declared.record.Step.{Step}
-use Rattle.auction_core.specs.Backed.{after_start, after_steps}
+use Rattle.auction_core.specs.Backed.{after_start, after_steps, shown_start}
 use Rattle.auction_core.specs.Clock.{AreStandings, answered_standing, stands_active, stands_on_air}
 use Rattle.auction_core.specs.Course.{CourseView, IsAtRest, IsCourse, IsDue, IsOver, IsSettled, NeedsQuery, clock_of, core_state, has_room, left_of, map_after, most_paid, paid, test_at, tests_left}
 use Rattle.auction_core.specs.State.{CoreState, delta_of, go_on, past_test, settled, settled_unasked, shows_room}
@@ -162,7 +162,7 @@ is-next sc old new shown a b c d e f g = λ i. record { start = a i; standings =
 
 -- the clock moves as for that answer
 next-clock : (sc : Scenario) (c : CourseView) (shown : Shown) (room : ℕ) → clock_of sc (next_course sc c shown room) ≡ after_answer sc (clock_of sc c) (test_at sc c.round c.place) (shows_room shown)
-next-clock sc c shown room = ap (λ s. s.clock) (after_steps-push sc (after_start sc (unwrap_or c.start Empty)) c.steps _)
+next-clock sc c shown room = ap (λ s. s.clock) (after_steps-push sc (after_start sc (shown_start c.start)) c.steps _)
 
 -- the next test's station is active
 pub due-active : (sc : Scenario) (c : CourseView) → IsCourse sc c → IsDue sc c → is_active (clock_of sc c) (test_at sc c.round c.place).station ≡ true

@@ -8,7 +8,7 @@ use Rattle.auction_core.specs.declared.record.Shown.{Shown}
 use Rattle.auction_core.specs.declared.record.Record.{Record}
 use Rattle.auction_core.specs.declared.record.Shown.TheVariants.{Empty, Fits, NoChannel, Unfit, Refuted, Undecided}
 use Rattle.auction_core.specs.State.{CoreState, has_ended, shows_room}
-use Rattle.auction_core.specs.Backed.{undecided_of, ending_of, IsCarriedThrough, IsStopped, IsEnded, IsBacked, record_of}
+use Rattle.auction_core.specs.Backed.{undecided_of, ending_of, IsCarriedThrough, IsStopped, IsEnded, IsBacked, record_of, shown_start}
 use Rattle.auction_core.specs.Rule.{IsStartKept}
 use Rattle.auction_core.proofs.Kept.{IsAtStart, IsUnderWay, Stands, IsKept, match-true, match-false}
 
@@ -57,7 +57,7 @@ none-left (x ∷ xs) e = cc
 
 pub ended-backed : (sc : Scenario) (book : BookView) (state : CoreState) → IsKept sc book state → has_ended state ≡ true → IsBacked sc book (record_of sc state)
 ended-backed sc book state h e =
-    let go : (o : Option Shown) → state.start ≡ o → IsStartKept sc book o → Stands sc book state o → (if is_none o then false else is_empty state.left) ≡ true → IsBacked sc book (record_from sc state (unwrap_or o Empty)) = λ o. elim o as (λ o. state.start ≡ o → IsStartKept sc book o → Stands sc book state o → (if is_none o then false else is_empty state.left) ≡ true → IsBacked sc book (record_from sc state (unwrap_or o Empty))) [
+    let go : (o : Option Shown) → state.start ≡ o → IsStartKept sc book o → Stands sc book state o → (if is_none o then false else is_empty state.left) ≡ true → IsBacked sc book (record_from sc state (shown_start o)) = λ o. elim o as (λ o. state.start ≡ o → IsStartKept sc book o → Stands sc book state o → (if is_none o then false else is_empty state.left) ≡ true → IsBacked sc book (record_from sc state (shown_start o))) [
       | None ↦ λ s k w f. cc
       | Some shown ↦ λ s k w f. record {
         scenario = refl;

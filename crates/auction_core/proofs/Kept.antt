@@ -12,7 +12,7 @@ use Rattle.auction_core.specs.declared.record.Shown.{Shown}
 use Rattle.auction_core.specs.declared.record.Shown.TheVariants.{Empty, Fits, NoChannel, Unfit, Refuted, Undecided}
 use Rattle.auction_core.specs.declared.record.Step.{Step}
 use Rattle.auction_core.specs.State.{CoreState, shows_room, delta_of, start_unasked}
-use Rattle.auction_core.specs.Backed.{test_of, undecided_of, AreShown, after_steps, after_start}
+use Rattle.auction_core.specs.Backed.{test_of, undecided_of, AreShown, after_steps, after_start, shown_start}
 use Rattle.auction_core.specs.Rule.{AreNoted, IsQuery, IsStartKept, is_running, tests_due, tests_done, start_of, IsNextQuery, KeepsTheRule}
 
 -- While the start test stands, or where it ended the auction, nothing was done; where it stands it needs a query.
@@ -83,7 +83,7 @@ due-false : (sc : Scenario) (state : CoreState) → is_running state ≡ false �
 due-false sc state r = cond-false (is_running state) (clock_tests sc) [] r
 
 -- where the start does not fit, it gives the map nothing
-no-delta : (o : Option Shown) → option_map_or shows_room o false ≡ false → delta_of (unwrap_or o Empty) ≡ []
+no-delta : (o : Option Shown) → option_map_or shows_room o false ≡ false → delta_of (shown_start o) ≡ []
 no-delta None e = refl
 no-delta (Some Empty) e = refl
 no-delta (Some (Fits delta)) e = cc
@@ -120,7 +120,7 @@ start-rule sc book state r h k n q =
 under-way-rule : (sc : Scenario) (book : BookView) (state : CoreState) (start : Shown) → state.start ≡ Some start → shows_room start ≡ true → IsUnderWay sc book start state → IsStartKept sc book state.start → AreNoted sc book state → IsNextQuery sc book state → KeepsTheRule sc book state
 under-way-rule sc book state start e r u k n q =
     let runs : is_running state ≡ true = ap (λ o. option_map_or shows_room o false) e ∙ r in
-    let same : start_of state ≡ start = ap (λ o. unwrap_or o Empty) e in
+    let same : start_of state ≡ start = ap (λ o. shown_start o) e in
     let parts : u.before ++ state.left ≡ tests_due sc state = u.parts ∙ sym (due-true sc state runs) in
     let done = done-is sc state u.before parts in
     let U : List ClockTest = undecided_of state.steps in
@@ -187,7 +187,7 @@ rule-start sc book state r q h =
 rule-under-way : (sc : Scenario) (book : BookView) (state : CoreState) (start : Shown) → state.start ≡ Some start → shows_room start ≡ true → KeepsTheRule sc book state → IsUnderWay sc book start state
 rule-under-way sc book state start e r h =
     let runs : is_running state ≡ true = ap (λ o. option_map_or shows_room o false) e ∙ r in
-    let same : start_of state ≡ start = ap (λ o. unwrap_or o Empty) e in
+    let same : start_of state ≡ start = ap (λ o. shown_start o) e in
     let packing = match-true (IsPacking book (on_air_set sc state.clock) state.map) (state.map ≡ []) (is_running state) runs h.map in
     record {
       before = tests_done sc state;

@@ -1,6 +1,6 @@
 -- When a finished record is backed: its steps are the tests of the clock rule, which is that of Milgrom and Segal (2020),
 -- and each is shown. What the record holds, and that it is checked against the rule, is this project's own.
-use Rattle.std.specs.Prelude.{ℕ, Bool, true, false, slice_get, ◌≡◌, if◌then◌else◌, List, [], ◌∷◌, map, filter_map, sum_by, Some, None, unwrap_or, IsFalse, MatchOption, MatchBool}
+use Rattle.std.specs.Prelude.{ℕ, Bool, true, false, slice_get, ◌≡◌, if◌then◌else◌, List, [], ◌∷◌, map, filter_map, sum_by, Option, Some, None, IsFalse, MatchOption, MatchBool}
 use Rattle.pack_defs.specs.declared.worker.Worker.{Worker}
 use Rattle.pack_defs.specs.Book.{BookView, domain_of}
 use Rattle.assign_check.specs.Fault.{IsCleanOn}
@@ -124,10 +124,15 @@ pub record IsBacked (sc : Scenario) (book : BookView) (rec : Record) : Type 0 wh
   pub ending : rec.ending ≡ ending_of rec.start
   pub rest : IsEnded sc book rec rec.ending
 
+-- how the start was shown; Empty while its test stands
+abbrev pub shown_start : Option Shown → Shown
+shown_start None = Empty
+shown_start (Some shown) = shown
+
 -- the record of an auction that has ended
 abbrev pub record_of : Scenario → CoreState → Record
 record_of sc state =
-    let start = unwrap_or state.start Empty in
+    let start = shown_start state.start in
     record {
       scenario = sc;
       ending = ending_of start;

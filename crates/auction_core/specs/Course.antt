@@ -1,6 +1,6 @@
 -- Where the clock stands between two tests, as the program keeps it: a standing for each station, and the place of the next
 -- test. That it is so kept is this project's own.
-use Rattle.std.specs.Prelude.{ℕ, Bool, false, not, ◌+◌, ◌-◌, ◌*◌, ◌<◌, ◌≤◌, ◌≡◌, ◌⊎◌, if◌then◌else◌, true, List, [], ◌∷◌, ◌++◌, map, filter, drop, length, sum_by, slice_index, slice_index_or, Option, Some, None, unwrap_or, MatchBool}
+use Rattle.std.specs.Prelude.{ℕ, Bool, false, not, ◌+◌, ◌-◌, ◌*◌, ◌<◌, ◌≤◌, ◌≡◌, ◌⊎◌, if◌then◌else◌, true, List, [], ◌∷◌, ◌++◌, map, filter, drop, length, sum_by, slice_index, slice_index_or, Option, Some, None, MatchBool}
 use Rattle.std.specs.Option.{option_map_or}
 use Rattle.pack_defs.specs.Book.{BookView, domain_of, stations_of}
 use Rattle.pack_defs.specs.Lists.{is_empty, has_station, is_in}
@@ -15,7 +15,7 @@ use Rattle.auction_core.specs.declared.record.Step.{Step}
 use Rattle.auction_core.specs.declared.clock.Standing.{Standing}
 use Rattle.auction_core.specs.declared.clock.Standing.TheVariants.{Active, OnAir, Frozen}
 use Rattle.auction_core.specs.AirMap.{AirMapView}
-use Rattle.auction_core.specs.Backed.{after_start, after_steps}
+use Rattle.auction_core.specs.Backed.{after_start, after_steps, shown_start}
 use Rattle.auction_core.specs.Clock.{AreStandings, stands_active, stands_on_air}
 use Rattle.auction_core.specs.State.{CoreState, delta_of, settled, shows_room}
 
@@ -48,7 +48,7 @@ has_room start = option_map_or shows_room start false
 
 -- the clock that the steps leave
 abbrev pub clock_of : Scenario → CourseView → ClockState
-clock_of sc c = (after_steps sc (after_start sc (unwrap_or c.start Empty)) c.steps).clock
+clock_of sc c = (after_steps sc (after_start sc (shown_start c.start)) c.steps).clock
 
 -- the tests that are left; none before the start set was shown to fit
 abbrev pub left_of : Scenario → CourseView → List ClockTest

@@ -1,5 +1,5 @@
 -- What every list of postings keeps: the state is one that the clock rule comes to.
-use Rattle.std.specs.Prelude.{ℕ, Bool, true, false, ◌<◌, ◌-◌, ◌≡◌, if◌then◌else◌, List, [], ◌∷◌, ◌++◌, length, map, take, Option, Some, None, unwrap_or, MatchOption, MatchBool}
+use Rattle.std.specs.Prelude.{ℕ, Bool, true, false, ◌<◌, ◌-◌, ◌≡◌, if◌then◌else◌, List, [], ◌∷◌, ◌++◌, length, map, take, Option, Some, None, MatchOption, MatchBool}
 use Rattle.std.specs.Option.{option_map_or}
 use Rattle.pack_defs.specs.Book.{BookView, IsInOrder, domain_of}
 use Rattle.pack_defs.specs.Lists.{is_empty, is_ascending}
@@ -12,7 +12,7 @@ use Rattle.cert_types.specs.declared.answer.Answer.TheVariants.{Spent}
 use Rattle.auction_core.specs.declared.record.Shown.{Shown}
 use Rattle.auction_core.specs.declared.record.Shown.TheVariants.{Empty}
 use Rattle.auction_core.specs.State.{CoreState, NotedSpent, shows_room, start_unasked, task_of}
-use Rattle.auction_core.specs.Backed.{test_of, undecided_of, IsValidOf, IsSettledBy, IsStartShown, AreShown, after_steps, after_start}
+use Rattle.auction_core.specs.Backed.{test_of, undecided_of, IsValidOf, IsSettledBy, IsStartShown, AreShown, after_steps, after_start, shown_start}
 
 -- there is a standing query, and a worker's answer to it is valid
 abbrev pub Answers : Scenario → BookView → CoreState → ℕ → Answer → Type 0
@@ -69,7 +69,7 @@ pub record IsClockAtQuery (sc : Scenario) (book : BookView) (state : CoreState) 
 
 -- how the start was shown; Empty while it stands
 abbrev pub start_of : CoreState → Shown
-start_of state = unwrap_or state.start Empty
+start_of state = shown_start state.start
 
 -- What was shown: the start, if it was; a step, in order, for each test before the standing one that the clock rule asks,
 -- each shown as it has to be; these steps leave this clock and this map; and the Spents noted so far.
