@@ -2,9 +2,11 @@
 #![tactic(auto)]
 
 pub mod air_map;
+pub mod auction;
 pub mod clock;
 pub mod clockwork;
 pub mod course;
+pub mod desk;
 pub mod laws;
 pub mod notes;
 pub mod on_air;

@@ -36,6 +36,13 @@ impl Notes {
         Ok(Notes { places })
     }
 
+    /// How many receipts stand noted. It goes over the workers.
+    pub fn count(&self) -> usize
+        ensures { result ≡ length (notes_of self.now) }
+    {
+        self.places.iter().filter(|place| place.is_some()).count()
+    }
+
     /// Whether this worker's receipt stands noted.
     pub fn has(&self, worker: u32) -> bool
         requires { worker < length self.now }
@@ -52,6 +59,16 @@ impl Notes {
         ensures places { length self.new ≡ length self.old }
     {
         self.places[worker as usize] = Some(receipt);
+    }
+
+    /// Lets every noted receipt go. It takes no memory.
+    pub fn clear(&mut self)
+        ensures none { notes_of self.new ≡ [] }
+        ensures places { length self.new ≡ length self.old }
+    {
+        for i in 0..self.places.len() {
+            self.places[i] = None;
+        }
     }
 
     /// Moves every noted receipt behind those of the list, in order of worker; none is noted any more. It takes no memory.
