@@ -36,7 +36,7 @@ LeadsTo sc book state p reply new = after_entry sc book state (entry_of p reply)
 abbrev Leads : Scenario → BookView → CoreState → PostingView → Reply × CoreState → Type 0
 Leads sc book state p out = take sc book state p ≡ out → LeadsTo sc book state p out.0 out.1
 
-turned-leads : (sc : Scenario) (book : BookView) (state : CoreState) (p : PostingView) (reply : Reply) → turned_away sc state p.worker p.number ≡ Some reply → LeadsTo sc book state p reply state
+pub turned-leads : (sc : Scenario) (book : BookView) (state : CoreState) (p : PostingView) (reply : Reply) → turned_away sc state p.worker p.number ≡ Some reply → LeadsTo sc book state p reply state
 turned-leads sc book state p reply t =
     turned-cases sc state p.worker p.number (λ r. turned_away sc state p.worker p.number ≡ Some r → LeadsTo sc book state p r state) reply
     (λ e. cond-true (stands (turned_away sc state p.worker p.number) (is_noted state.noted p.worker) Ended) (Some state) None (ap (λ o. stands o (is_noted state.noted p.worker) Ended) e))

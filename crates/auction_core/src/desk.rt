@@ -147,11 +147,16 @@ impl Desk {
         ensures scenario { self.new.scenario ≡ self.old.scenario }
         ensures book { self.new.book ≡ self.old.book }
     {
-        if let Some(reply) = self.turned_away(posting.worker, posting.number) {
+        let Posting {
+            worker,
+            number,
+            said,
+        } = posting;
+        if let Some(reply) = self.turned_away(worker, number) {
             return reply;
         }
-        match posting.said {
-            Said::Good(certified) => self.accept(posting.worker, certified.into_answer()),
+        match said {
+            Said::Good(certified) => self.accept(worker, certified.into_answer()),
             Said::Bad(place) => Reply::Rejected { place },
         }
     }

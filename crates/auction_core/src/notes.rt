@@ -40,7 +40,13 @@ impl Notes {
     pub fn count(&self) -> usize
         ensures { result ≡ length (notes_of self.now) }
     {
-        self.places.iter().filter(|place| place.is_some()).count()
+        let mut count = 0;
+        for place in &self.places {
+            if place.is_some() {
+                count += 1;
+            }
+        }
+        count
     }
 
     /// Whether this worker's receipt stands noted.
