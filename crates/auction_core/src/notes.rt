@@ -72,7 +72,8 @@ impl Notes {
         ensures none { notes_of self.new ≡ [] }
         ensures places { length self.new ≡ length self.old }
     {
-        for i in 0..self.places.len() {
+        let workers = self.places.len();
+        for i in 0..workers {
             self.places[i] = None;
         }
     }
