@@ -6,4 +6,4 @@ use Rattle.auction_core.proofs.notes.Notes.clear.Given as goal
 abbrev pub invariant-loop-i : goal.invariant-loop-i
 invariant-loop-i l =
     (l.self-inside.places.items ≡ emptied l.i l.initial.self-inside.places.items)
-    × (l.i-end ≡ length l.initial.self-inside.places.items)
+    × (l.workers ≡ length l.initial.self-inside.places.items)
