@@ -1,6 +1,6 @@
 -- Where the clock stands between two tests, as the program keeps it: a standing for each station, and the place of the next
 -- test. That it is so kept is this project's own.
-use Rattle.std.specs.Prelude.{ℕ, Bool, false, not, ◌+◌, ◌-◌, ◌*◌, ◌<◌, ◌≤◌, ◌≡◌, ◌⊎◌, if◌then◌else◌, true, List, [], ◌++◌, map, filter, drop, length, sum_by, slice_index, slice_index_or, Option, Some, None, unwrap_or, MatchBool}
+use Rattle.std.specs.Prelude.{ℕ, Bool, false, not, ◌+◌, ◌-◌, ◌*◌, ◌<◌, ◌≤◌, ◌≡◌, ◌⊎◌, if◌then◌else◌, true, List, [], ◌∷◌, ◌++◌, map, filter, drop, length, sum_by, slice_index, slice_index_or, Option, Some, None, unwrap_or, MatchBool}
 use Rattle.std.specs.Option.{option_map_or}
 use Rattle.pack_defs.specs.Book.{BookView, domain_of, stations_of}
 use Rattle.pack_defs.specs.Lists.{is_empty, has_station, is_in}
@@ -8,7 +8,7 @@ use Rattle.pack_defs.specs.ChannelMap.{overlaid}
 use Rattle.pack_defs.specs.declared.scenario.Scenario.{Scenario}
 use Rattle.pack_defs.specs.Scenario.{facilities}
 use Rattle.pack_defs.specs.Prices.{bidders, declines, last_round}
-use Rattle.pack_defs.specs.ClockRule.{ClockTest, ClockState, tests_of}
+use Rattle.pack_defs.specs.ClockRule.{ClockTest, ClockState, is_active, tests_of}
 use Rattle.auction_core.specs.declared.record.Shown.{Shown}
 use Rattle.auction_core.specs.declared.record.Shown.TheVariants.{Empty}
 use Rattle.auction_core.specs.declared.record.Step.{Step}
@@ -17,7 +17,7 @@ use Rattle.auction_core.specs.declared.clock.Standing.TheVariants.{Active, OnAir
 use Rattle.auction_core.specs.AirMap.{AirMapView}
 use Rattle.auction_core.specs.Backed.{after_start, after_steps}
 use Rattle.auction_core.specs.Clock.{AreStandings, stands_active, stands_on_air}
-use Rattle.auction_core.specs.State.{CoreState, delta_of, shows_room}
+use Rattle.auction_core.specs.State.{CoreState, delta_of, settled, shows_room}
 
 -- How the start was shown, if it was; where each station stands; the map of those on air; the steps so far; what the frozen
 -- ones are paid together, in cents; the round and the place of the next test's station; and for how many steps more there is
@@ -91,6 +91,7 @@ pub record IsCourse (sc : Scenario) (c : CourseView) : Type 0 where
   pub begun : 1 ≤ c.round
   pub round : c.round ≤ last_round sc
   pub place : c.place ≤ length sc.stations
+  pub bid : (s : ℕ) → is_active (clock_of sc c) s ≡ true → declines sc s 0 ≡ false
   pub idle : has_room c.start ≡ false → (c.steps ≡ []) × ((c.round ≡ 1) × (c.place ≡ 0))
   pub sum : c.total ≡ sum_by (λ x. x.price) (clock_of sc c).frozen
   pub bound : c.total ≤ most_paid * length (clock_of sc c).frozen
@@ -100,15 +101,26 @@ pub record IsCourse (sc : Scenario) (c : CourseView) : Type 0 where
 abbrev pub IsOver : Scenario → CourseView → Type 0
 IsOver sc c = (c.place ≡ length sc.stations) × (c.round ≡ last_round sc)
 
--- the next test is of an active station that has a channel, so it needs a query
-pub record NeedsQuery (sc : Scenario) (book : BookView) (c : CourseView) : Type 0 where
+-- the next test is of an active station
+pub record IsDue (sc : Scenario) (c : CourseView) : Type 0 where
   pub place : c.place < length sc.stations
   pub active : stands_active (slice_index_or c.standings c.place (OnAir 0)) ≡ true
+
+-- the next test is of an active station that has a channel, so it needs a query
+pub record NeedsQuery (sc : Scenario) (book : BookView) (c : CourseView) : Type 0 where
+  pub due : IsDue sc c
   pub channel : is_empty (domain_of book (slice_index (facilities sc) c.place)) ≡ false
 
 -- the clock has stopped: at a test that needs a query, or at the end
 abbrev pub IsAtRest : Scenario → BookView → CourseView → Type 0
 IsAtRest sc book c = IsOver sc c ⊎ NeedsQuery sc book c
+
+-- The next test was settled so: what is kept says where the clock stands now, the auction's state is settled, and the tests
+-- behind this one are left.
+pub record IsSettled (sc : Scenario) (shown : Shown) (old new : CourseView) : Type 0 where
+  pub holds : IsCourse sc new
+  pub state : (n : ℕ) → core_state sc new n ≡ record (settled sc (core_state sc old n) (test_at sc old.round old.place) shown) { left = left_of sc new }
+  pub left : left_of sc old ≡ test_at sc old.round old.place ∷ left_of sc new
 
 -- how many places the clock has still to pass, the ends of rounds among them
 abbrev pub places_left : Scenario → CourseView → ℕ

@@ -7,8 +7,8 @@ ghost use Rattle.pack_defs.specs.Scenario.{IsWithinLimits, facilities};
 ghost use Rattle.pack_defs.specs.Prices.{last_round, prices};
 ghost use Rattle.auction_core.specs.Backed.{record_of};
 ghost use Rattle.auction_core.specs.Clock.{stands_active};
-ghost use Rattle.auction_core.specs.Course.{GivesWithin, IsAtRest, IsCourse, IsOver, clock_of, core_state, has_room, left_of, map_after, paid, places_left, test_at};
-ghost use Rattle.auction_core.specs.State.{before_start, delta_of, go_on, settled, shows_room};
+ghost use Rattle.auction_core.specs.Course.{GivesWithin, IsAtRest, IsCourse, IsDue, IsOver, IsSettled, clock_of, core_state, has_room, left_of, map_after, paid, places_left, test_at};
+ghost use Rattle.auction_core.specs.State.{before_start, delta_of, go_on};
 
 use crate::air_map::AirMap;
 use crate::clock::{Clock, Standing};
@@ -113,7 +113,7 @@ impl Course {
     pub fn is_over(&self, sc: &Scenario) -> bool
         requires holds { IsCourse sc.now self.now }
         requires limits { IsWithinLimits sc.now }
-        requires rest { has_room self.now.start ≡ true → IsOver sc.now self.now ⊎ (self.now.place < length sc.now.stations) }
+        requires rest { has_room self.now.start ≡ true → IsOver sc.now self.now ⊎ IsDue sc.now self.now }
         ensures { result ≡ is_empty (left_of sc.now self.now) }
     {
         !self.is_running() || self.place == sc.stations.as_slice().len()
@@ -177,15 +177,12 @@ impl Course {
         requires limits { IsWithinLimits sc.now }
         requires schedule { schedule.now ≡ prices sc.now }
         requires holds { IsCourse sc.now self.old }
-        requires place { self.old.place < length sc.now.stations }
-        requires active { stands_active (slice_index_or self.old.standings self.old.place (Standing.OnAir 0)) ≡ true }
+        requires due { IsDue sc.now self.old }
         requires within { GivesWithin sc.now shown }
         requires room { 1 ≤ self.old.room }
         requires running { has_room self.old.start ≡ true }
-        ensures holds { IsCourse sc.now self.new }
+        ensures settled { IsSettled sc.now shown self.old self.new }
         ensures running { self.new.start ≡ self.old.start }
-        ensures state { (n : ℕ) → core_state sc.now self.new n ≡ record (settled sc.now (core_state sc.now self.old n) (test_at sc.now self.old.round self.old.place) shown) { left = left_of sc.now self.new } }
-        ensures left { left_of sc.now self.old ≡ test_at sc.now self.old.round self.old.place ∷ left_of sc.now self.new }
         ensures room { self.old.room ≤ self.new.room + 1 }
         ensures next { self.new.place ≡ self.old.place + 1 }
         ensures round { self.new.round ≡ self.old.round }
@@ -196,23 +193,13 @@ impl Course {
         self.clock.settle(sc, schedule, place, round, shown.shows_room());
         let standing = self.clock.standings()[place];
         self.total += paid(&standing);
-        self.move_map(&standing, &shown);
+        take_channels(&mut self.map, &standing, &shown);
         self.steps.push_reserved(Step {
             round,
             station,
             shown,
         });
         self.place = place + 1;
-    }
-
-    // The map takes the verdict's channels where the station stands on air.
-    fn move_map(&mut self, standing: &Standing, shown: &Shown)
-        requires within { (s : ℕ) → has_station (delta_of shown.now) s ≡ true → is_in self.old.map.stations s ≡ true }
-        ensures { self.new ≡ record self.old { map = record { stations = self.old.map.stations; entries = map_after self.old.map.entries standing.now shown.now } } }
-    {
-        if let (Standing::OnAir { .. }, Shown::Fits(delta)) = (standing, shown) {
-            self.map.overlay(delta);
-        }
     }
 
     // Goes past the next place where no query is due there: at the end of a round, at a station that is not asked any more,
@@ -285,5 +272,15 @@ fn paid(standing: &Standing) -> u64
     match standing {
         Standing::Frozen { price, .. } => *price,
         _ => 0,
+    }
+}
+
+// The map takes the verdict's channels where the station stands on air.
+fn take_channels(map: &mut AirMap, standing: &Standing, shown: &Shown)
+    requires { (s : ℕ) → has_station (delta_of shown.now) s ≡ true → is_in map.old.stations s ≡ true }
+    ensures { map.new ≡ record { stations = map.old.stations; entries = map_after map.old.entries standing.now shown.now } }
+{
+    if let (Standing::OnAir { .. }, Shown::Fits(delta)) = (standing, shown) {
+        map.overlay(delta);
     }
 }
