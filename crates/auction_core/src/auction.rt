@@ -1,6 +1,7 @@
 //! An auction: what each posting of a worker does, whoever posts it and when.
 
-ghost use Rattle.std.specs.Prelude.{◌≡◌, ◌≤◌, ◌++◌, ◌∷◌, [], IfOk, OnOk, Some, length, option_and_then, option_map, true};
+ghost use Rattle.std.specs.Prelude.{◌≡◌, ◌≤◌, ◌++◌, ◌∷◌, [], IfOk, MatchOption, OnOk, Some, ⊤, length, option_and_then, option_map, true};
+ghost use Rattle.cert_types.specs.Certificate.{IsTaskOf};
 ghost use Rattle.cert_types.specs.declared.answer.Answer.{Answer};
 ghost use Rattle.auction_core.specs.Auction.{entry_told, let_through};
 ghost use Rattle.auction_core.specs.Backed.{IsBacked, record_of};
@@ -110,9 +111,11 @@ impl Auction {
     }
 
     /// The standing query; none where the auction has ended. It costs what the component of the tested station costs, or,
-    /// while the start test stands, one pass over the stations. The only error is want of memory.
+    /// while the start test stands, one pass over the stations. The only error is want of memory. An answer to it may be
+    /// checked, since its set ascends.
     pub fn task(&self, alloc: Global) -> Result<Option<Task>, NoMemory>
-        ensures { IfOk result (λ task. task ≡ task_of self.now.scenario self.now.book self.now.state) }
+        ensures task { IfOk result (λ task. task ≡ task_of self.now.scenario self.now.book self.now.state) }
+        ensures checked { IfOk result (λ task. MatchOption task ⊤ (IsTaskOf self.now.book)) }
     {
         self.desk.task(alloc)
     }
