@@ -1,7 +1,9 @@
 -- The stations that a test asks about, station by station.
-use Rattle.std.proofs.Common.{◌≡◌, ◌∙◌, ℕ, ◌+◌, ◌<◌, Bool, nat_lt, ◌&&◌, true, false, cond, ◌||◌, eqb, List, [], ◌∷◌, ◌++◌, length, map, take, get_or, refl, sym, ap, subst, arith}
+use Rattle.std.proofs.Common.{◌≡◌, ◌∙◌, ℕ, zero, suc, ◌+◌, ◌<◌, Bool, nat_lt, ◌&&◌, true, false, cond, ◌||◌, eqb, List, [], ◌∷◌, ◌++◌, length, map, take, get_or, refl, sym, ap, subst, arith}
 use Rattle.std.proofs.Common.{inl, inr, ltb-true}
-use Rattle.std.proofs.lemmas.Bool.{and_from, or_cases, or_left, or_right, lt-ltb, eq-eqb}
+use Rattle.std.proofs.lemmas.Bool.{and_from, or_cases, or_left, or_right, lt-ltb, eq-eqb, ne_eqb, both_ways, false_from_ne_true}
+use Rattle.std.proofs.lemmas.List.Elements.{Contains-get_or}
+use Rattle.pack_defs.proofs.Members.{is_in-from}
 use Rattle.std.proofs.lemmas.List.{append-nil, length-map}
 use Rattle.pack_defs.specs.declared.scenario.Scenario.{Scenario}
 use Rattle.pack_defs.specs.declared.station.Station.{Station}
@@ -10,7 +12,7 @@ use Rattle.auction_core.specs.declared.clock.Standing.{Standing}
 use Rattle.pack_defs.specs.Scenario.{StationsAscend}
 use Rattle.pack_defs.specs.Lists.{is_ascending, is_in}
 use Rattle.pack_defs.proofs.Words.{ascending-from, ascending-rest, below-later}
-use Rattle.auction_core.specs.Clock.{asked_by, stands_on_air, stations_by}
+use Rattle.auction_core.specs.Clock.{asked_by, on_air_by, stands_on_air, stations_by}
 use Rattle.auction_core.proofs.ClockLemmas.{facility_at, stations_by_more}
 
 next : (s : ℕ) (sc : Scenario) (v : List Standing) (i : ℕ) (x : Station) (y : Standing) (b : Bool) → i < length sc.stations → length v ≡ length sc.stations → b ≡ (stands_on_air (get_or v i y) || (eqb (get_or sc.stations i x).id s)) → asked_by s (take (i + 1) (facilities sc)) (take (i + 1) v) ≡ asked_by s (take i (facilities sc)) (take i v) ++ cond b ((get_or sc.stations i x).id ∷ []) []
@@ -61,3 +63,32 @@ stations_by-ascend p (f ∷ fs) (x ∷ xs) a =
 -- the stations that a test asks about ascend
 pub asked-ascend : (s : ℕ) (sc : Scenario) (v : List Standing) → StationsAscend sc → is_ascending (asked_by s (facilities sc) v) ≡ true
 asked-ascend s sc v ascend = stations_by-ascend (λ f z. stands_on_air z || (eqb f s)) (facilities sc) v (ascending-from (facilities sc) ascend)
+
+-- whether a station is on air, by the standing at its place
+pub on_air-at : (fs : List ℕ) (xs : List Standing) (i s : ℕ) (d : Standing) → is_ascending fs ≡ true → length xs ≡ length fs → i < length fs → get_or fs i 0 ≡ s → is_in (on_air_by fs xs) s ≡ stands_on_air (get_or xs i d)
+on_air-at [] xs i s d a same inside at = absurd (omega arith)
+on_air-at (f ∷ fs) [] i s d a same inside at = absurd (omega arith)
+on_air-at (f ∷ fs) (x ∷ xs) zero s d a same inside at =
+    let none : is_in (on_air_by fs xs) s ≡ false = false_from_ne_true (is_in (on_air_by fs xs) s) (λ there.
+    let later = below-later f fs s a (stations_by-in (λ f x. stands_on_air x) fs xs s there) in omega (arith, later, at)) in
+    elim (stands_on_air x) as (λ b. is_in (cond b (f ∷ on_air_by fs xs) (on_air_by fs xs)) s ≡ b) [
+      | true ↦ or_left (eqb f s) (is_in (on_air_by fs xs) s) (eq-eqb f s at)
+      | false ↦ none
+    ]
+on_air-at (f ∷ fs) (x ∷ xs) (suc i) s d a same inside at =
+    let rest = on_air-at fs xs i s d (ascending-rest f fs a) (omega arith) (omega arith) at in
+    let there : is_in fs s ≡ true = subst (λ z. is_in fs z ≡ true) at (is_in-from fs (get_or fs i 0) (Contains-get_or fs i 0 (omega arith))) in
+    let less : f < s = below-later f fs s a there in
+    let other : eqb f s ≡ false = ne_eqb f s (λ e. omega (arith, less, e)) in
+    elim (stands_on_air x) as (λ b. is_in (cond b (f ∷ on_air_by fs xs) (on_air_by fs xs)) s ≡ stands_on_air (get_or xs i d)) [
+      | true ↦ ap (λ b. b || is_in (on_air_by fs xs) s) other ∙ rest
+      | false ↦ rest
+    ]
+
+-- a station that the list hasn't isn't on air
+pub on_air-none : (fs : List ℕ) (xs : List Standing) (s : ℕ) → is_in fs s ≡ false → is_in (on_air_by fs xs) s ≡ false
+on_air-none fs xs s none = false_from_ne_true (is_in (on_air_by fs xs) s) (λ there. both_ways (is_in fs s) none (stations_by-in (λ f x. stands_on_air x) fs xs s there))
+
+-- the stations on air ascend as all do
+pub on_air-ascend : (fs : List ℕ) (xs : List Standing) → is_ascending fs ≡ true → is_ascending (on_air_by fs xs) ≡ true
+on_air-ascend = stations_by-ascend (λ f x. stands_on_air x)

@@ -188,7 +188,7 @@ not-ended sc state w number e =
     ] in
     go (has_ended state) (number == state.number) (nat_le (length sc.workers) w) refl e
 
-task-is : (sc : Scenario) (book : BookView) (state : CoreState) (o : Option Shown) (l : List ClockTest) → state.start ≡ o → state.left ≡ l → task_of sc book state ≡ (if is_none o then Some (start_task sc state) else first_task sc book state l)
+pub task-is : (sc : Scenario) (book : BookView) (state : CoreState) (o : Option Shown) (l : List ClockTest) → state.start ≡ o → state.left ≡ l → task_of sc book state ≡ (if is_none o then Some (start_task sc state) else first_task sc book state l)
 unfolding task_of
 task-is sc book state o l e f = ap₂ (λ o l. if is_none o then Some (start_task sc state) else first_task sc book state l) e f
 

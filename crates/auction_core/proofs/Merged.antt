@@ -76,7 +76,7 @@ pub record IsTest (book : BookView) (m : List (ℕ × ℕ)) (asked : List ℕ) (
   pub all : (t : ℕ) → is_in (map (λ y. y.0) m) t ≡ true → is_in asked t ≡ true
   pub fit : IsCleanOn book (component book asked s) (overlaid (restricted m (component book asked s)) delta)
 
-in-component : (book : BookView) (asked : List ℕ) (s t : ℕ) → is_in (component book asked s) t ≡ true → is_in asked t ≡ true
+pub in-component : (book : BookView) (asked : List ℕ) (s t : ℕ) → is_in (component book asked s) t ≡ true → is_in asked t ≡ true
 in-component book asked s t h =
     is_in-from asked t (component-within book asked s t (is_in-gives (component book asked s) t h))
 

@@ -31,4 +31,3 @@ pub starts-taken : (sc : Scenario) (i : ℕ) (d : Station) → StationsAscend sc
     filter (λ s. declines sc s 0) (take (i + 1) (facilities sc)) ≡ filter (λ s. declines sc s 0) (take i (facilities sc)) ++ get_or (facilities sc) i 0 ∷ []
 starts-taken sc i d ascend here starts =
     starts-more sc i here ∙ ap (λ z. filter (λ s. declines sc s 0) (take i (facilities sc)) ++ z) (cond-true _ _ _ (declines-here sc i d ascend here ∙ starts))
-

@@ -41,10 +41,10 @@ impl Model for Clockwork {
     ghost Value = { ClockworkView };
 
     ghost view = { λ c. record {
-        scenario = c.scenario;
-        book = c.book;
-        state = core_state c.scenario c.course c.number;
-        room = c.course.room;
+      scenario = c.scenario;
+      book = c.book;
+      state = core_state c.scenario c.course c.number;
+      room = c.course.room;
     } };
 
     ghost invariant = { λ c. IsClockwork c.scenario c.book c.schedule.items c.course c.number };
@@ -159,7 +159,8 @@ impl Clockwork {
         ensures book { self.new.book ≡ self.old.book }
         ensures state { self.new.state ≡ self.old.state }
     {
-        self.course.reserve(self.scenario.stations.as_slice().len() + 1)
+        self.course
+            .reserve(self.scenario.stations.as_slice().len() + 1)
     }
 
     /// The standing query is settled so, and the auction goes on to its next query or its end. It takes no memory.
@@ -173,11 +174,18 @@ impl Clockwork {
     {
         self.number += 1;
         if self.course.start().is_none() {
-            begin(&mut self.course, &self.scenario, &self.book, &self.schedule, shown);
+            begin(
+                &mut self.course,
+                &self.scenario,
+                &self.book,
+                &self.schedule,
+                shown,
+            );
             return;
         }
         self.course.settle(&self.scenario, &self.schedule, shown);
-        self.course.go_on(&self.scenario, &self.book, &self.schedule);
+        self.course
+            .go_on(&self.scenario, &self.book, &self.schedule);
     }
 
     /// The record of the auction, which has ended. The only error is want of memory.
@@ -205,9 +213,10 @@ fn first_course(
     ensures state { IfOk result (λ c. core_state sc.now c 1 ≡ opening sc.now book.now) }
 {
     let mut course = Course::open(alloc, sc)?;
-    if let Some(shown) = start_unasked(alloc, sc, book)? {
-        begin(&mut course, sc, book, schedule, shown);
-    }
+    let Some(shown) = start_unasked(alloc, sc, book)? else {
+        return Ok(course);
+    };
+    begin(&mut course, sc, book, schedule, shown);
     Ok(course)
 }
 

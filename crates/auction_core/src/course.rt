@@ -40,14 +40,14 @@ impl Model for Course {
     ghost Value = { CourseView };
 
     ghost view = { λ c. record {
-        start = c.start;
-        standings = c.clock;
-        map = c.map;
-        steps = c.steps.items;
-        total = c.total;
-        round = c.round;
-        place = c.place;
-        room = vec_capacity c.steps - vec_len c.steps;
+      start = c.start;
+      standings = c.clock;
+      map = c.map;
+      steps = c.steps.items;
+      total = c.total;
+      round = c.round;
+      place = c.place;
+      room = vec_capacity c.steps - vec_len c.steps;
     } };
 }
 
@@ -80,7 +80,7 @@ impl Course {
     /// Makes room for this many steps more. The only error is want of memory, and nothing else is changed.
     pub fn reserve(&mut self, more: usize) -> Result<(), NoMemory>
         ensures room { OnOk result (more ≤ self.new.room) }
-        ensures same { (n : ℕ) (sc : _) → core_state sc self.new n ≡ core_state sc self.old n }
+        ensures same { self.new ≡ record self.old { room = self.new.room } }
     {
         self.steps.reserve(more)
     }
@@ -89,8 +89,8 @@ impl Course {
     pub fn begin(&mut self, shown: Shown)
         requires within { (s : ℕ) → has_station (delta_of shown) s ≡ true → is_in self.old.map.stations s ≡ true }
         ensures { self.new ≡ record self.old {
-            start = Some shown;
-            map = record { stations = self.old.map.stations; entries = overlaid self.old.map.entries (delta_of shown) };
+          start = Some shown;
+          map = record { stations = self.old.map.stations; entries = overlaid self.old.map.entries (delta_of shown) };
         } }
     {
         if let Shown::Fits(map) = &shown {
@@ -190,7 +190,8 @@ impl Course {
         let place = self.place;
         let round = self.round;
         let station = sc.stations.as_slice()[place].id;
-        self.clock.settle(sc, schedule, place, round, shown.shows_room());
+        self.clock
+            .settle(sc, schedule, place, round, shown.shows_room());
         let standing = self.clock.standings()[place];
         self.total += paid(&standing);
         take_channels(&mut self.map, &standing, &shown);

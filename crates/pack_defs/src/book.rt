@@ -65,10 +65,11 @@ impl Book {
         })
     }
 
-    /// A book of the same stations, channels and pairs. It takes as much memory as this one. The only error is want of
-    /// memory.
+    /// A book of the same stations, channels and pairs, in order as each book is. It takes as much memory as this one. The
+    /// only error is want of memory.
     pub fn copy(&self, alloc: Global) -> Result<Book, NoMemory>
-        ensures { IfOk result (λ book. book ≡ self.now) }
+        ensures same { IfOk result (λ book. book ≡ self.now) }
+        ensures in_order { IfOk result IsInOrder }
     {
         Ok(Book {
             top: self.top,

@@ -39,10 +39,10 @@ returns-clause-settled c =
     let own : (get_or c.as_slice.result.now c.self.inside.place none).id ≡ get_or (facilities sc) old.place 0 = (λ i. (get_or (c.as_slice.ensures i) (c.self.view_is i).place none).id) ∙ sym (facility_at sc old.place none c.requires.due.place) in
     let new : CourseView = record { start = c.self.inside.start; standings = c.settle.new.self; map = c.take_channels.new.map; steps = c.push_reserved.new.self.items; total = c.self.inside.total + c.paid.result; round = c.self.inside.round; place = c.self.inside.place + 1; room = _ } in
     let same = is-next sc old new c.args.shown
-        (ap (λ (z : CourseView). z.start) c.self.view_is) moved
-        (c.take_channels.ensures ∙ (λ i. record { stations = (c.self.view_is i).map.stations; entries = map_after (c.self.view_is i).map.entries (here i) c.args.shown }))
-        (c.push_reserved.ensures.items ∙ (λ i. (c.self.view_is i).steps ++ record { round = (c.self.view_is i).round; station = own i; shown = c.args.shown } ∷ []))
-        (λ i. (c.self.view_is i).total + pay i)
-        (ap (λ (z : CourseView). z.round) c.self.view_is)
-        (ap (λ (z : CourseView). z.place + 1) c.self.view_is) in
+    (ap (λ (z : CourseView). z.start) c.self.view_is) moved
+    (c.take_channels.ensures ∙ (λ i. record { stations = (c.self.view_is i).map.stations; entries = map_after (c.self.view_is i).map.entries (here i) c.args.shown }))
+    (c.push_reserved.ensures.items ∙ (λ i. (c.self.view_is i).steps ++ record { round = (c.self.view_is i).round; station = own i; shown = c.args.shown } ∷ []))
+    (λ i. (c.self.view_is i).total + pay i)
+    (ap (λ (z : CourseView). z.round) c.self.view_is)
+    (ap (λ (z : CourseView). z.place + 1) c.self.view_is) in
     is-settled sc old new c.args.shown _ c.requires.limits c.requires.running c.requires.holds c.requires.due same
