@@ -38,11 +38,11 @@ impl Model for Auction {
     ghost Value = { AuctionView };
 
     ghost view = { λ a. record {
-        scenario = a.desk.scenario;
-        book = a.desk.book;
-        state = a.desk.state;
-        history = a.history.items;
-        spare = spare_of a.desk (vec_capacity a.history - vec_len a.history);
+      scenario = a.desk.scenario;
+      book = a.desk.book;
+      state = a.desk.state;
+      history = a.history.items;
+      spare = spare_of a.desk (vec_capacity a.history - vec_len a.history);
     } };
 
     ghost invariant = { λ a. IsReplayed a.desk.scenario a.desk.book a.history.items a.desk.state };

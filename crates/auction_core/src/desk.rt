@@ -40,11 +40,11 @@ impl Model for Desk {
     ghost Value = { DeskView };
 
     ghost view = { λ d. record {
-        scenario = d.clockwork.scenario;
-        book = d.clockwork.book;
-        state = record d.clockwork.state { noted = notes_of d.notes };
-        steps = d.clockwork.room;
-        receipts = vec_capacity d.receipts;
+      scenario = d.clockwork.scenario;
+      book = d.clockwork.book;
+      state = record d.clockwork.state { noted = notes_of d.notes };
+      steps = d.clockwork.room;
+      receipts = vec_capacity d.receipts;
     } };
 
     ghost invariant = { λ d. (length d.notes ≡ length d.clockwork.scenario.workers) × (d.receipts.items ≡ []) };

@@ -12,4 +12,8 @@ pub mod notes;
 pub mod on_air;
 pub mod posting;
 pub mod record;
+#[cfg(test)]
+mod samples;
 pub mod start;
+#[cfg(test)]
+mod tests;

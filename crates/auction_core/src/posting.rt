@@ -60,9 +60,9 @@ impl Model for Entry {
     ghost Value = { EntryView };
 
     ghost view = { λ e. record {
-        worker = e.worker;
-        number = e.number;
-        reply = e.reply;
-        answer = option_map (λ (s : _). s.value) e.answer;
+      worker = e.worker;
+      number = e.number;
+      reply = e.reply;
+      answer = option_map (λ (s : _). s.value) e.answer;
     } };
 }
