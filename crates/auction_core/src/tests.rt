@@ -1,4 +1,5 @@
-ghost use Rattle.std.specs.Prelude.{◌≡◌, IfOk};
+ghost use Rattle.std.specs.Prelude.{◌≡◌, ◌≤◌, ◌∷◌, [], IfOk};
+ghost use Rattle.pack_defs.specs.Scenario.{IsWithinLimits, facilities};
 ghost use Rattle.auction_core.specs.Clockwork.{IsOfAuction};
 ghost use Rattle.auction_core.specs.Said.{AnswersIfGood};
 
@@ -146,49 +147,72 @@ fn each_reply(rt: HostRuntime) -> Result<(), Fail> {
     Ok(())
 }
 
-// A start set that does not fit is refuted, or the one worker spends its budget on it.
-#[test]
-fn starts_that_end_an_auction(rt: HostRuntime) -> Result<(), Fail> {
-    let alloc = rt.alloc();
+// How the auction ends whose stations all start on air, by one answer of a worker of this budget.
+fn start_end(alloc: Global, budget: u32, given: Given) -> Result<Option<End>, NoMemory>
+    requires some { 1 ≤ budget }
+    requires few { budget ≤ 1000 }
+{
     let last = Reply::Advanced { next: None };
-    let book = three_stations(alloc)?;
-    let sc = all_on_air(alloc, vec![in alloc; learner(1000)]?)?;
-    let refuted = end(alloc, sc, &book, &[(0, 1, Given::Refuted, last)])?;
+    let sc = all_on_air(alloc, vec![in alloc; learner(budget)]?)?;
+    end(alloc, sc, &three_stations(alloc)?, &[(0, 1, given, last)])
+}
+
+#[test]
+fn refuted_start(rt: HostRuntime) -> Result<(), Fail> {
+    let refuted = start_end(rt.alloc(), 1000, Given::Refuted)?;
     assert_eq!(rt; refuted, Some((Ending::StartRefuted, 2, 0, 0)));
-    let sc = all_on_air(alloc, vec![in alloc; learner(1)]?)?;
-    let spent = end(alloc, sc, &book, &[(0, 1, Given::Spent, last)])?;
+    Ok(())
+}
+
+#[test]
+fn undecided_start(rt: HostRuntime) -> Result<(), Fail> {
+    let spent = start_end(rt.alloc(), 1, Given::Spent)?;
     assert_eq!(rt; spent, Some((Ending::StartUndecided, 2, 0, 0)));
     Ok(())
 }
 
-// Without a station, and with a station without a channel that starts on air or is asked.
+// How the auction ends without a posting of one station without a channel, which has this value.
+fn lone_end(alloc: Global, value: u64) -> Result<Option<End>, NoMemory>
+    requires { value ≤ 1000 }
+{
+    let sc = one_round(alloc, vec![in alloc; bid(1, Some(value))]?)?;
+    end(alloc, sc, &book(alloc, &[1], &[], &[])?, &[])
+}
+
+// It starts on air, or it is asked.
 #[test]
-fn auctions_without_a_query(rt: HostRuntime) -> Result<(), Fail> {
-    let alloc = rt.alloc();
-    let none = one_round(alloc, Vec::new(alloc))?;
-    let ended = end(alloc, none, &book(alloc, &[], &[], &[])?, &[])?;
-    assert_eq!(rt; ended, Some((Ending::Done, 1, 0, 0)));
-    let lone = book(alloc, &[1], &[], &[])?;
-    let start = one_round(alloc, vec![in alloc; bid(1, Some(101))]?)?;
-    assert_eq!(rt;
-        end(alloc, start, &lone, &[])?,
-        Some((Ending::StartRefuted, 1, 0, 0))
-    );
-    let asked = one_round(alloc, vec![in alloc; bid(1, Some(5))]?)?;
-    assert_eq!(rt;
-        end(alloc, asked, &lone, &[])?,
-        Some((Ending::Done, 1, 1, 100))
-    );
+fn no_channel(rt: HostRuntime) -> Result<(), Fail> {
+    let start = lone_end(rt.alloc(), 101)?;
+    assert_eq!(rt; start, Some((Ending::StartRefuted, 1, 0, 0)));
+    let asked = lone_end(rt.alloc(), 5)?;
+    assert_eq!(rt; asked, Some((Ending::Done, 1, 1, 100)));
     Ok(())
+}
+
+#[test]
+fn no_station(rt: HostRuntime) -> Result<(), Fail> {
+    let alloc = rt.alloc();
+    let sc = one_round(alloc, Vec::new(alloc))?;
+    let end = end(alloc, sc, &book(alloc, &[], &[], &[])?, &[])?;
+    assert_eq!(rt; end, Some((Ending::Done, 1, 0, 0)));
+    Ok(())
+}
+
+// The same bid of stations 1 to 5.
+fn five_bids(alloc: Global) -> Result<Scenario, NoMemory>
+    ensures limits { IfOk result IsWithinLimits }
+    ensures stations { IfOk result (λ sc. facilities sc ≡ 1 ∷ 2 ∷ 3 ∷ 4 ∷ 5 ∷ []) }
+{
+    let v = Some(5);
+    let bids = vec![in alloc; bid(1, v), bid(2, v), bid(3, v), bid(4, v), bid(5, v)]?;
+    one_round(alloc, bids)
 }
 
 // Of five stations the third alone has a channel: the tests before its query and behind it are settled in a row.
 #[test]
 fn settled_in_a_row(rt: HostRuntime) -> Result<(), Fail> {
     let alloc = rt.alloc();
-    let v = Some(5);
-    let bids = vec![in alloc; bid(1, v), bid(2, v), bid(3, v), bid(4, v), bid(5, v)]?;
-    let sc = one_round(alloc, bids)?;
+    let sc = five_bids(alloc)?;
     let one = book(alloc, &[1, 2, 3, 4, 5], &[on(alloc, 3, &[14])?], &[])?;
     let last = Reply::Advanced { next: None };
     let end = end(alloc, sc, &one, &[(0, 1, Given::Fit(3, 14), last)])?;
