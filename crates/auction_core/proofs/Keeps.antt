@@ -288,7 +288,7 @@ fit-valid sc book w delta task h =
     ] in
     go (slice_get sc.workers w) h
 
-fit-settles : (sc : Scenario) (book : BookView) (state : CoreState) (w : ℕ) (delta : List (ℕ × ℕ)) → Answers sc book state w (Fit delta) → SettlesQuery sc book state (Fits delta)
+pub fit-settles : (sc : Scenario) (book : BookView) (state : CoreState) (w : ℕ) (delta : List (ℕ × ℕ)) → Answers sc book state w (Fit delta) → SettlesQuery sc book state (Fits delta)
 fit-settles sc book state w delta h =
     let go : (o : Option Task) → MatchOption o ⊥ (λ task. IsValidOf sc book task w (Fit delta)) → MatchOption o ⊥ (λ task. IsSettledBy sc book task (Fits delta)) = λ o. elim o as (λ o. MatchOption o ⊥ (λ task. IsValidOf sc book task w (Fit delta)) → MatchOption o ⊥ (λ task. IsSettledBy sc book task (Fits delta))) [
       | None ↦ λ v. v

@@ -1,5 +1,5 @@
 -- The places of the workers and the list of those that are noted.
-use Rattle.std.proofs.Common.{◌≡◌, ℕ, zero, suc, ◌+◌, ◌<◌, false, ◌==◌, ◌||◌, if◌then◌else◌, List, [], ◌∷◌, ◌++◌, length, Option, Some, None, is_some, get_or, refl, sym, ap, ◌∙◌, arith, eq-eqb, ne_eqb, lt-ltb, le-ltb}
+use Rattle.std.proofs.Common.{◌≡◌, ℕ, zero, suc, ◌+◌, ◌<◌, ◌≤◌, false, true, ◌==◌, ◌||◌, if◌then◌else◌, List, [], ◌∷◌, ◌++◌, length, Option, Some, None, is_some, get_or, drop, refl, sym, ap, subst, ◌∙◌, arith, eq-eqb, ne_eqb, lt-ltb, le-ltb}
 use Rattle.std.specs.Prelude.{slice_set}
 use Rattle.std.proofs.lemmas.Bool.{or_left}
 use Rattle.cert_types.specs.declared.answer.Receipt.{Receipt}
@@ -69,3 +69,57 @@ pub place-more : (w : ℕ) (xs : List (Option Receipt)) → notes_from w (xs ++ 
 place-more w [] = refl
 place-more w (None ∷ xs) = place-more (w + 1) xs
 place-more w (Some r ∷ xs) = ap (λ ns. noted_as w r ∷ ns) (place-more (w + 1) xs)
+
+-- no worker past the last place is noted
+pub not-past : (w i : ℕ) (xs : List (Option Receipt)) → w + length xs ≤ i → is_noted (notes_from w xs) i ≡ false
+not-past w i [] h = refl
+not-past w i (None ∷ xs) h = not-past (w + 1) i xs (omega arith)
+not-past w i (Some r ∷ xs) h =
+    ap (λ b. b || is_noted (notes_from (w + 1) xs) i) (ne_eqb w i (λ e. omega arith)) ∙ not-past (w + 1) i xs (omega arith)
+
+-- how many places have a receipt
+abbrev pub how_many : List (Option Receipt) → ℕ
+how_many [] = 0
+how_many (None ∷ xs) = how_many xs
+how_many (Some r ∷ xs) = how_many xs + 1
+
+pub many-noted : (w : ℕ) (xs : List (Option Receipt)) → length (notes_from w xs) ≡ how_many xs
+many-noted w [] = refl
+many-noted w (None ∷ xs) = many-noted (w + 1) xs
+many-noted w (Some r ∷ xs) = let rest = many-noted (w + 1) xs in omega arith
+
+pub many-bound : (xs : List (Option Receipt)) → how_many xs ≤ length xs
+many-bound [] = omega arith
+many-bound (None ∷ xs) = let rest = many-bound xs in omega arith
+many-bound (Some r ∷ xs) = let rest = many-bound xs in omega arith
+
+-- one place more, with a receipt or without one
+pub one-more : (i : ℕ) (xs : List (Option Receipt)) (d : Option Receipt) → i < length xs → is_some (get_or xs i d) ≡ true → how_many (drop i xs) ≡ how_many (drop (i + 1) xs) + 1
+one-more i xs d h e = let next : i + 1 ≡ suc i = omega arith in subst (λ k. how_many (drop i xs) ≡ how_many (drop k xs) + 1) (sym next) (go i xs h e)
+  where
+    go : (i : ℕ) (xs : List (Option Receipt)) → i < length xs → is_some (get_or xs i d) ≡ true → how_many (drop i xs) ≡ how_many (drop (suc i) xs) + 1
+    go i [] h e = absurd (omega arith)
+    go zero (None ∷ xs) h e = cc
+    go zero (Some r ∷ xs) h e = refl
+    go (suc i) (x ∷ xs) h e = go i xs (omega arith) e
+
+pub no-more : (i : ℕ) (xs : List (Option Receipt)) (d : Option Receipt) → i < length xs → is_some (get_or xs i d) ≡ false → how_many (drop i xs) ≡ how_many (drop (i + 1) xs)
+no-more i xs d h e = let next : i + 1 ≡ suc i = omega arith in subst (λ k. how_many (drop i xs) ≡ how_many (drop k xs)) (sym next) (go i xs h e)
+  where
+    go : (i : ℕ) (xs : List (Option Receipt)) → i < length xs → is_some (get_or xs i d) ≡ false → how_many (drop i xs) ≡ how_many (drop (suc i) xs)
+    go i [] h e = absurd (omega arith)
+    go zero (None ∷ xs) h e = refl
+    go zero (Some r ∷ xs) h e = cc
+    go (suc i) (x ∷ xs) h e = go i xs (omega arith) e
+
+-- at the end those counted are all
+pub all-counted : (i count : ℕ) (xs : List (Option Receipt)) → i ≡ length xs → count + how_many (drop i xs) ≡ how_many xs → count ≡ length (notes_of xs)
+all-counted i count xs e h =
+    let none : how_many (drop i xs) ≡ 0 = ap (λ (k : ℕ). how_many (drop k xs)) e ∙ none-left xs in
+    let sum : count + 0 ≡ how_many xs = ap (λ k. count + k) (sym none) ∙ h in
+    let all : count ≡ how_many xs = omega arith in
+    all ∙ sym (many-noted 0 xs)
+  where
+    none-left : (xs : List (Option Receipt)) → how_many (drop (length xs) xs) ≡ 0
+    none-left [] = refl
+    none-left (x ∷ xs) = none-left xs

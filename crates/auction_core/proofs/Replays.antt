@@ -7,9 +7,8 @@ use Rattle.auction_core.specs.declared.posting.Reply.{Reply}
 use Rattle.auction_core.specs.declared.posting.Reply.TheVariants.{Ended, WrongQuery, Stranger, Rejected, Advanced, AlreadySpent, Noted}
 use Rattle.auction_core.specs.State.{CoreState, has_ended}
 use Rattle.auction_core.specs.Take.{PostingView, turned_away, is_noted, take, after_postings}
-use Rattle.auction_core.specs.Replay.{same_next, agrees, stands, if_agrees, after_entry, replay_from, kept_answer, entry_of, history_of}
+use Rattle.auction_core.specs.Replay.{EntryView, same_next, agrees, stands, if_agrees, after_entry, replay_from, kept_answer, entry_of, history_of}
 use Rattle.cert_types.specs.declared.answer.Answer.{Answer}
-use Rattle.auction_core.specs.declared.posting.Entry.{Entry}
 use Rattle.auction_core.specs.Rule.{IsAuction}
 use Rattle.auction_core.proofs.Cases.{take-cases}
 use Rattle.auction_core.proofs.Kept.{IsKept}
@@ -37,7 +36,7 @@ LeadsTo sc book state p reply new = after_entry sc book state (entry_of p reply)
 abbrev Leads : Scenario → BookView → CoreState → PostingView → Reply × CoreState → Type 0
 Leads sc book state p out = take sc book state p ≡ out → LeadsTo sc book state p out.0 out.1
 
-turned-leads : (sc : Scenario) (book : BookView) (state : CoreState) (p : PostingView) (reply : Reply) → turned_away sc state p.worker p.number ≡ Some reply → LeadsTo sc book state p reply state
+pub turned-leads : (sc : Scenario) (book : BookView) (state : CoreState) (p : PostingView) (reply : Reply) → turned_away sc state p.worker p.number ≡ Some reply → LeadsTo sc book state p reply state
 turned-leads sc book state p reply t =
     turned-cases sc state p.worker p.number (λ r. turned_away sc state p.worker p.number ≡ Some r → LeadsTo sc book state p r state) reply
     (λ e. cond-true (stands (turned_away sc state p.worker p.number) (is_noted state.noted p.worker) Ended) (Some state) None (ap (λ o. stands o (is_noted state.noted p.worker) Ended) e))
@@ -80,7 +79,7 @@ if-some : {A : Type 0} (b : Bool) (x y : A) → (if b then Some x else None) ≡
 if-some true x y e = cc
 if-some false x y e = cc
 
-entry-keeps : (sc : Scenario) (book : BookView) (state new : CoreState) (e : Entry) (o : Option Answer) → IsAuction sc book → IsKept sc book state → after_entry sc book state e o ≡ Some new → IsKept sc book new
+entry-keeps : (sc : Scenario) (book : BookView) (state new : CoreState) (e : EntryView) (o : Option Answer) → IsAuction sc book → IsKept sc book state → after_entry sc book state e o ≡ Some new → IsKept sc book new
 entry-keeps sc book state new e (Some answer) a h s =
     let p : PostingView = record { worker = e.worker; number = e.number; answer = answer } in
     subst (IsKept sc book) (if-some (agrees e.reply (take sc book state p).0) (take sc book state p).1 new s) (take-keeps sc book state p a h)
@@ -88,7 +87,7 @@ entry-keeps sc book state new e None a h s =
     subst (IsKept sc book) (if-some (stands (turned_away sc state e.worker e.number) (is_noted state.noted e.worker) e.reply) state new s) h
 
 -- a history that replays, from a state that keeps the rule, leads to one
-pub replay-keeps : (sc : Scenario) (book : BookView) (es : List Entry) (state new : CoreState) → IsAuction sc book → IsKept sc book state → replay_from sc book es state ≡ Some new → IsKept sc book new
+pub replay-keeps : (sc : Scenario) (book : BookView) (es : List EntryView) (state new : CoreState) → IsAuction sc book → IsKept sc book state → replay_from sc book es state ≡ Some new → IsKept sc book new
 replay-keeps sc book [] state new a h s = let same : state ≡ new = cc in subst (IsKept sc book) same h
 replay-keeps sc book (e ∷ es) state new a h s =
     let go : (o : Option CoreState) → after_entry sc book state e e.answer ≡ o → option_and_then (replay_from sc book es) o ≡ Some new → IsKept sc book new = λ o. elim o as (λ o. after_entry sc book state e e.answer ≡ o → option_and_then (replay_from sc book es) o ≡ Some new → IsKept sc book new) [

@@ -5,9 +5,15 @@ use Rattle.pack_defs.specs.declared.scenario.Scenario.{Scenario}
 use Rattle.cert_types.specs.declared.answer.Answer.{Answer}
 use Rattle.auction_core.specs.declared.posting.Reply.{Reply}
 use Rattle.auction_core.specs.declared.posting.Reply.TheVariants.{Ended, WrongQuery, Stranger, Rejected, Advanced, AlreadySpent, Noted}
-use Rattle.auction_core.specs.declared.posting.Entry.{Entry}
 use Rattle.auction_core.specs.State.{CoreState, opening}
 use Rattle.auction_core.specs.Take.{PostingView, take, turned_away, is_noted}
+
+-- what a history keeps of a posting: its worker and number, what it was told, and its answer where that says it was taken
+pub record EntryView : Type 0 where
+  pub worker : ℕ
+  pub number : ℕ
+  pub reply : Reply
+  pub answer : Option Answer
 
 -- the two are the same next number
 abbrev pub same_next : Option ℕ → Option ℕ → Bool
@@ -36,19 +42,19 @@ abbrev pub if_agrees : Reply → Reply × CoreState → Option CoreState
 if_agrees kept out = if agrees kept out.0 then Some out.1 else None
 
 -- the state after an entry; None where the entry can't stand there
-abbrev pub after_entry : Scenario → BookView → CoreState → Entry → Option Answer → Option CoreState
+abbrev pub after_entry : Scenario → BookView → CoreState → EntryView → Option Answer → Option CoreState
 after_entry sc book state e (Some answer) =
     if_agrees e.reply (take sc book state (record { worker = e.worker; number = e.number; answer = answer }))
 after_entry sc book state e None =
     if stands (turned_away sc state e.worker e.number) (is_noted state.noted e.worker) e.reply then Some state else None
 
 -- the state after these entries, from a state
-abbrev pub replay_from : Scenario → BookView → List Entry → CoreState → Option CoreState
+abbrev pub replay_from : Scenario → BookView → List EntryView → CoreState → Option CoreState
 replay_from sc book [] state = Some state
 replay_from sc book (e ∷ es) state = option_and_then (replay_from sc book es) (after_entry sc book state e e.answer)
 
 -- the state that a history leaves; None where it is no history of this auction
-unfoldable pub replay : Scenario → BookView → List Entry → Option CoreState
+unfoldable pub replay : Scenario → BookView → List EntryView → Option CoreState
 replay sc book entries = replay_from sc book entries (opening sc book)
 
 -- the answer, where the reply says that it was taken
@@ -62,12 +68,12 @@ kept_answer AlreadySpent answer = None
 kept_answer Noted answer = Some answer
 
 -- what a history keeps of a posting and its reply
-abbrev pub entry_of : PostingView → Reply → Entry
+abbrev pub entry_of : PostingView → Reply → EntryView
 entry_of posting reply =
     record { worker = posting.worker; number = posting.number; reply = reply; answer = kept_answer reply posting.answer }
 
 -- the history of postings, from a state
-abbrev pub history_of : Scenario → BookView → List PostingView → CoreState → List Entry
+abbrev pub history_of : Scenario → BookView → List PostingView → CoreState → List EntryView
 history_of sc book [] state = []
 history_of sc book (p ∷ ps) state =
     let out = take sc book state p in entry_of p out.0 ∷ history_of sc book ps out.1

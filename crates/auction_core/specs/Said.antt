@@ -1,6 +1,6 @@
 -- What a posting does whose answer was looked at before it was posted. That an answer is looked at before the auction is
 -- asked is this project's own; it changes nothing of what the answer does.
-use Rattle.std.specs.Prelude.{◌≡◌, ℕ, None, Some}
+use Rattle.std.specs.Prelude.{◌≡◌, ⊤, ℕ, None, Some}
 use Rattle.std.specs.Option.{option_map_or}
 use Rattle.pack_defs.specs.Book.{BookView}
 use Rattle.pack_defs.specs.declared.scenario.Scenario.{Scenario}
@@ -39,3 +39,13 @@ IsSaidOf sc book state posting answer (Bad place) = fault_of sc book state (with
 abbrev pub StandsFor : Scenario → BookView → CoreState → Posting → Answer → Type 0
 StandsFor sc book state posting answer =
     turned_away sc state posting.worker posting.number ≡ None → IsSaidOf sc book state posting answer posting.said
+
+-- what was let through answers the standing query; what wasn't, asks nothing
+abbrev pub AnswersIfGood : Scenario → BookView → CoreState → ℕ → Said → Type 0
+AnswersIfGood sc book state w (Good certified) = Answers sc book state w certified.answer
+AnswersIfGood sc book state w (Bad place) = ⊤
+
+-- where the posting isn't turned away and its answer was let through, it is valid for the standing query and the worker
+abbrev pub MayBeTaken : Scenario → BookView → CoreState → Posting → Type 0
+MayBeTaken sc book state posting =
+    turned_away sc state posting.worker posting.number ≡ None → AnswersIfGood sc book state posting.worker posting.said

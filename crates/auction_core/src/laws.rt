@@ -10,12 +10,12 @@ ghost use Rattle.auction_core.specs.State.{CoreState, opening, has_ended};
 ghost use Rattle.auction_core.specs.Take.{PostingView, take, turned_away, fault_of};
 ghost use Rattle.auction_core.specs.Backed.{IsBacked, record_of, test_of, undecided_of};
 ghost use Rattle.auction_core.specs.Postings.{HoldsAfter};
-ghost use Rattle.auction_core.specs.Replay.{replay};
+ghost use Rattle.auction_core.specs.Replay.{EntryView, replay};
 ghost use Rattle.auction_core.specs.Said.{StandsFor, taken, with_answer};
 ghost use Rattle.auction_core.specs.Rule.{IsAuction, KeepsTheRule};
 ghost use Rattle.auction_core.specs.Examples.{auction_of_three, posting, fit, refuted, one_line, three_fits, four_fits, state_after, all_on_air, start_after, no_station, lone_start, other_fits, rows_after, replies_to, of_each_kind, one_of_five, five_bids, five_after};
 
-use crate::posting::{Entry, Posting, Reply};
+use crate::posting::{Posting, Reply};
 use crate::record::{Ending, Record, Shown};
 use cert_types::answer::{Answer, Place};
 
@@ -57,8 +57,8 @@ pub fn whatever_is_posted()
 /// What a history replays to keeps the clock rule, and its record is backed once the auction has ended. A history is any
 /// list of entries that replays, whoever kept it.
 pub fn a_replayed_state_keeps_the_rule()
-    ensures rule { (sc : Scenario) (book : BookView) (history : List Entry) (state : CoreState) → IsAuction sc book → replay sc book history ≡ Some state → KeepsTheRule sc book state }
-    ensures backed { (sc : Scenario) (book : BookView) (history : List Entry) (state : CoreState) → IsAuction sc book → replay sc book history ≡ Some state → has_ended state ≡ true → IsBacked sc book (record_of sc state) }
+    ensures rule { (sc : Scenario) (book : BookView) (history : List EntryView) (state : CoreState) → IsAuction sc book → replay sc book history ≡ Some state → KeepsTheRule sc book state }
+    ensures backed { (sc : Scenario) (book : BookView) (history : List EntryView) (state : CoreState) → IsAuction sc book → replay sc book history ≡ Some state → has_ended state ≡ true → IsBacked sc book (record_of sc state) }
 {}
 
 /// The state that an auction opens with keeps the clock rule, and so does the state after any one posting.

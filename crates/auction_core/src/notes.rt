@@ -36,6 +36,19 @@ impl Notes {
         Ok(Notes { places })
     }
 
+    /// How many receipts stand noted. It goes over the workers.
+    pub fn count(&self) -> usize
+        ensures { result ≡ length (notes_of self.now) }
+    {
+        let mut count = 0;
+        for place in &self.places {
+            if place.is_some() {
+                count += 1;
+            }
+        }
+        count
+    }
+
     /// Whether this worker's receipt stands noted.
     pub fn has(&self, worker: u32) -> bool
         requires { worker < length self.now }
@@ -52,6 +65,17 @@ impl Notes {
         ensures places { length self.new ≡ length self.old }
     {
         self.places[worker as usize] = Some(receipt);
+    }
+
+    /// Lets every noted receipt go. It takes no memory.
+    pub fn clear(&mut self)
+        ensures none { notes_of self.new ≡ [] }
+        ensures places { length self.new ≡ length self.old }
+    {
+        let workers = self.places.len();
+        for i in 0..workers {
+            self.places[i] = None;
+        }
     }
 
     /// Moves every noted receipt behind those of the list, in order of worker; none is noted any more. It takes no memory.

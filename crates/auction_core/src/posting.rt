@@ -1,5 +1,7 @@
 use cert_types::answer::{Answer, Place};
 use cert_types::certified::Certified;
+use std::marker::Model;
+use std::snapshot::Snapshot;
 
 /// What a worker posts for a query, once its answer was looked at.
 #[derive(Drop)]
@@ -39,8 +41,8 @@ pub enum Reply {
     Noted,
 }
 
-/// One posting of a history, and what it was told.
-#[derive(Debug, Drop)]
+/// One posting of a history, and what it was told. It keeps no answer in memory: contracts alone see it.
+#[derive(Drop)]
 pub struct Entry {
     /// The worker, from 0.
     pub worker: u32,
@@ -48,5 +50,19 @@ pub struct Entry {
     pub number: u64,
     pub reply: Reply,
     /// The answer, where it settled the query or was noted.
-    pub answer: Option<Answer>,
+    pub answer: Option<Snapshot<Answer>>,
+}
+
+impl Model for Entry {
+    ghost use Rattle.std.specs.Prelude.{option_map};
+    ghost use Rattle.auction_core.specs.Replay.{EntryView};
+
+    ghost Value = { EntryView };
+
+    ghost view = { λ e. record {
+      worker = e.worker;
+      number = e.number;
+      reply = e.reply;
+      answer = option_map (λ (s : _). s.value) e.answer;
+    } };
 }

@@ -1,0 +1,104 @@
+-- A posting that was looked at goes into a history that replays.
+use Rattle.std.proofs.Common.{◌≡◌, ℕ, ◌<◌, ◌≤◌, Bool, true, false, if◌then◌else◌, List, [], ◌∷◌, ◌++◌, length, Option, Some, None, option_and_then, refl, sym, ap, ◌∙◌, subst, arith}
+use Rattle.std.proofs.lemmas.Bool.{cond-true}
+use Rattle.pack_defs.specs.Book.{BookView, IsInOrder}
+use Rattle.pack_defs.specs.declared.scenario.Scenario.{Scenario}
+use Rattle.cert_types.specs.declared.answer.Answer.{Answer}
+use Rattle.cert_types.specs.declared.answer.Answer.TheVariants.{Fit}
+use Rattle.auction_core.specs.declared.posting.Posting.{Posting}
+use Rattle.auction_core.specs.declared.posting.Reply.{Reply}
+use Rattle.auction_core.specs.declared.posting.Reply.TheVariants.{Ended, WrongQuery, Stranger, Rejected}
+use Rattle.auction_core.specs.declared.posting.Said.{Said}
+use Rattle.auction_core.specs.declared.posting.Said.TheVariants.{Good, Bad}
+use Rattle.auction_core.specs.Auction.{IsReplayed, entry_told, let_through}
+use Rattle.auction_core.specs.Clockwork.{IsOfAuction}
+use Rattle.auction_core.specs.Replay.{EntryView, after_entry, kept_answer, replay, replay_from, stands}
+use Rattle.auction_core.specs.Rule.{Answers, IsAuction, KeepsTheRule}
+use Rattle.auction_core.specs.Said.{AnswersIfGood, IsSaidOf, MayBeTaken, StandsFor, taken, with_answer}
+use Rattle.auction_core.specs.State.{CoreState, opening}
+use Rattle.auction_core.specs.Take.{is_noted, take, turned_away}
+use Rattle.auction_core.proofs.DeskLemmas.{taken-turned, taken-told}
+use Rattle.auction_core.proofs.Kept.{kept-rule}
+use Rattle.auction_core.proofs.Keeps.{opening-keeps}
+use Rattle.auction_core.proofs.Looked.{looked}
+use Rattle.auction_core.proofs.Replays.{replay-keeps, take-leads, turned-cases, turned-leads}
+
+pub is-auction : (sc : Scenario) (book : BookView) → IsOfAuction sc book → IsInOrder book → IsAuction sc book
+is-auction sc book a o = let some = a.limits.some_worker in record { stations = a.limits.ascend; in_order = o; workers = omega arith }
+
+-- an auction whose history replays to its state keeps the rule
+pub replayed-rule : (sc : Scenario) (book : BookView) (history : List EntryView) (state : CoreState) → IsReplayed sc book history state → KeepsTheRule sc book state
+unfolding replay
+replayed-rule sc book history state h =
+    let a = is-auction sc book h.auction h.in_order in
+    kept-rule sc book state (replay-keeps sc book history (opening sc book) state a (opening-keeps sc book a) h.replays)
+
+-- with no entry the state is the opening
+pub none-replayed : (sc : Scenario) (book : BookView) → IsOfAuction sc book → IsInOrder book → IsReplayed sc book [] (opening sc book)
+unfolding replay
+none-replayed sc book a o = record { auction = a; in_order = o; replays = refl }
+
+-- ---- one entry more
+
+from-push : (sc : Scenario) (book : BookView) (es : List EntryView) (e : EntryView) (at state new : CoreState) → replay_from sc book es at ≡ Some state → after_entry sc book state e e.answer ≡ Some new → replay_from sc book (es ++ e ∷ []) at ≡ Some new
+from-push sc book [] e at state new h k =
+    let same : at ≡ state = cc in
+    ap (option_and_then (replay_from sc book [])) (ap (λ s. after_entry sc book s e e.answer) same ∙ k)
+from-push sc book (x ∷ xs) e at state new h k =
+    let go : (o : Option CoreState) → option_and_then (replay_from sc book xs) o ≡ Some state → option_and_then (replay_from sc book (xs ++ e ∷ [])) o ≡ Some new = λ o. elim o as (λ o. option_and_then (replay_from sc book xs) o ≡ Some state → option_and_then (replay_from sc book (xs ++ e ∷ [])) o ≡ Some new) [
+      | None ↦ λ r. cc
+      | Some next ↦ λ r. from-push sc book xs e next state new r k
+    ] in
+    go (after_entry sc book at x x.answer) h
+
+push : (sc : Scenario) (book : BookView) (es : List EntryView) (e : EntryView) (state new : CoreState) → replay sc book es ≡ Some state → after_entry sc book state e e.answer ≡ Some new → replay sc book (es ++ e ∷ []) ≡ Some new
+unfolding replay
+push sc book es e state new h k = from-push sc book es e (opening sc book) state new h k
+
+-- the entry of a posting that was told this leads to this state
+abbrev Leads : Scenario → BookView → CoreState → Posting → Reply → CoreState → Type 0
+Leads sc book state posting reply new =
+    after_entry sc book state (entry_told posting reply) (option_and_then (kept_answer reply) (let_through posting.said)) ≡ Some new
+
+none-kept : (reply : Reply) (o : Option Answer) → ((answer : Answer) → kept_answer reply answer ≡ None) → option_and_then (kept_answer reply) o ≡ None
+none-kept reply None h = refl
+none-kept reply (Some answer) h = h answer
+
+turned-told : (sc : Scenario) (book : BookView) (state : CoreState) (posting : Posting) (reply : Reply) → turned_away sc state posting.worker posting.number ≡ Some reply → Leads sc book state posting reply state
+turned-told sc book state posting reply t =
+    let o : Option Answer = let_through posting.said in
+    turned-cases sc state posting.worker posting.number (λ r. turned_away sc state posting.worker posting.number ≡ Some r → Leads sc book state posting r state) reply
+    (λ e. ap (after_entry sc book state (entry_told posting Ended)) (none-kept Ended o (λ answer. refl)) ∙ turned-leads sc book state (with_answer posting (Fit [])) Ended e)
+    (λ e. ap (after_entry sc book state (entry_told posting (WrongQuery state.number))) (none-kept (WrongQuery state.number) o (λ answer. refl)) ∙ turned-leads sc book state (with_answer posting (Fit [])) (WrongQuery state.number) e)
+    (λ e. ap (after_entry sc book state (entry_told posting Stranger)) (none-kept Stranger o (λ answer. refl)) ∙ turned-leads sc book state (with_answer posting (Fit [])) Stranger e)
+    t t
+
+-- the entry of this reply, where this is what the posting says
+abbrev LeadsBy : Scenario → BookView → CoreState → Posting → Said → Reply × CoreState → Type 0
+LeadsBy sc book state posting said out =
+    after_entry sc book state (entry_told posting out.0) (option_and_then (kept_answer out.0) (let_through said)) ≡ Some out.1
+
+said-told : (sc : Scenario) (book : BookView) (state : CoreState) (posting : Posting) (said : Said) → posting.said ≡ said → turned_away sc state posting.worker posting.number ≡ None → AnswersIfGood sc book state posting.worker said → LeadsBy sc book state posting said (taken sc book state posting)
+said-told sc book state posting (Good certified) s t h =
+    let p = with_answer posting certified.answer in
+    let stands : StandsFor sc book state posting certified.answer = λ _. subst (λ x. IsSaidOf sc book state posting certified.answer x) (sym s) (refl, h) in
+    subst (LeadsBy sc book state posting (Good certified)) (sym (looked sc book state posting certified.answer stands)) (take-leads sc book state p)
+said-told sc book state posting (Bad place) s t h =
+    subst (LeadsBy sc book state posting (Bad place)) (taken-told sc book state posting (Bad place) t s)
+    (cond-true (stands (turned_away sc state posting.worker posting.number) (is_noted state.noted posting.worker) (Rejected place)) (Some state) None (ap (λ o. stands o (is_noted state.noted posting.worker) (Rejected place)) t))
+
+taken-leads : (sc : Scenario) (book : BookView) (state : CoreState) (posting : Posting) → MayBeTaken sc book state posting → LeadsBy sc book state posting posting.said (taken sc book state posting)
+taken-leads sc book state posting h =
+    let go : (o : Option Reply) → turned_away sc state posting.worker posting.number ≡ o → LeadsBy sc book state posting posting.said (taken sc book state posting) = λ o. elim o as (λ o. turned_away sc state posting.worker posting.number ≡ o → LeadsBy sc book state posting posting.said (taken sc book state posting)) [
+      | None ↦ λ t. said-told sc book state posting posting.said refl t (h t)
+      | Some reply ↦ λ t. subst (LeadsBy sc book state posting posting.said) (taken-turned sc book state posting reply t) (turned-told sc book state posting reply t)
+    ] in
+    go (turned_away sc state posting.worker posting.number) refl
+
+-- with the entry of a posting that may be taken, the history replays to the state after it
+pub told-replayed : (sc : Scenario) (book : BookView) (history : List EntryView) (state new : CoreState) (posting : Posting) (reply : Reply) → IsReplayed sc book history state → MayBeTaken sc book state posting → (reply, new) ≡ taken sc book state posting → IsReplayed sc book (history ++ entry_told posting reply ∷ []) new
+told-replayed sc book history state new posting reply h may e = record {
+  auction = h.auction;
+  in_order = h.in_order;
+  replays = push sc book history (entry_told posting reply) state new h.replays (subst (LeadsBy sc book state posting posting.said) (sym e) (taken-leads sc book state posting may));
+}

@@ -1,0 +1,12 @@
+-- One place more is emptied; at the end every place is.
+use Rattle.std.proofs.Common.{rules, refl}
+use Rattle.auction_core.proofs.Emptied.{emptied-next, all-emptied}
+use Rattle.auction_core.proofs.notes.Notes.clear.Goals as goal
+
+pub loop-i-preserved : goal.loop-i-preserved
+loop-i-preserved c =
+    (emptied-next c.loop-i.i c.self.inside.places.items c.loop-i.self-inside.places.items _ (search rules) c.loop-i.invariant.0 refl, c.loop-i.invariant.1)
+
+pub returns-clause-none : goal.returns-clause-none
+returns-clause-none c =
+    all-emptied c.loop-i.i c.self.inside.places.items c.loop-i.self-inside.places.items (search rules) c.loop-i.invariant.0

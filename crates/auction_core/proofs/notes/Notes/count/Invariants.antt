@@ -1,0 +1,7 @@
+-- Those counted and those among the places left are all.
+use Rattle.std.proofs.Common.{◌≡◌, ◌≤◌, ◌+◌, drop, length}
+use Rattle.auction_core.proofs.NoteLemmas.{how_many}
+use Rattle.auction_core.proofs.notes.Notes.count.Given as goal
+
+abbrev pub invariant-loop-place : goal.invariant-loop-place
+invariant-loop-place l = (l.count + how_many (drop l.place-index l.place-items) ≡ how_many l.place-items)

@@ -1,0 +1,192 @@
+//! An auction: what each posting of a worker does, whoever posts it and when.
+
+ghost use Rattle.std.specs.Prelude.{◌≡◌, ◌≤◌, ◌++◌, ◌∷◌, [], IfOk, MatchOption, OnOk, Some, ⊤, length, option_and_then, option_map, true};
+ghost use Rattle.cert_types.specs.Certificate.{IsTaskOf};
+ghost use Rattle.cert_types.specs.declared.answer.Answer.{Answer};
+ghost use Rattle.auction_core.specs.Auction.{entry_told, let_through};
+ghost use Rattle.auction_core.specs.Backed.{IsBacked, record_of};
+ghost use Rattle.auction_core.specs.Clockwork.{IsOfAuction};
+ghost use Rattle.auction_core.specs.Replay.{kept_answer, replay};
+ghost use Rattle.auction_core.specs.Rule.{KeepsTheRule};
+ghost use Rattle.auction_core.specs.Said.{MayBeTaken, StandsFor, taken, with_answer};
+ghost use Rattle.auction_core.specs.State.{has_ended, opening, task_of};
+ghost use Rattle.auction_core.specs.Take.{is_noted, take};
+
+use crate::desk::Desk;
+use crate::posting::{Entry, Posting, Reply, Said};
+use crate::record::Record;
+use cert_types::answer::Answer;
+use cert_types::task::Task;
+use pack_defs::book::Book;
+use pack_defs::scenario::Scenario;
+use pack_defs::worker::Worker;
+use std::alloc::{AllocError as NoMemory, Global};
+use std::marker::Model;
+use std::snapshot::Snapshot;
+
+/// An auction between two postings. It keeps what each posting was told, and keeps the clock rule whatever is posted.
+#[derive(Drop)]
+pub struct Auction {
+    desk: Desk,
+    history: Vec<Entry>,
+}
+
+impl Model for Auction {
+    ghost use Rattle.std.specs.Prelude.{vec_capacity, vec_len, ◌-◌};
+    ghost use Rattle.auction_core.specs.Auction.{AuctionView, IsReplayed, spare_of};
+
+    ghost Value = { AuctionView };
+
+    ghost view = { λ a. record {
+      scenario = a.desk.scenario;
+      book = a.desk.book;
+      state = a.desk.state;
+      history = a.history.items;
+      spare = spare_of a.desk (vec_capacity a.history - vec_len a.history);
+    } };
+
+    ghost invariant = { λ a. IsReplayed a.desk.scenario a.desk.book a.history.items a.desk.state };
+}
+
+impl Auction {
+    /// The auction of this scenario and book, at its first query or, where it needs none, at its end. It keeps a copy of
+    /// both. The only error is want of memory.
+    pub fn start(alloc: Global, sc: &Scenario, book: &Book) -> Result<Auction, NoMemory>
+        requires { IsOfAuction sc.now book.now }
+        ensures scenario { IfOk result (λ auction. auction.scenario ≡ sc.now) }
+        ensures book { IfOk result (λ auction. auction.book ≡ book.now) }
+        ensures state { IfOk result (λ auction. auction.state ≡ opening sc.now book.now) }
+        ensures history { IfOk result (λ auction. auction.history ≡ []) }
+    {
+        // that every book is in order
+        let _ = book.len();
+        Ok(Auction {
+            desk: Desk::open(alloc, sc, book)?,
+            history: Vec::new(alloc),
+        })
+    }
+
+    /// The book.
+    pub fn book(&self) -> &Book
+        ensures { result.now ≡ self.now.book }
+    {
+        self.desk.book()
+    }
+
+    /// The workers of the scenario.
+    pub fn workers(&self) -> &[Worker]
+        ensures { result.now ≡ self.now.scenario.workers }
+    {
+        self.desk.workers()
+    }
+
+    /// The number of the standing query, from 1; once the auction has ended, one past the last.
+    pub fn number(&self) -> u64
+        ensures { result ≡ self.now.state.number }
+    {
+        self.desk.number()
+    }
+
+    /// Whether the auction has ended: no query is left.
+    pub fn ended(&self) -> bool
+        ensures { result ≡ has_ended self.now.state }
+    {
+        self.desk.has_ended()
+    }
+
+    /// Whether this worker's receipt for the standing query is noted; never of a worker that the scenario hasn't.
+    pub fn noted(&self, worker: u32) -> bool
+        ensures { result ≡ is_noted self.now.state.noted worker }
+    {
+        self.desk.has_noted(worker)
+    }
+
+    /// How many postings there were. What each was told replays to the state, and the state keeps the clock rule.
+    pub fn posted(&self) -> u64
+        ensures count { result ≡ length self.now.history }
+        ensures replays { replay self.now.scenario self.now.book self.now.history ≡ Some self.now.state }
+        ensures rule { KeepsTheRule self.now.scenario self.now.book self.now.state }
+    {
+        self.history.len() as u64
+    }
+
+    /// The standing query; none where the auction has ended. It costs what the component of the tested station costs, or,
+    /// while the start test stands, one pass over the stations. The only error is want of memory. An answer to it may be
+    /// checked, since its set ascends.
+    pub fn task(&self, alloc: Global) -> Result<Option<Task>, NoMemory>
+        ensures task { IfOk result (λ task. task ≡ task_of self.now.scenario self.now.book self.now.state) }
+        ensures checked { IfOk result (λ task. MatchOption task ⊤ (IsTaskOf self.now.book)) }
+    {
+        self.desk.task(alloc)
+    }
+
+    /// Makes room for all that one posting can add. The only error is want of memory, and nothing else is changed.
+    pub fn reserve(&mut self) -> Result<(), NoMemory>
+        ensures spare { OnOk result (1 ≤ self.new.spare) }
+        ensures scenario { self.new.scenario ≡ self.old.scenario }
+        ensures book { self.new.book ≡ self.old.book }
+        ensures state { self.new.state ≡ self.old.state }
+        ensures history { self.new.history ≡ self.old.history }
+    {
+        self.history.reserve(1)?;
+        self.desk.reserve()
+    }
+
+    /// What the posting is told, after what it does is done: it is turned away, or its answer does what it does. An answer
+    /// that was let through has to be valid for the standing query and the worker, unless the posting is turned away. What
+    /// it was told is kept. Where the answer stood for one that was posted unseen, the same was done. It takes no memory,
+    /// and costs what the stations passed up to the next query cost.
+    pub fn take(&mut self, posting: Posting) -> Reply
+        requires spare { 1 ≤ self.old.spare }
+        requires said { MayBeTaken self.old.scenario self.old.book self.old.state posting }
+        ensures told { (result, self.new.state) ≡ taken self.old.scenario self.old.book self.old.state posting }
+        ensures seen { (answer : Answer) → StandsFor self.old.scenario self.old.book self.old.state posting answer →
+            (result, self.new.state) ≡ take self.old.scenario self.old.book self.old.state (with_answer posting answer) }
+        ensures history { self.new.history ≡ self.old.history ++ entry_told posting result ∷ [] }
+        ensures rule { KeepsTheRule self.new.scenario self.new.book self.new.state }
+        ensures scenario { self.new.scenario ≡ self.old.scenario }
+        ensures book { self.new.book ≡ self.old.book }
+    {
+        let worker = posting.worker;
+        let number = posting.number;
+        let answer = let_through(&posting.said);
+        let reply = self.desk.tell(posting);
+        self.history.push_reserved(Entry {
+            worker,
+            number,
+            reply,
+            answer: if_taken(reply, answer),
+        });
+        reply
+    }
+
+    /// The record of the auction, which has ended. The only error is want of memory.
+    pub fn into_result(self, alloc: Global, scenario: Scenario) -> Result<Record, NoMemory>
+        requires ended { has_ended self.state ≡ true }
+        requires scenario { scenario ≡ self.scenario }
+        ensures record_is { IfOk result (λ rec. rec ≡ record_of scenario self.state) }
+        ensures backed { IfOk result (IsBacked scenario self.book) }
+    {
+        self.desk.into_record(alloc, scenario)
+    }
+}
+
+// The answer that was let through, as contracts see it.
+fn let_through(said: &Said) -> Option<Snapshot<Answer>>
+    ensures { option_map (λ s. s.value) result ≡ let_through said.now }
+{
+    match said {
+        Said::Good(certified) => Some(Snapshot::of(certified.answer())),
+        Said::Bad(_) => None,
+    }
+}
+
+// The answer, where the reply says that it was taken.
+fn if_taken(reply: Reply, answer: Option<Snapshot<Answer>>) -> Option<Snapshot<Answer>>
+    ensures { option_map (λ s. s.value) result ≡ option_and_then (kept_answer reply) (option_map (λ s. s.value) answer) }
+{
+    match reply {
+        Reply::Advanced { .. } | Reply::Noted => answer,
+        _ => None,
+    }
+}

@@ -1,0 +1,240 @@
+ghost use Rattle.std.specs.Prelude.{◌≡◌, ◌≤◌, ◌∷◌, [], IfOk};
+ghost use Rattle.pack_defs.specs.Scenario.{IsWithinLimits, facilities};
+ghost use Rattle.auction_core.specs.Clockwork.{IsOfAuction};
+ghost use Rattle.auction_core.specs.Said.{AnswersIfGood};
+
+use crate::auction::Auction;
+use crate::posting::{Posting, Reply, Said};
+use crate::record::Ending;
+use crate::samples::{
+    Given, all_on_air, answer, bid, book, learner, on, one_round, three_bids, three_stations,
+};
+use cert_types::answer::{Answer, CertifyWhy, Place};
+use cert_types::certify::certify;
+use pack_defs::book::Book;
+use pack_defs::scenario::Scenario;
+use std::alloc::{AllocError as NoMemory, Global};
+use std::test::Fail;
+
+// A posting of a worker for a query, and what it is to be told.
+type Case = (u32, u64, Given, Reply);
+
+// What the check of a worker's answer to the standing query says.
+fn looked_at(
+    alloc: Global,
+    auction: &Auction,
+    worker: u32,
+    answer: Answer,
+) -> Result<Said, NoMemory>
+    ensures { IfOk result (λ said. AnswersIfGood auction.now.scenario auction.now.book auction.now.state worker said) }
+{
+    let Some(task) = auction.task(alloc)? else {
+        return Ok(Said::Bad(Place::Count));
+    };
+    let Some(of) = auction.workers().get(worker as usize) else {
+        return Ok(Said::Bad(Place::Count));
+    };
+    match certify(alloc, auction.book(), &task, of, answer) {
+        Ok(certified) => Ok(Said::Good(certified)),
+        Err(fault) => match fault.why {
+            CertifyWhy::Rejected(place) => Ok(Said::Bad(place)),
+            CertifyWhy::NoMemory => Err(NoMemory),
+        },
+    }
+}
+
+// Posts the answer of a worker for a query.
+fn post(
+    alloc: Global,
+    auction: &mut Auction,
+    worker: u32,
+    number: u64,
+    given: Given,
+) -> Result<Reply, NoMemory>
+    ensures { auction.new.scenario ≡ auction.old.scenario }
+{
+    auction.reserve()?;
+    let answer = answer(alloc, given)?;
+    let said = looked_at(alloc, auction, worker, answer)?;
+    Ok(auction.take(Posting {
+        worker,
+        number,
+        said,
+    }))
+}
+
+// Posts these one after another, and says whether each is told what it is to be.
+fn are_told(alloc: Global, auction: &mut Auction, cases: &[Case]) -> Result<bool, NoMemory>
+    ensures { auction.new.scenario ≡ auction.old.scenario }
+{
+    for (worker, number, given, want) in cases {
+        if post(alloc, auction, *worker, *number, *given)? != *want {
+            return Ok(false);
+        }
+    }
+    Ok(true)
+}
+
+// An auction's end: how it ended, the number past its last query's, how many steps it took, and its total in cents.
+type End = (Ending, u64, usize, u64);
+
+// How the auction ends with these postings; nothing where one is told otherwise, or where it does not end.
+fn end(alloc: Global, sc: Scenario, book: &Book, cases: &[Case]) -> Result<Option<End>, NoMemory>
+    requires { IsOfAuction sc book.now }
+{
+    let mut auction = Auction::start(alloc, &sc, book)?;
+    if !are_told(alloc, &mut auction, cases)? || !auction.ended() {
+        return Ok(None);
+    }
+    let number = auction.number();
+    let record = auction.into_result(alloc, sc)?;
+    let steps = record.steps.as_slice().len();
+    Ok(Some((record.ending, number, steps, record.total)))
+}
+
+fn next(number: u64) -> Reply {
+    Reply::Advanced { next: Some(number) }
+}
+
+// The queries are of stations 1, 2 and 3 in round 1, and of 1 and 3 in round 2, where 3 is frozen at 60 cents.
+#[test]
+fn an_old_answer(rt: HostRuntime) -> Result<(), Fail> {
+    let alloc = rt.alloc();
+    let cases = [
+        (0, 1, Given::Fit(1, 14), next(2)),
+        (0, 2, Given::Fit(2, 14), next(3)),
+        (0, 3, Given::Fit(3, 15), next(4)),
+        (0, 3, Given::Fit(3, 15), Reply::WrongQuery { now: 4 }),
+        (0, 4, Given::Fit(1, 15), next(5)),
+        (0, 5, Given::Refuted, Reply::Advanced { next: None }),
+        (0, 6, Given::Refuted, Reply::Ended),
+        (9, 1, Given::Spent, Reply::Ended),
+    ];
+    let sc = three_bids(alloc, vec![in alloc; learner(1000)]?)?;
+    let end = end(alloc, sc, &three_stations(alloc)?, &cases)?;
+    assert_eq!(rt; end, Some((Ending::Done, 6, 5, 60)));
+    Ok(())
+}
+
+// Two workers of budget 1: the last test is settled once both have spent it.
+#[test]
+fn each_reply(rt: HostRuntime) -> Result<(), Fail> {
+    let alloc = rt.alloc();
+    let cases = [
+        (0, 9, Given::Fit(1, 14), Reply::WrongQuery { now: 1 }),
+        (2, 1, Given::Fit(1, 14), Reply::Stranger),
+        (
+            0,
+            1,
+            Given::Fit(2, 14),
+            Reply::Rejected {
+                place: Place::Station(1),
+            },
+        ),
+        (0, 1, Given::Fit(1, 14), next(2)),
+        (1, 2, Given::Fit(2, 14), next(3)),
+        (0, 3, Given::Fit(3, 15), next(4)),
+        (1, 4, Given::Fit(1, 15), next(5)),
+        (0, 5, Given::Spent, Reply::Noted),
+        (0, 5, Given::Spent, Reply::AlreadySpent),
+        (2, 5, Given::Spent, Reply::Stranger),
+        (1, 5, Given::Spent, Reply::Advanced { next: None }),
+        (1, 6, Given::Spent, Reply::Ended),
+    ];
+    let sc = three_bids(alloc, vec![in alloc; learner(1), learner(1)]?)?;
+    let end = end(alloc, sc, &three_stations(alloc)?, &cases)?;
+    assert_eq!(rt; end, Some((Ending::Done, 6, 5, 60)));
+    Ok(())
+}
+
+// How the auction ends whose stations all start on air, by one answer of a worker of this budget.
+fn start_end(alloc: Global, budget: u32, given: Given) -> Result<Option<End>, NoMemory>
+    requires some { 1 ≤ budget }
+    requires few { budget ≤ 1000 }
+{
+    let last = Reply::Advanced { next: None };
+    let sc = all_on_air(alloc, vec![in alloc; learner(budget)]?)?;
+    end(alloc, sc, &three_stations(alloc)?, &[(0, 1, given, last)])
+}
+
+#[test]
+fn refuted_start(rt: HostRuntime) -> Result<(), Fail> {
+    let refuted = start_end(rt.alloc(), 1000, Given::Refuted)?;
+    assert_eq!(rt; refuted, Some((Ending::StartRefuted, 2, 0, 0)));
+    Ok(())
+}
+
+#[test]
+fn undecided_start(rt: HostRuntime) -> Result<(), Fail> {
+    let spent = start_end(rt.alloc(), 1, Given::Spent)?;
+    assert_eq!(rt; spent, Some((Ending::StartUndecided, 2, 0, 0)));
+    Ok(())
+}
+
+// How the auction ends without a posting of one station without a channel, which has this value.
+fn lone_end(alloc: Global, value: u64) -> Result<Option<End>, NoMemory>
+    requires { value ≤ 1000 }
+{
+    let sc = one_round(alloc, vec![in alloc; bid(1, Some(value))]?)?;
+    end(alloc, sc, &book(alloc, &[1], &[], &[])?, &[])
+}
+
+// It starts on air, or it is asked.
+#[test]
+fn no_channel(rt: HostRuntime) -> Result<(), Fail> {
+    let start = lone_end(rt.alloc(), 101)?;
+    assert_eq!(rt; start, Some((Ending::StartRefuted, 1, 0, 0)));
+    let asked = lone_end(rt.alloc(), 5)?;
+    assert_eq!(rt; asked, Some((Ending::Done, 1, 1, 100)));
+    Ok(())
+}
+
+#[test]
+fn no_station(rt: HostRuntime) -> Result<(), Fail> {
+    let alloc = rt.alloc();
+    let sc = one_round(alloc, Vec::new(alloc))?;
+    let end = end(alloc, sc, &book(alloc, &[], &[], &[])?, &[])?;
+    assert_eq!(rt; end, Some((Ending::Done, 1, 0, 0)));
+    Ok(())
+}
+
+// The same bid of stations 1 to 5.
+fn five_bids(alloc: Global) -> Result<Scenario, NoMemory>
+    ensures limits { IfOk result IsWithinLimits }
+    ensures stations { IfOk result (λ sc. facilities sc ≡ 1 ∷ 2 ∷ 3 ∷ 4 ∷ 5 ∷ []) }
+{
+    let v = Some(5);
+    let bids = vec![in alloc; bid(1, v), bid(2, v), bid(3, v), bid(4, v), bid(5, v)]?;
+    one_round(alloc, bids)
+}
+
+// Of five stations the third alone has a channel: the tests before its query and behind it are settled in a row.
+#[test]
+fn settled_in_a_row(rt: HostRuntime) -> Result<(), Fail> {
+    let alloc = rt.alloc();
+    let sc = five_bids(alloc)?;
+    let one = book(alloc, &[1, 2, 3, 4, 5], &[on(alloc, 3, &[14])?], &[])?;
+    let last = Reply::Advanced { next: None };
+    let end = end(alloc, sc, &one, &[(0, 1, Given::Fit(3, 14), last)])?;
+    assert_eq!(rt; end, Some((Ending::Done, 2, 5, 400)));
+    Ok(())
+}
+
+// A receipt is noted for its worker alone, and let go once another's answer settles the query.
+#[test]
+fn a_noted_receipt(rt: HostRuntime) -> Result<(), Fail> {
+    let alloc = rt.alloc();
+    let sc = all_on_air(alloc, vec![in alloc; learner(1), learner(1000)]?)?;
+    let mut auction = Auction::start(alloc, &sc, &three_stations(alloc)?)?;
+    post(alloc, &mut auction, 0, 1, Given::Spent)?;
+    assert_eq!(rt;
+        (auction.noted(0), auction.noted(1), auction.noted(7)),
+        (true, false, false)
+    );
+    post(alloc, &mut auction, 1, 1, Given::Refuted)?;
+    assert_eq!(rt;
+        (auction.noted(0), auction.ended(), auction.posted()),
+        (false, true, 2)
+    );
+    Ok(())
+}
