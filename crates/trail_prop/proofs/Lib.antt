@@ -1,0 +1,4 @@
+pub mod Known
+pub mod Opening
+pub mod Forcing
+pub mod Trailing
