@@ -8,7 +8,7 @@ ghost use Rattle.trail_prop.specs.Entries.{lits_of, code_of};
 
 use crate::entry::Entry;
 use clause_db::lit::Lit;
-use std::alloc::{AllocError, Global};
+use std::alloc::{AllocError as NoMemory, Global};
 use std::marker::Model;
 
 /// The entries of a trail over variables 1 to `vars`, with room for one of each variable.
@@ -43,7 +43,7 @@ fn code(lit: Lit) -> usize
 
 impl Assignment {
     /// No entry.
-    pub fn new(alloc: Global, vars: u32) -> Result<Assignment, AllocError>
+    pub fn new(alloc: Global, vars: u32) -> Result<Assignment, NoMemory>
         ensures { IfOk result (λ a. a ≡ record { vars = vars; entries = [] }) }
     {
         let entries = Vec::with_capacity(alloc, vars as usize)?;

@@ -4,4 +4,10 @@
 pub mod assignment;
 pub mod entry;
 pub mod look;
+#[cfg(test)]
+mod random_tests;
+#[cfg(test)]
+mod samples;
+#[cfg(test)]
+mod tests;
 pub mod trail;

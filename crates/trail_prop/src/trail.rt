@@ -3,7 +3,7 @@
 ghost use Rattle.std.specs.Prelude.{ℕ, ◌≡◌, ◌+◌, ◌-◌, ◌<◌, ◌≤◌, ◌++◌, ◌∷◌, [], length, filter, IfOk, IfSome, IfNone, OnOk, OnErr, Some, None, true, false};
 ghost use Rattle.clause_db.specs.Clause.{clause_at};
 ghost use Rattle.clause_db.specs.Clauses.{LitWithin, ClausesWithin};
-ghost use Rattle.trail_prop.specs.Open.{LitsWithin, is_open, value_of, IsComplete};
+ghost use Rattle.trail_prop.specs.Open.{LitsWithin, value_of, IsComplete};
 ghost use Rattle.trail_prop.specs.Entries.{lits_of, level_of};
 ghost use Rattle.trail_prop.specs.Trails.{IsTrail, IsFalseAt, Grows, forced_at, is_up_to, AboveIs, IsCut};
 ghost use Rattle.trail_prop.specs.Passes.{PassIs};
@@ -13,7 +13,7 @@ use crate::entry::{Conflict, Entry};
 use crate::look::{Look, look_at};
 use clause_db::list::ClauseList;
 use clause_db::lit::Lit;
-use std::alloc::{AllocError, Global};
+use std::alloc::{AllocError as NoMemory, Global};
 use std::marker::Model;
 
 /// Clauses, and the literals that are true by decisions and by them, in order.
@@ -67,7 +67,7 @@ fn cut_above(assigned: &mut Assignment, level: u32)
 
 impl Trail {
     /// No entry yet.
-    pub fn new(alloc: Global, clauses: ClauseList) -> Result<Trail, AllocError>
+    pub fn new(alloc: Global, clauses: ClauseList) -> Result<Trail, NoMemory>
         requires { ClausesWithin clauses.vars clauses.list }
         ensures { IfOk result (λ t. t ≡ record { clauses = clauses; entries = [] }) }
     {
@@ -126,7 +126,7 @@ impl Trail {
     }
 
     /// Puts a clause after the last.
-    pub fn add(&mut self, clause: &[Lit]) -> Result<(), AllocError>
+    pub fn add(&mut self, clause: &[Lit]) -> Result<(), NoMemory>
         requires { LitsWithin self.old.clauses.vars clause.now }
         ensures added { OnOk result (self.new ≡ record { clauses = record { vars = self.old.clauses.vars; list = self.old.clauses.list ++ clause.now ∷ [] }; entries = self.old.entries }) }
         ensures unchanged { OnErr result (self.new ≡ self.old) }
@@ -138,7 +138,7 @@ impl Trail {
     /// Opens a level with an open literal.
     pub fn decide(&mut self, lit: Lit)
         requires within { LitWithin self.old.clauses.vars lit }
-        requires opens { is_open (lits_of self.old.entries) lit ≡ true }
+        requires opens { value_of (lits_of self.old.entries) lit.var ≡ None }
         ensures { self.new ≡ record { clauses = self.old.clauses; entries = self.old.entries ++ record { lit = lit; level = level_of self.old.entries + 1; reason = None } ∷ [] } }
     {
         self.level += 1;
@@ -185,7 +185,7 @@ impl Trail {
     }
 
     /// Puts every literal on the trail that a clause forces, until a clause is false or none forces any more.
-    pub fn propagate(&mut self) -> Result<Option<Conflict>, AllocError>
+    pub fn propagate(&mut self) -> Result<Option<Conflict>, NoMemory>
         ensures clauses { self.new.clauses ≡ self.old.clauses }
         ensures grows { Grows self.old.entries self.new.entries }
         ensures conflict { IfOk result (λ r. IfSome r (λ c. IsFalseAt (lits_of self.new.entries) (clause_at self.new.clauses.list c.clause))) }
@@ -209,36 +209,5 @@ impl Trail {
     {
         cut_above(&mut self.assigned, level);
         self.level = level;
-    }
-}
-
-#[cfg(test)]
-mod tests {
-    use super::*;
-    use std::test::Fail;
-
-    fn lit(var: u64, positive: bool) -> Lit
-        ensures { result ≡ record { var = var; positive = positive } }
-    {
-        Lit { var, positive }
-    }
-
-    #[test]
-    fn a_conflict_and_a_way_on(rt: HostRuntime) -> Result<(), Fail> {
-        let mut clauses = ClauseList::new(rt.alloc(), 2);
-        clauses.add(&[lit(1, false), lit(2, true)])?;
-        clauses.add(&[lit(1, false), lit(2, false)])?;
-        let mut trail = Trail::new(rt.alloc(), clauses)?;
-        trail.decide(lit(1, true));
-        let found = trail.propagate()?;
-        assert_eq!(rt; found, Some(Conflict { clause: 2 }));
-        assert_eq!(rt; trail.level(), 1);
-        trail.backjump(0);
-        trail.add(&[lit(1, false)])?;
-        assert_eq!(rt; trail.propagate()?, None);
-        assert_eq!(rt; trail.value(1), Some(false));
-        assert_eq!(rt; trail.value(2), None);
-        assert_eq!(rt; trail.value(9), None);
-        Ok(())
     }
 }
