@@ -109,8 +109,9 @@ pub(crate) fn shows(trail: &Trail, wanted: &[(i64, u32, u64)]) -> bool {
 // Each variable from 1 on implies the next, and so the last.
 pub(crate) fn chain(alloc: Global, length: u32) -> Result<Trail, NoMemory> {
     let mut trail = trail(alloc, length, &[])?;
-    for at in 1..length as i64 {
-        add(alloc, &mut trail, &[-at, at + 1])?;
+    for at in 1..length {
+        let var = at as i64;
+        add(alloc, &mut trail, &[-var, var + 1])?;
     }
     Ok(trail)
 }
