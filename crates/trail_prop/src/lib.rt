@@ -3,7 +3,10 @@
 
 pub mod assignment;
 pub mod entry;
+pub mod good;
 pub mod look;
+pub mod plain;
+pub mod propagate;
 #[cfg(test)]
 mod random_tests;
 #[cfg(test)]
@@ -11,3 +14,6 @@ mod samples;
 #[cfg(test)]
 mod tests;
 pub mod trail;
+pub mod turn;
+pub mod watches;
+pub mod watching;

@@ -8,8 +8,8 @@ use Rattle.trail_prop.specs.declared.entry.Entry.{Entry}
 use Rattle.trail_prop.specs.Entries.{lits_of, level_of, is_decision}
 use Rattle.trail_prop.specs.Trails.{Grows, TrailView}
 use Rattle.trail_prop.proofs.Trailing.{grows-trans, grows-push}
-use Rattle.trail_prop.proofs.trail.Trail.pass.Goals as goal
-use Rattle.trail_prop.proofs.trail.Trail.pass.Goals.{in-Forces, in-Settled}
+use Rattle.trail_prop.proofs.plain.PlainTrail.pass.Goals as goal
+use Rattle.trail_prop.proofs.plain.PlainTrail.pass.Goals.{in-Forces, in-Settled}
 
 pub returns-else-moved-clause-found : goal.returns-else-moved-clause-found
 returns-else-moved-clause-found c = λ k d h.

@@ -5,7 +5,7 @@ use Rattle.trail_prop.specs.Entries.{lits_of, Assigned}
 use Rattle.trail_prop.specs.Trails.{TrailHolds, TrailView}
 use Rattle.trail_prop.proofs.Opening.{none-opens}
 use Rattle.trail_prop.proofs.Trailing.{holds-after, decision-fits, few-levels}
-use Rattle.trail_prop.proofs.trail.Trail.decide.Goals as goal
+use Rattle.trail_prop.proofs.plain.PlainTrail.decide.Goals as goal
 
 pub overflow_add-self : goal.overflow_add-self
 overflow_add-self c =

@@ -4,7 +4,7 @@ use Rattle.clause_db.specs.Clauses.{Clauses, ClausesWithin}
 use Rattle.trail_prop.specs.Open.{LitsWithin}
 use Rattle.trail_prop.specs.Trails.{TrailView}
 use Rattle.trail_prop.proofs.Trailing.{fits-add}
-use Rattle.trail_prop.proofs.trail.Trail.add.Goals as goal
+use Rattle.trail_prop.proofs.plain.PlainTrail.add.Goals as goal
 
 pub invariant_of-self-2 : goal.invariant_of-self-2
 invariant_of-self-2 c =

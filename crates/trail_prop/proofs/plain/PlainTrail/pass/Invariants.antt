@@ -2,7 +2,7 @@ use Rattle.std.proofs.Common.{◌≡◌, ◌<◌, ◌≤◌, ℕ, true, false, l
 use Rattle.trail_prop.specs.Open.{IsSettled}
 use Rattle.trail_prop.specs.Entries.{lits_of}
 use Rattle.trail_prop.specs.Trails.{Grows}
-use Rattle.trail_prop.proofs.trail.Trail.pass.Given as goal
+use Rattle.trail_prop.proofs.plain.PlainTrail.pass.Given as goal
 
 abbrev pub invariant-loop-at : goal.invariant-loop-at
 invariant-loop-at l = record {

@@ -4,8 +4,8 @@ use Rattle.trail_prop.specs.Entries.{lits_of}
 use Rattle.trail_prop.specs.Trails.{TrailView}
 use Rattle.trail_prop.proofs.Opening.{no-value}
 use Rattle.trail_prop.proofs.Trailing.{fits-opens}
-use Rattle.trail_prop.proofs.trail.Trail.value.Goals as goal
-use Rattle.trail_prop.proofs.trail.Trail.value.Goals.{then-var-eq0-via-then-var-eq0, then-var-eq0-via-else-var-eq0+then-var-vars}
+use Rattle.trail_prop.proofs.plain.PlainTrail.value.Goals as goal
+use Rattle.trail_prop.proofs.plain.PlainTrail.value.Goals.{then-var-eq0-via-then-var-eq0, then-var-eq0-via-else-var-eq0+then-var-vars}
 
 pub returns-then-var-eq0 : goal.returns-then-var-eq0
 returns-then-var-eq0 c =
