@@ -4,3 +4,6 @@ pub mod Forcing
 pub mod Trailing
 pub mod Places
 pub mod WatchLists
+pub mod Safety
+pub mod Finding
+pub mod Counting

@@ -2,7 +2,7 @@
 use Rattle.std.specs.Prelude.{ℕ, ◌≡◌, ◌≢◌, ◌+◌, ◌-◌, ◌*◌, ◌/◌, ◌%◌, ◌^◌, ◌<◌, ◌≤◌, ◌==◌, ◌⊎◌, true, false, List, [], ◌∷◌, length, count_by, slice_index_or}
 use Rattle.std.specs.List.{All}
 use Rattle.clause_db.specs.declared.lit.Lit.{Lit}
-use Rattle.clause_db.specs.Clause.{opposite, has_lit, pos_lit}
+use Rattle.clause_db.specs.Clause.{opposite, has_lit, neg_lit}
 use Rattle.clause_db.specs.Clauses.{LitWithin}
 use Rattle.trail_prop.specs.declared.entry.Entry.{Entry}
 use Rattle.trail_prop.specs.declared.turn.Places.{Places}
@@ -16,7 +16,7 @@ lit_of c = record { var = c / 2 + 1; positive = c % 2 == 0 }
 
 -- the literal, the clause, the watches and the watched places at a place from 0
 abbrev pub lit_at : List Lit → ℕ → Lit
-lit_at clause i = slice_index_or clause i (pos_lit 0)
+lit_at clause i = slice_index_or clause i (neg_lit 0)
 
 abbrev pub clause_of : List (List Lit) → ℕ → List Lit
 clause_of list k = slice_index_or list k []
