@@ -30,14 +30,14 @@ count-removed p xs i d l h =
 
 -- what stands in a list has what all of it have
 pub found : {X : Type 0} (p : X → Bool) (P : X → Type 0) (xs : List X) → 0 < count_by p xs → All P xs → (x : X) × (p x ≡ true) × P x
-found p P [] h a = absurd (omega arith)
-found p P (x ∷ xs) h a = go (p x) refl
+found {X} p P [] h a = absurd (omega arith)
+found {X} p P (x ∷ xs) h a = go (p x) refl (found p P xs)
   where
-    go : (b : Bool) → p x ≡ b → (y : X) × (p y ≡ true) × P y
-    go true e = (x, e, All-head P x xs a)
-    go false e =
+    go : (b : Bool) → p x ≡ b → (0 < count_by p xs → All P xs → (y : X) × (p y ≡ true) × P y) → (y : X) × (p y ≡ true) × P y
+    go true e f = (x, e, All-head P x xs a)
+    go false e f =
         let none : one_if p x ≡ 0 = ap (λ (b : Bool). cond {A = ℕ} b 1 0) e in
-        found p P xs (omega (arith, h, sum_by-cons (one_if p) x xs, none)) (All-tail P x xs a)
+        f (omega (arith, h, sum_by-cons (one_if p) x xs, none)) (All-tail P x xs a)
 
 pub all-removed : {X : Type 0} (P : X → Type 0) (xs : List X) (i : ℕ) (d : X) → i < length xs → All P xs → All P (swap_remove xs i d)
 all-removed P xs i d l a = All-take P (length xs - 1) (slice_set xs i (get_or xs (length xs - 1) d)) (All-set P xs i (get_or xs (length xs - 1) d) (All-get_or P xs (length xs - 1) d (omega arith) a) a)

@@ -7,3 +7,5 @@ pub mod WatchLists
 pub mod Safety
 pub mod Finding
 pub mod Counting
+pub mod Minding
+pub mod Settling

@@ -233,7 +233,8 @@ impl Watching {
         ensures hung { OnOk result (self.new ≡ relisted self.old lit (watches_at self.old.lists lit ++ watch ∷ [])) }
         ensures unchanged { OnErr result (self.new ≡ self.old) }
     {
-        self.watches.push(code(lit), watch)
+        self.watches.push(code(lit), watch)?;
+        Ok(())
     }
 
     /// Has the clause of a watch wait for a look, and takes the watch away.
@@ -260,6 +261,8 @@ impl Watching {
         requires watch { (d : Watch) → (slice_index_or (watches_at self.old.lists gone) at d).clause ≡ number }
         requires gone { has_lit (lits_of self.old.trail.entries) (opposite gone) ≡ true }
         requires moved { IsMove (lits_of self.old.trail.entries) (clause_of self.old.trail.clauses.list (number - 1)) (places_of self.old.places (number - 1)) gone moved }
+        requires lit { LitWithin self.old.trail.clauses.vars moved.lit }
+        requires other { LitWithin self.old.trail.clauses.vars moved.other }
         requires hung { 0 < watches_of number (watches_at self.old.lists moved.lit) }
         ensures { Shrinks self.old self.new gone at }
     {
