@@ -9,3 +9,4 @@ pub mod Finding
 pub mod Counting
 pub mod Minding
 pub mod Settling
+pub mod Meeting

@@ -12,7 +12,7 @@ use Rattle.trail_prop.specs.declared.turn.Moved.{Moved}
 use Rattle.trail_prop.specs.declared.turn.Places.{Places}
 use Rattle.trail_prop.specs.declared.watches.Watch.{Watch}
 use Rattle.trail_prop.specs.Entries.{code_of, lits_of, EachOpens, IsEntry}
-use Rattle.trail_prop.specs.Open.{IsSettled, IsComplete}
+use Rattle.trail_prop.specs.Open.{LitsWithin, IsSettled, IsComplete}
 use Rattle.trail_prop.specs.Steps.{onto, relisted, IsHeld}
 use Rattle.trail_prop.specs.Trails.{TrailView}
 use Rattle.trail_prop.specs.Turn.{IsMove, IsOneOf}
@@ -58,6 +58,7 @@ minds-more es head lists lists' pending pending' k clause p p' w f e m = elim m 
 pub watchful-grown : (v : WatchView) (more : List Entry) → IsWatchful v → IsWatchful (onto v (record { clauses = v.trail.clauses; entries = v.trail.entries ++ more }))
 watchful-grown v more h = record {
   small = h.small;
+  within = h.within;
   head = omega (arith, length-append v.trail.entries more, h.head);
   sized = h.sized;
   listed = h.listed;
@@ -69,6 +70,7 @@ watchful-grown v more h = record {
 pub watchful-cut : (v : WatchView) (later gone : List Entry) (level now : ℕ) → IsWatchful v → v.trail.entries ≡ later ++ gone → All (λ (e : Entry). e.level ≤ level) later → All (λ (e : Entry). level < e.level) gone → now ≤ v.head → now ≤ length later → IsWatchful (record { trail = record { clauses = v.trail.clauses; entries = later }; lists = v.lists; places = v.places; pending = v.pending; head = now })
 watchful-cut v later gone level now h e low high m n = record {
   small = h.small;
+  within = h.within;
   head = n;
   sized = h.sized;
   listed = h.listed;
@@ -93,13 +95,14 @@ fits-longer list clause l w f =
       pairs = rw same f.pairs;
     }
 
-pub watchful-added : (v : WatchView) (clause : List Lit) (p : Places) (n : ℕ) → IsWatchful v → n ≡ length v.trail.clauses.list + 1 → IsWatchful (record { trail = record { clauses = record { vars = v.trail.clauses.vars; list = v.trail.clauses.list ++ clause ∷ [] }; entries = v.trail.entries }; lists = v.lists; places = v.places ++ p ∷ []; pending = v.pending ++ n ∷ []; head = v.head })
-watchful-added v clause p n h e =
+pub watchful-added : (v : WatchView) (clause : List Lit) (p : Places) (n : ℕ) → IsWatchful v → LitsWithin v.trail.clauses.vars clause → n ≡ length v.trail.clauses.list + 1 → IsWatchful (record { trail = record { clauses = record { vars = v.trail.clauses.vars; list = v.trail.clauses.list ++ clause ∷ [] }; entries = v.trail.entries }; lists = v.lists; places = v.places ++ p ∷ []; pending = v.pending ++ n ∷ []; head = v.head })
+watchful-added v clause p n h x e =
     let list = v.trail.clauses.list in
     let longer = length-append list (clause ∷ []) in
     let more : AreNumbers (length (list ++ clause ∷ [])) v.pending = All-weaker (λ (m : ℕ). (1 ≤ m) × (m ≤ length list)) (λ (m : ℕ). (1 ≤ m) × (m ≤ length (list ++ clause ∷ []))) (λ m b. let t = b.1 in (b.0, omega arith)) v.pending h.numbers in
     record {
       small = h.small;
+  within = All-push (λ (c : List Lit). All (LitWithin v.trail.clauses.vars) c) v.trail.clauses.list clause h.within x;
       head = h.head;
       sized = omega (arith, longer, length-append v.places (p ∷ []), h.sized);
       listed = h.listed;
@@ -152,6 +155,7 @@ watchful-relisted v l ws h w a more =
     let b = code-listed v l h w in
     record {
       small = h.small;
+  within = h.within;
       head = h.head;
       sized = h.sized;
       listed = length-set v.lists (code_of l) ws ∙ h.listed;
@@ -181,6 +185,7 @@ watchful-shelved v gone at n d h w one last b e =
     let ws = watches_at v.lists gone in
     record {
       small = h.small;
+  within = h.within;
       head = h.head;
       sized = h.sized;
       listed = length-set v.lists (code_of gone) (swap_remove ws at d) ∙ h.listed;

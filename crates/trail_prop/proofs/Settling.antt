@@ -7,7 +7,7 @@ use Rattle.std.proofs.lemmas.List.{get_or_default, get_or-set_same, get_or-set_o
 use Rattle.std.proofs.lemmas.List.Elements.{All-nil, All-push, All-weaker}
 use Rattle.clause_db.specs.declared.lit.Lit.{Lit}
 use Rattle.clause_db.specs.Clause.{opposite, has_lit}
-use Rattle.clause_db.specs.Clauses.{Clauses, LitWithin}
+use Rattle.clause_db.specs.Clauses.{Clauses, LitWithin, ClausesWithin}
 use Rattle.trail_prop.specs.declared.entry.Entry.{Entry}
 use Rattle.trail_prop.specs.declared.turn.Moved.{Moved}
 use Rattle.trail_prop.specs.declared.turn.Places.{Places}
@@ -77,6 +77,7 @@ watchful-left v gone at n d m h w wl wo one last b e f mv hung =
     let es = v.trail.entries in
     record {
       small = h.small;
+  within = h.within;
       head = h.head;
       sized = length-set v.places (n - 1) m.places ∙ h.sized;
       listed = length-set v.lists (code_of gone) ws' ∙ h.listed;
@@ -106,6 +107,7 @@ others-wait pending at k d b o =
 pub watchful-forgot : (v : WatchView) (at d : ℕ) → IsWatchful v → at < length v.pending → IsFixed v.trail.entries (clause_of v.trail.clauses.list (get_or v.pending at d - 1)) → IsWatchful (record { trail = v.trail; lists = v.lists; places = v.places; pending = swap_remove v.pending at d; head = v.head })
 watchful-forgot v at d h b f = record {
   small = h.small;
+  within = h.within;
   head = h.head;
   sized = h.sized;
   listed = h.listed;
@@ -122,6 +124,7 @@ watchful-forgot v at d h b f = record {
 pub watchful-settled : (v : WatchView) (at n d : ℕ) (p : Places) → IsWatchful v → at < length v.pending → get_or v.pending at d ≡ n → 1 ≤ n → n ≤ length v.trail.clauses.list → IsWatched v.trail.entries v.head v.lists n (clause_of v.trail.clauses.list (n - 1)) p → IsWatchful (record { trail = v.trail; lists = v.lists; places = slice_set v.places (n - 1) p; pending = swap_remove v.pending at d; head = v.head })
 watchful-settled v at n d p h b e one last w = record {
   small = h.small;
+  within = h.within;
   head = h.head;
   sized = length-set v.places (n - 1) p ∙ h.sized;
   listed = h.listed;
@@ -162,6 +165,7 @@ watchful-advanced v gone level h s low a =
     omega arith in
     record {
       small = h.small;
+  within = h.within;
       head = omega arith;
       sized = h.sized;
       listed = h.listed;
@@ -207,9 +211,10 @@ watchful-complete v h o last a = λ k d b.
     ] in
     subst (λ (z : List Lit). IsSettled known z) (get_or_default v.trail.clauses.list k [] d b) settled
 
-pub watchful-new : (clauses : Clauses) (lists : List (List Watch)) (places : List Places) (pending : List ℕ) → clauses.vars < 2 ^ 32 → lists ≡ replicate (2 * clauses.vars) [] → length lists ≡ 2 * clauses.vars → length places ≡ length clauses.list → AllWait (length clauses.list) pending → IsWatchful (record { trail = record { clauses = clauses; entries = [] }; lists = lists; places = places; pending = pending; head = 0 })
-watchful-new clauses lists places pending small e n p w = record {
+pub watchful-new : (clauses : Clauses) (lists : List (List Watch)) (places : List Places) (pending : List ℕ) → clauses.vars < 2 ^ 32 → ClausesWithin clauses.vars clauses.list → lists ≡ replicate (2 * clauses.vars) [] → length lists ≡ 2 * clauses.vars → length places ≡ length clauses.list → AllWait (length clauses.list) pending → IsWatchful (record { trail = record { clauses = clauses; entries = [] }; lists = lists; places = places; pending = pending; head = 0 })
+watchful-new clauses lists places pending small x e n p w = record {
   small = small;
+  within = x;
   head = omega arith;
   sized = p;
   listed = n;

@@ -3,7 +3,7 @@ use Rattle.std.specs.Prelude.{ℕ, ◌≡◌, ◌≢◌, ◌+◌, ◌-◌, ◌*�
 use Rattle.std.specs.List.{All}
 use Rattle.clause_db.specs.declared.lit.Lit.{Lit}
 use Rattle.clause_db.specs.Clause.{opposite, has_lit, neg_lit}
-use Rattle.clause_db.specs.Clauses.{LitWithin}
+use Rattle.clause_db.specs.Clauses.{LitWithin, ClausesWithin}
 use Rattle.trail_prop.specs.declared.entry.Entry.{Entry}
 use Rattle.trail_prop.specs.declared.turn.Places.{Places}
 use Rattle.trail_prop.specs.declared.watches.Watch.{Watch}
@@ -98,6 +98,7 @@ AllWait count pending = AreNumbers count pending × ((k : ℕ) → k < count →
 
 pub record IsWatchful (v : WatchView) : Type 0 where
   pub small : v.trail.clauses.vars < 2 ^ 32
+  pub within : ClausesWithin v.trail.clauses.vars v.trail.clauses.list
   pub head : v.head ≤ length v.trail.entries
   pub sized : length v.places ≡ length v.trail.clauses.list
   pub listed : length v.lists ≡ 2 * v.trail.clauses.vars

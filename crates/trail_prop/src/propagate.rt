@@ -9,7 +9,7 @@ ghost use Rattle.trail_prop.specs.Open.{IsComplete};
 ghost use Rattle.trail_prop.specs.Trails.{IsFalseAt, Grows};
 ghost use Rattle.trail_prop.specs.Turn.{IsMove, LeavesOnly};
 ghost use Rattle.trail_prop.specs.Good.{AreGood};
-ghost use Rattle.trail_prop.specs.Watching.{WatchFits, watches_at, clause_of, places_of, StandsAt};
+ghost use Rattle.trail_prop.specs.Watching.{IsWatchful, WatchFits, watches_at, clause_of, places_of, StandsAt};
 ghost use Rattle.trail_prop.specs.Steps.{AreHeld, MetIs, StepIs};
 
 use crate::entry::Conflict;
@@ -173,6 +173,7 @@ fn meet_long(watching: &mut Watching, gone: Lit, at: usize, watch: Watch) -> Res
 fn keep_on(watching: &mut Watching, gone: Lit, at: usize, watch: Watch, other: Lit) -> Met
     requires within { LitWithin watching.old.trail.clauses.vars gone }
     requires other { LitWithin watching.old.trail.clauses.vars other }
+    requires watchful { IsWatchful watching.old }
     requires place { at < length (watches_at watching.old.lists gone) }
     requires watch { watch ≡ slice_index_or (watches_at watching.old.lists gone) at watch }
     requires fits { WatchFits watching.old.trail.clauses.list gone watch }
@@ -199,6 +200,9 @@ fn rewatch(
     moved: Moved,
 ) -> Result<Met, NoMemory>
     requires within { LitWithin watching.old.trail.clauses.vars gone }
+    requires watchful { IsWatchful watching.old }
+    requires lit { LitWithin watching.old.trail.clauses.vars moved.lit }
+    requires other { LitWithin watching.old.trail.clauses.vars moved.other }
     requires place { at < length (watches_at watching.old.lists gone) }
     requires watch { watch ≡ slice_index_or (watches_at watching.old.lists gone) at watch }
     requires fits { WatchFits watching.old.trail.clauses.list gone watch }
@@ -235,20 +239,21 @@ fn look_again(watching: &mut Watching) -> Pass
     ensures grows { Grows watching.old.trail.entries watching.new.trail.entries }
     ensures step { StepIs watching.old watching.new result }
 {
-    let mut moved = false;
+    let before = watching.plain().entries().len();
     for at in 0..watching.pending() {
         let number = watching.waiting(at);
         let plain = watching.plain();
         match look_at(plain.assigned(), plain.clauses().get(number)) {
             Look::False => return Pass::Found(Conflict { clause: number }),
-            Look::Forces(lit) => {
-                watching.force(lit, number);
-                moved = true;
-            }
+            Look::Forces(lit) => watching.force(lit, number),
             Look::Settled => {}
         }
     }
-    if moved { Pass::Moved } else { Pass::Quiet }
+    if watching.plain().entries().len() > before {
+        Pass::Moved
+    } else {
+        Pass::Quiet
+    }
 }
 
 // Has each clause that waits and can be watched watch two literals, and forgets each that is true for good.

@@ -16,4 +16,4 @@ invariant_of-result c =
     let n : length lists ≡ 2 * clauses.vars = ap (λ (z : List (List Watch)). length z) e ∙ length-replicate (2 * clauses.vars) [] in
     let p : length c.in_ok-places.places.items ≡ length clauses.list = c.in_ok-places.ensures ∙ c.len-count.ensures in
     let w : AllWait (length clauses.list) c.in_ok-pending.pending.items = subst (λ (k : ℕ). AllWait k c.in_ok-pending.pending.items) c.len-count.ensures c.in_ok-pending.ensures in
-    subst (λ (t : TrailView). IsWatchful (record { trail = t; lists = lists; places = c.in_ok-places.places.items; pending = c.in_ok-pending.pending.items; head = 0 })) (sym c.in_ok-plain.ensures) (watchful-new clauses lists c.in_ok-places.places.items c.in_ok-pending.pending.items (omega arith) e n p w)
+    subst (λ (t : TrailView). IsWatchful (record { trail = t; lists = lists; places = c.in_ok-places.places.items; pending = c.in_ok-pending.pending.items; head = 0 })) (sym c.in_ok-plain.ensures) (watchful-new clauses lists c.in_ok-places.places.items c.in_ok-pending.pending.items (omega arith) c.requires e n p w)
