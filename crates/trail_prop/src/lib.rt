@@ -17,3 +17,4 @@ pub mod trail;
 pub mod turn;
 pub mod watches;
 pub mod watching;
+pub mod within;
