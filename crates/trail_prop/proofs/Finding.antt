@@ -1,11 +1,10 @@
 -- Where no third place is found, the clause has no literal but the other watched one that is not false.
-use Rattle.std.proofs.Common.{◌≡◌, ◌≢◌, ℕ, zero, suc, ◌<◌, true, false, not, cond, List, [], ◌∷◌, Some, None, length, get_or, refl, sym, ap, ◌∙◌, subst, inl, inr, ◌⊎◌, arith}
+use Rattle.std.proofs.Common.{◌≡◌, ◌≢◌, ℕ, zero, suc, ◌<◌, true, not, cond, List, [], ◌∷◌, Some, None, length, refl, sym, ap, ◌∙◌, subst, inl, inr, ◌⊎◌, arith}
 use Rattle.std.proofs.lemmas.Bool.{cond-false, or_left, or_right}
 use Rattle.clause_db.specs.declared.lit.Lit.{Lit}
 use Rattle.clause_db.specs.Clause.{opposite, has_lit, same_lit}
-use Rattle.clause_db.specs.Forced.{is_false_clause, not_false, only_open, forced_by}
+use Rattle.clause_db.specs.Forced.{not_false, only_open}
 use Rattle.trail_prop.specs.Find.{FindIs}
-use Rattle.trail_prop.specs.Open.{is_open}
 use Rattle.trail_prop.specs.Turn.{LeavesOnly}
 use Rattle.trail_prop.specs.Watching.{lit_at}
 use Rattle.trail_prop.proofs.Known.{open-parts, same_lit-refl}
@@ -52,8 +51,8 @@ leaves-from known clause b l e = record {
   has = has-at clause b l;
   fails = λ h. false-from-none known clause (e ∙ dropped known [] (lit_at clause b) h);
   forces = λ o.
-    let parts = open-parts known (lit_at clause b) o in
-    ap (λ (z : List Lit). only_open known z) (e ∙ kept-here known [] (lit_at clause b) parts.1) ∙ cond-false (has_lit known (lit_at clause b)) None (Some (lit_at clause b)) parts.0;
+      let parts = open-parts known (lit_at clause b) o in
+      ap (λ (z : List Lit). only_open known z) (e ∙ kept-here known [] (lit_at clause b) parts.1) ∙ cond-false (has_lit known (lit_at clause b)) None (Some (lit_at clause b)) parts.0;
 }
 
 pub found-none : (known clause : List Lit) (a b : ℕ) → FindIs known clause a b None → b < length clause → has_lit known (opposite (lit_at clause a)) ≡ true → LeavesOnly known clause (lit_at clause b)

@@ -1,11 +1,11 @@
 -- What is kept while the watches of a literal that became false are met one by one.
-use Rattle.std.proofs.Common.{◌≡◌, ◌≢◌, ℕ, zero, suc, ◌+◌, ◌-◌, ◌<◌, ◌≤◌, Bool, true, false, not, ◌==◌, List, [], ◌∷◌, ◌++◌, Some, length, get_or, take, refl, sym, ap, ◌∙◌, subst, inl, inr, ◌⊎◌, arith, length-set, length-append, append-nil, eq-eqb}
+use Rattle.std.proofs.Common.{◌≡◌, ◌≢◌, ℕ, zero, suc, ◌+◌, ◌-◌, ◌<◌, ◌≤◌, true, false, not, ◌==◌, List, [], ◌∷◌, ◌++◌, Some, length, get_or, take, refl, sym, ap, ◌∙◌, subst, inl, inr, arith, length-set, length-append, append-nil, eq-eqb}
 use Rattle.std.specs.Prelude.{slice_set}
 use Rattle.std.specs.List.{All}
 use Rattle.std.proofs.lemmas.Bool.{or_cases, and_from, false≢true}
 use Rattle.std.proofs.lemmas.Grind.{common_steps}
 use Rattle.std.proofs.lemmas.List.{take_more_set, get_or_default, get_or-set_same}
-use Rattle.std.proofs.lemmas.List.Elements.{All-more, All-push, All-weaker, All-head, All-tail, All-get_or}
+use Rattle.std.proofs.lemmas.List.Elements.{All-more, All-push, All-weaker, All-head, All-tail}
 use Rattle.clause_db.specs.declared.lit.Lit.{Lit}
 use Rattle.clause_db.specs.Clause.{opposite, has_lit, same_lit, clause_at}
 use Rattle.clause_db.specs.Clauses.{LitWithin}
@@ -19,7 +19,7 @@ use Rattle.trail_prop.specs.Open.{LitsWithin, is_open}
 use Rattle.trail_prop.specs.Steps.{onto, relisted, IsHeld, AreHeld, Shrinks}
 use Rattle.trail_prop.specs.Trails.{TrailView, Grows}
 use Rattle.trail_prop.specs.Turn.{IsMove, LeavesOnly}
-use Rattle.trail_prop.specs.Watching.{lit_at, clause_of, watches_at, IsSafe, StandsAt, HasTrue, IsFixed, watches_of, IsGuarded, IsWatched, IsPair, WatchView}
+use Rattle.trail_prop.specs.Watching.{lit_at, clause_of, watches_at, IsSafe, StandsAt, HasTrue, IsFixed, watches_of, IsWatched, IsPair, WatchView}
 use Rattle.trail_prop.proofs.Counting.{count-push, count-pushed}
 use Rattle.trail_prop.proofs.Finding.{pair-leaves, pair-leaves-first}
 use Rattle.trail_prop.proofs.Known.{code-is, same_lit-is}
@@ -91,11 +91,6 @@ length-put v gone at w c =
     let ws = watches_at v.lists gone in
     ap (λ (z : List Watch). length z) (relisted-same v.lists gone (slice_set ws at w) c) ∙ length-set ws at w
 
-pub at-put : (v : WatchView) (gone : Lit) (at : ℕ) (w : Watch) → code_of gone < length v.lists → at < length (watches_at v.lists gone) → w ≡ get_or (watches_at (relisted v gone (slice_set (watches_at v.lists gone) at w)).lists gone) at w
-at-put v gone at w c b =
-    let ws = watches_at v.lists gone in
-    sym (ap (λ (z : List Watch). get_or z at w) (relisted-same v.lists gone (slice_set ws at w) c) ∙ get_or-set_same ws at w w b)
-
 -- it is taken away
 pub held-shrunk : (old new : WatchView) (gone : Lit) (at : ℕ) → Shrinks old new gone at → AreHeld old gone at → AreHeld new gone at
 held-shrunk old new gone at s a =
@@ -117,13 +112,6 @@ pub hung-new : (v h : WatchView) (l : Lit) (w : Watch) (n : ℕ) → code_of l <
 hung-new v h l w n c e s =
     let there : watches_at h.lists l ≡ watches_at v.lists l ++ w ∷ [] = ap (λ (x : WatchView). watches_at x.lists l) e ∙ relisted-same v.lists l (watches_at v.lists l ++ w ∷ []) c in
     subst (λ (z : List Watch). 0 < watches_of n z) (sym there) (count-pushed (λ (y : Watch). y.clause == n) (watches_at v.lists l) w (eq-eqb w.clause n s))
-
--- a clause of two literals has only one left
-pub pair-only : (known clause : List Lit) (gone l : Lit) → has_lit known (opposite gone) ≡ true → IsPair clause gone l → LeavesOnly known clause l
-pair-only known clause gone l f p = elim p [
-  | inl e ↦ subst (λ (c : List Lit). LeavesOnly known c l) (sym e) (pair-leaves known gone l f)
-  | inr e ↦ subst (λ (c : List Lit). LeavesOnly known c l) (sym e) (pair-leaves-first known gone l f)
-]
 
 -- at level 0 a clause with a true literal is true for good
 pub fixed-first : (es : List Entry) (clause : List Lit) (level : ℕ) → level ≡ 0 → All (λ (e : Entry). e.level ≤ level) es → HasTrue (lits_of es) clause → IsFixed es clause
@@ -160,13 +148,3 @@ stands-grows es later head gone g s =
 
 pub stands-false : (es : List Entry) (head level : ℕ) (gone : Lit) → StandsAt es head level gone → has_lit (lits_of es) (opposite gone) ≡ true
 stands-false es head level gone s = ap (λ (l : Lit). has_lit (lits_of es) l) (sym s.2) ∙ entry-known es head s.0 s.1
-
--- a trail that grew by nothing is the same
-pub grows-by-none : (es later : List Entry) → Grows es later → length later ≡ length es → later ≡ es
-grows-by-none es later g n =
-    let long = ap (λ (z : List Entry). length z) g.follows ∙ length-append es g.more in
-    g.follows ∙ none g.more (omega arith)
-  where
-    none : (more : List Entry) → length more ≡ 0 → es ++ more ≡ es
-    none [] e = append-nil es
-    none (x ∷ xs) e = absurd (omega arith)

@@ -1,25 +1,21 @@
 -- What each change of the watched clauses keeps.
-use Rattle.std.proofs.Common.{◌≡◌, ◌≢◌, ℕ, ◌+◌, ◌-◌, ◌*◌, ◌<◌, ◌≤◌, Bool, true, false, not, ◌==◌, List, [], ◌∷◌, ◌++◌, length, get_or, take, refl, sym, ap, ◌∙◌, subst, inl, inr, ◌⊎◌, arith, length-append, length-set, eqb-true, eq-eqb}
+use Rattle.std.proofs.Common.{◌≡◌, ◌≢◌, ℕ, ◌+◌, ◌-◌, ◌<◌, ◌≤◌, false, ◌==◌, List, [], ◌∷◌, ◌++◌, length, get_or, refl, sym, ap, ◌∙◌, subst, inl, inr, ◌⊎◌, arith, length-append, length-set, eq-eqb}
 use Rattle.std.specs.Prelude.{slice_set, swap_remove}
 use Rattle.std.specs.List.{All}
-use Rattle.std.proofs.lemmas.List.{get_or_append_left, get_or_default, get_or-set_same, get_or-set_other}
-use Rattle.std.proofs.lemmas.List.Elements.{All-push, All-set, All-nil, All-weaker}
+use Rattle.std.proofs.lemmas.List.{get_or_append_left, get_or-set_same, get_or-set_other}
+use Rattle.std.proofs.lemmas.List.Elements.{All-push, All-set, All-weaker}
 use Rattle.clause_db.specs.declared.lit.Lit.{Lit}
-use Rattle.clause_db.specs.Clause.{opposite, has_lit}
-use Rattle.clause_db.specs.Clauses.{Clauses, LitWithin}
+use Rattle.clause_db.specs.Clauses.{LitWithin}
 use Rattle.trail_prop.specs.declared.entry.Entry.{Entry}
-use Rattle.trail_prop.specs.declared.turn.Moved.{Moved}
 use Rattle.trail_prop.specs.declared.turn.Places.{Places}
 use Rattle.trail_prop.specs.declared.watches.Watch.{Watch}
-use Rattle.trail_prop.specs.Entries.{code_of, lits_of, EachOpens, IsEntry}
-use Rattle.trail_prop.specs.Open.{LitsWithin, IsSettled, IsComplete}
-use Rattle.trail_prop.specs.Steps.{onto, relisted, IsHeld}
-use Rattle.trail_prop.specs.Trails.{TrailView}
-use Rattle.trail_prop.specs.Turn.{IsMove, IsOneOf}
-use Rattle.trail_prop.specs.Watching.{lit_at, clause_of, watches_at, places_of, StandsAt, HasTrue, IsFixed, IsSafe, watches_of, IsGuarded, IsWatched, WatchFits, WatchView, waits, IsMinded, AreNumbers, AllWait, IsWatchful}
-use Rattle.trail_prop.proofs.Counting.{count-push, count-pushed, count-set, count-removed, found, all-removed, not-same}
+use Rattle.trail_prop.specs.Entries.{code_of}
+use Rattle.trail_prop.specs.Open.{LitsWithin}
+use Rattle.trail_prop.specs.Steps.{onto, relisted}
+use Rattle.trail_prop.specs.Watching.{lit_at, clause_of, watches_at, places_of, IsFixed, IsSafe, watches_of, IsGuarded, IsWatched, WatchFits, WatchView, waits, AreNumbers, IsWatchful}
+use Rattle.trail_prop.proofs.Counting.{count-push, count-pushed, count-set, count-removed, all-removed, not-same}
 use Rattle.trail_prop.proofs.Known.{code-is, code-below}
-use Rattle.trail_prop.proofs.Safety.{safe-grows, fixed-grows, safe-cut, fixed-cut, safe-open, safe-step, safe-other, opposite-twice, true-settled, fixed-true, watched-settled}
+use Rattle.trail_prop.proofs.Safety.{safe-grows, fixed-grows, safe-cut, fixed-cut}
 
 pub same-or-not : (m n : ℕ) → (m ≡ n) ⊎ (m ≢ n)
 same-or-not m n = grind arith
@@ -102,7 +98,7 @@ watchful-added v clause p n h x e =
     let more : AreNumbers (length (list ++ clause ∷ [])) v.pending = All-weaker (λ (m : ℕ). (1 ≤ m) × (m ≤ length list)) (λ (m : ℕ). (1 ≤ m) × (m ≤ length (list ++ clause ∷ []))) (λ m b. let t = b.1 in (b.0, omega arith)) v.pending h.numbers in
     record {
       small = h.small;
-  within = All-push (λ (c : List Lit). All (LitWithin v.trail.clauses.vars) c) v.trail.clauses.list clause h.within x;
+      within = All-push (λ (c : List Lit). All (LitWithin v.trail.clauses.vars) c) v.trail.clauses.list clause h.within x;
       head = h.head;
       sized = omega (arith, longer, length-append v.places (p ∷ []), h.sized);
       listed = h.listed;
@@ -155,7 +151,7 @@ watchful-relisted v l ws h w a more =
     let b = code-listed v l h w in
     record {
       small = h.small;
-  within = h.within;
+      within = h.within;
       head = h.head;
       sized = h.sized;
       listed = length-set v.lists (code_of l) ws ∙ h.listed;
@@ -185,7 +181,7 @@ watchful-shelved v gone at n d h w one last b e =
     let ws = watches_at v.lists gone in
     record {
       small = h.small;
-  within = h.within;
+      within = h.within;
       head = h.head;
       sized = h.sized;
       listed = length-set v.lists (code_of gone) (swap_remove ws at d) ∙ h.listed;

@@ -2,7 +2,7 @@
 -- two is settled once all are.
 use Rattle.std.proofs.Common.{◌≡◌, ◌≢◌, ℕ, ◌+◌, ◌-◌, ◌<◌, ◌≤◌, Bool, true, false, not, List, [], ◌∷◌, ◌++◌, None, length, get_or, take, drop, refl, sym, ap, ◌∙◌, subst, inl, inr, ◌⊎◌, arith, length-drop, get_or-drop, append_assoc}
 use Rattle.std.specs.List.{All}
-use Rattle.std.proofs.lemmas.Bool.{or_cases, or_left, or_right, false≢true, false_from_ne_true}
+use Rattle.std.proofs.lemmas.Bool.{or_cases, false≢true, false_from_ne_true}
 use Rattle.std.proofs.lemmas.List.Elements.{filter-append}
 use Rattle.clause_db.specs.declared.lit.Lit.{Lit}
 use Rattle.clause_db.specs.Clause.{opposite, has_lit, same_lit, neg_lit}
@@ -12,7 +12,7 @@ use Rattle.trail_prop.specs.Good.{IsLateFalse, IsGood}
 use Rattle.trail_prop.specs.Open.{is_open, IsSettled}
 use Rattle.trail_prop.specs.Watching.{lit_at, HasTrue, IsSafe, IsFixed}
 use Rattle.clause_db.specs.Forced.{not_false, only_open}
-use Rattle.trail_prop.proofs.Known.{same_lit-is, same_lit-refl, has-push, open-parts, lit-parts}
+use Rattle.trail_prop.proofs.Known.{same_lit-is, has-push, open-parts, lit-parts}
 use Rattle.trail_prop.proofs.Opening.{lits-push}
 use Rattle.trail_prop.proofs.Forcing.{not-false-part, only_open-true, kept-here, split-at}
 use Rattle.trail_prop.proofs.Places.{known-entry, entry-known, entry-left, entry-of-left, entry-right, entry-same}

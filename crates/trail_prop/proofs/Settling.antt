@@ -1,5 +1,5 @@
 -- What the changes keep after which a clause is watched at other places, or waits no longer; and what holds at the end.
-use Rattle.std.proofs.Common.{◌≡◌, ◌≢◌, ℕ, zero, ◌+◌, ◌-◌, ◌*◌, ◌<◌, ◌≤◌, Bool, true, false, not, ◌==◌, suc, ◌^◌, List, [], ◌∷◌, ◌++◌, length, take, get_or, replicate, refl, sym, ap, ◌∙◌, subst, inl, inr, ◌⊎◌, arith, length-set, eqb-true, eq-eqb}
+use Rattle.std.proofs.Common.{◌≡◌, ◌≢◌, ℕ, zero, ◌+◌, ◌-◌, ◌*◌, ◌<◌, ◌≤◌, true, false, ◌==◌, suc, ◌^◌, List, [], ◌∷◌, ◌++◌, length, take, get_or, replicate, refl, sym, ap, ◌∙◌, subst, inl, inr, arith, length-set, eqb-true, eq-eqb}
 use Rattle.std.specs.Prelude.{slice_set, swap_remove}
 use Rattle.std.specs.List.{All}
 use Rattle.std.proofs.lemmas.Bool.{false≢true}
@@ -16,9 +16,9 @@ use Rattle.trail_prop.specs.Entries.{code_of, lits_of, EachOpens, IsEntry}
 use Rattle.trail_prop.specs.Open.{IsSettled, IsComplete}
 use Rattle.trail_prop.specs.Steps.{IsHeld, Shrinks}
 use Rattle.trail_prop.specs.Turn.{IsMove, IsOneOf}
-use Rattle.trail_prop.specs.Watching.{lit_at, clause_of, watches_at, places_of, StandsAt, HasTrue, IsFixed, IsSafe, watches_of, IsGuarded, IsWatched, WatchFits, WatchView, waits, IsMinded, AreNumbers, AllWait, IsWatchful}
+use Rattle.trail_prop.specs.Watching.{lit_at, clause_of, watches_at, places_of, StandsAt, HasTrue, IsFixed, IsSafe, watches_of, IsGuarded, IsWatched, WatchFits, WatchView, waits, AllWait, IsWatchful}
 use Rattle.trail_prop.proofs.Counting.{count-push, count-pushed, take-removed, length-removed, count-removed, found, all-removed, not-same}
-use Rattle.trail_prop.proofs.Known.{code-is, lit-parts}
+use Rattle.trail_prop.proofs.Known.{code-is}
 use Rattle.trail_prop.proofs.Minding.{Minds, minds-safe, minds-more, others-stay, relisted-same, relisted-other, relisted-more, relisted-fits, code-listed, same-or-not}
 use Rattle.trail_prop.proofs.Safety.{safe-open, safe-step, safe-other, opposite-twice, true-settled, fixed-true, watched-settled}
 
@@ -77,7 +77,7 @@ watchful-left v gone at n d m h w wl wo one last b e f mv hung =
     let es = v.trail.entries in
     record {
       small = h.small;
-  within = h.within;
+      within = h.within;
       head = h.head;
       sized = length-set v.places (n - 1) m.places ∙ h.sized;
       listed = length-set v.lists (code_of gone) ws' ∙ h.listed;
@@ -165,18 +165,18 @@ watchful-advanced v gone level h s low a =
     omega arith in
     record {
       small = h.small;
-  within = h.within;
+      within = h.within;
       head = omega arith;
       sized = h.sized;
       listed = h.listed;
       numbers = h.numbers;
       fits = h.fits;
       minds = λ k t. let c = clause_of v.trail.clauses.list k in
-      minds-safe es es v.head (v.head + 1) v.lists v.pending k c (places_of v.places k) (λ f. f)
-      (λ j g. elim (same-or-not (code_of (lit_at c j)) (code_of gone)) [
-        | inl q ↦ safe-step es v.head c (lit_at c j) e g.safe i (held-true v gone (lit_at c j) k q g.held a) top
-        | inr o ↦ safe-other es v.head c (lit_at c j) e g.safe i (λ q. o (ap (λ (z : Lit). code_of z) (opposite-twice (lit_at c j) ∙ (ap (λ (z : Lit). opposite z) (sym q ∙ s.2) ∙ sym (opposite-twice gone)))))
-      ]) (h.minds k t);
+          minds-safe es es v.head (v.head + 1) v.lists v.pending k c (places_of v.places k) (λ f. f)
+          (λ j g. elim (same-or-not (code_of (lit_at c j)) (code_of gone)) [
+            | inl q ↦ safe-step es v.head c (lit_at c j) e g.safe i (held-true v gone (lit_at c j) k q g.held a) top
+            | inr o ↦ safe-other es v.head c (lit_at c j) e g.safe i (λ q. o (ap (λ (z : Lit). code_of z) (opposite-twice (lit_at c j) ∙ (ap (λ (z : Lit). opposite z) (sym q ∙ s.2) ∙ sym (opposite-twice gone)))))
+          ]) (h.minds k t);
     }
 
 -- no clause is watched yet

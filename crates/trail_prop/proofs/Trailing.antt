@@ -87,9 +87,6 @@ levels-up c before (x ∷ xs) f =
     let rest : All (λ (e : Entry). e.level ≤ level_of (before ++ x ∷ xs)) xs = subst (λ (z : List Entry). All (λ (e : Entry). e.level ≤ level_of z) xs) a (levels-up c (before ++ x ∷ []) xs f.1) in
     All-cons (λ (e : Entry). e.level ≤ level_of (before ++ x ∷ xs)) x xs here rest
 
-pub grows-none : (es : List Entry) → Grows es es
-grows-none es = record { more = []; follows = sym (append-nil es); forced = All-nil (λ (e : Entry). (is_decision e ≡ false) × (e.level ≡ level_of es)) }
-
 no-decisions : (level : ℕ) (es : List Entry) → All (λ (e : Entry). (is_decision e ≡ false) × (e.level ≡ level)) es → level_of es ≡ 0
 no-decisions level [] a = refl
 no-decisions level (x ∷ xs) a =

@@ -291,7 +291,12 @@ fn take_up(watching: &mut Watching, at: usize) -> Result<bool, NoMemory>
 }
 
 // Has a clause that waits watch two literals, where the numbers are small enough.
-fn watch_two(watching: &mut Watching, at: usize, number: u64, places: Places) -> Result<bool, NoMemory>
+fn watch_two(
+    watching: &mut Watching,
+    at: usize,
+    number: u64,
+    places: Places,
+) -> Result<bool, NoMemory>
     requires place { at < length watching.old.pending }
     requires number { number ≡ slice_index_or watching.old.pending at number }
     requires from_one { 1 ≤ number }

@@ -1,8 +1,10 @@
 ghost use Rattle.std.specs.Prelude.{◌<◌};
 
 use crate::entry::Entry;
+use crate::plain::PlainTrail;
 use crate::samples::{add, backjump, decide, propagate, trail};
 use crate::trail::Trail;
+use crate::within::are_within;
 use clause_db::list::ClauseList;
 use clause_db::lit::Lit;
 use std::alloc::{AllocError as NoMemory, Global};
@@ -150,7 +152,50 @@ fn step(alloc: Global, trail: &mut Trail, seed: u64) -> Result<(), NoMemory> {
     Ok(())
 }
 
-// Whether propagation is right at each step of a course; it is left out at every third step.
+fn add_plain(plain: &mut PlainTrail, clause: &[Lit]) -> Result<(), NoMemory> {
+    if !are_within(plain.clauses().vars(), clause) {
+        return Ok(());
+    }
+    plain.add(clause)
+}
+
+fn decide_plain(plain: &mut PlainTrail, lit: Lit) {
+    if are_within(plain.clauses().vars(), &[lit]) && plain.value(lit.var).is_none() {
+        plain.decide(lit);
+    }
+}
+
+// A plain trail of the same clauses and decisions, with nothing propagated.
+fn plain_of(alloc: Global, trail: &Trail) -> Result<PlainTrail, NoMemory> {
+    let mut plain = PlainTrail::new(alloc, ClauseList::new(alloc, 6))?;
+    for i in 0..trail.clauses().len() {
+        add_plain(&mut plain, trail.clauses().get(i + 1))?;
+    }
+    for entry in trail.entries() {
+        if entry.reason.is_none() {
+            decide_plain(&mut plain, entry.lit);
+        }
+    }
+    Ok(plain)
+}
+
+fn same_values(trail: &Trail, plain: &PlainTrail) -> bool {
+    for var in 1..7 {
+        if trail.value(var) != plain.value(var) {
+            return false;
+        }
+    }
+    true
+}
+
+// Whether a scan of all clauses comes to the same end.
+fn is_as_scanned(alloc: Global, trail: &Trail, found: bool) -> Result<bool, NoMemory> {
+    let mut plain = plain_of(alloc, trail)?;
+    let same = plain.propagate().is_some() == found;
+    Ok(same && (found || same_values(trail, &plain)))
+}
+
+// Whether propagation is right at each step of a course, which leaves it out at every third.
 fn goes_right(alloc: Global, start: u64) -> Result<bool, NoMemory> {
     let mut trail = trail(alloc, 6, &[])?;
     let mut seed = start;
@@ -161,7 +206,7 @@ fn goes_right(alloc: Global, start: u64) -> Result<bool, NoMemory> {
             continue;
         }
         let found = propagate(&mut trail)? > 0;
-        if !is_right(&trail, found) {
+        if !is_right(&trail, found) || !is_as_scanned(alloc, &trail, found)? {
             return Ok(false);
         }
     }
@@ -169,7 +214,7 @@ fn goes_right(alloc: Global, start: u64) -> Result<bool, NoMemory> {
 }
 
 #[test]
-fn agrees_with_every_assignment(rt: HostRuntime) -> Result<(), Fail> {
+fn agrees_with_every_assignment_and_with_a_scan(rt: HostRuntime) -> Result<(), Fail> {
     for seed in 0..300 {
         assert!(rt; goes_right(rt.alloc(), seed)?, "at {seed}");
     }

@@ -1,4 +1,4 @@
-use Rattle.std.proofs.Common.{◌-◌, sym, subst, arith}
+use Rattle.std.proofs.Common.{sym, subst, arith}
 use Rattle.trail_prop.specs.Steps.{AreHeld}
 use Rattle.trail_prop.specs.Watching.{WatchView}
 use Rattle.trail_prop.proofs.Minding.{code-listed}

@@ -1,4 +1,4 @@
-use Rattle.std.proofs.Common.{◌-◌, ◌∙◌}
+use Rattle.std.proofs.Common.{◌∙◌}
 use Rattle.trail_prop.proofs.Trailing.{grows-trans}
 use Rattle.trail_prop.proofs.propagate.propagate.Goals as goal
 

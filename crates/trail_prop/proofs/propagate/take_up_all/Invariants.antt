@@ -1,4 +1,4 @@
-use Rattle.std.proofs.Common.{◌≡◌, ◌-◌, ℕ, length}
+use Rattle.std.proofs.Common.{◌≡◌, ◌-◌, length}
 use Rattle.trail_prop.proofs.propagate.take_up_all.Given as goal
 
 abbrev pub invariant-loop-at : goal.invariant-loop-at

@@ -1,4 +1,4 @@
-use Rattle.std.proofs.Common.{◌≡◌, ◌-◌, ◌≤◌, ℕ, length}
+use Rattle.std.proofs.Common.{◌≡◌, ◌-◌, length}
 use Rattle.trail_prop.specs.Steps.{AreHeld}
 use Rattle.trail_prop.specs.Trails.{Grows}
 use Rattle.trail_prop.specs.Watching.{watches_at}

@@ -1,4 +1,4 @@
-use Rattle.std.proofs.Common.{arith, ◌≡◌, ℕ, ◌-◌, ◌<◌, ◌^◌, length, ◌++◌, ◌∷◌, List, true, ◌∙◌, sym, subst, length-set, []}
+use Rattle.std.proofs.Common.{arith, ◌≡◌, ℕ, ◌-◌, ◌++◌, ◌∷◌, List, true, ◌∙◌, sym, subst, length-set, []}
 use Rattle.std.specs.Prelude.{slice_set}
 use Rattle.clause_db.specs.declared.lit.Lit.{Lit}
 use Rattle.clause_db.specs.Clauses.{LitWithin}

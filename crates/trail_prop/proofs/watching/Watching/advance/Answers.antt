@@ -1,4 +1,4 @@
-use Rattle.std.proofs.Common.{◌≡◌, ◌-◌, List, [], true, length, sym, ap, subst, arith}
+use Rattle.std.proofs.Common.{◌≡◌, List, [], length, sym, ap, subst, arith}
 use Rattle.std.specs.List.{All}
 use Rattle.trail_prop.specs.declared.entry.Entry.{Entry}
 use Rattle.trail_prop.specs.Entries.{level_of}

@@ -1,4 +1,4 @@
-use Rattle.std.proofs.Common.{◌-◌, [], ◌∷◌, sym, subst, Some}
+use Rattle.std.proofs.Common.{[], ◌∷◌, sym, subst, Some}
 use Rattle.trail_prop.specs.Entries.{level_of}
 use Rattle.trail_prop.specs.Trails.{TrailView}
 use Rattle.trail_prop.specs.Watching.{WatchView, IsWatchful}

@@ -1,4 +1,4 @@
-use Rattle.std.proofs.Common.{◌≡◌, ◌-◌, ◌<◌, List, [], true, false, length, get_or, sym, ap, subst, arith, Some, None}
+use Rattle.std.proofs.Common.{◌≡◌, ◌<◌, List, [], false, length, get_or, sym, ap, subst, arith, Some, None}
 use Rattle.clause_db.specs.Clauses.{LitWithin}
 use Rattle.trail_prop.specs.declared.entry.Entry.{Entry}
 use Rattle.trail_prop.specs.Watching.{WatchView}

@@ -1,4 +1,4 @@
-use Rattle.std.proofs.Common.{◌≡◌, ◌+◌, ◌-◌, ◌++◌, sym, subst}
+use Rattle.std.proofs.Common.{◌≡◌, ◌++◌, sym, subst}
 use Rattle.trail_prop.specs.Trails.{TrailView}
 use Rattle.trail_prop.specs.Watching.{WatchView, IsWatchful}
 use Rattle.trail_prop.proofs.Minding.{watchful-grown}
