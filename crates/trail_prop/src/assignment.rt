@@ -1,0 +1,136 @@
+//! The literals that are true, in order, and a mark for each.
+
+ghost use Rattle.std.specs.Prelude.{ℕ, ◌≡◌, ◌≢◌, ◌+◌, ◌-◌, ◌*◌, ◌^◌, ◌<◌, ◌≤◌, ◌++◌, ◌∷◌, [], length, IfOk, IfSome, OnOk, OnErr, Some, None, true, false, slice_index_or};
+ghost use Rattle.clause_db.specs.Clause.{has_lit};
+ghost use Rattle.clause_db.specs.Clauses.{LitWithin};
+ghost use Rattle.trail_prop.specs.Open.{is_open};
+ghost use Rattle.trail_prop.specs.declared.entry.Entry.{Entry};
+ghost use Rattle.trail_prop.specs.Entries.{lits_of, code_of, IsEntry, IsEntryOf};
+
+use crate::entry::Entry;
+use clause_db::lit::Lit;
+use std::alloc::{AllocError as NoMemory, Global};
+use std::marker::Model;
+
+/// The entries of a trail over variables 1 to `vars`, with room for one of each variable.
+#[derive(Drop)]
+pub struct Assignment {
+    vars: u32,
+    entries: Vec<Entry>,
+    marks: Vec<bool>,
+    index: Vec<u32>,
+}
+
+impl Model for Assignment {
+    ghost use Rattle.std.specs.Prelude.{◌≡◌, ◌<◌, ◌≤◌, ◌*◌, ◌^◌, [], length};
+    ghost use Rattle.std.specs.Vec.{vec_capacity};
+    ghost use Rattle.trail_prop.specs.Entries.{Assigned, AreIndexed, EachOpens, MarksSay, lits_of};
+
+    ghost Value = { Assigned };
+
+    ghost view = { λ a. record { vars = a.vars; entries = a.entries.items } };
+
+    ghost invariant = { λ a. record { opens : EachOpens a.vars [] a.entries.items; marked : MarksSay a.vars a.marks.items (lits_of a.entries.items); size : length a.marks.items ≡ 2 * a.vars; room : a.vars ≤ vec_capacity a.entries; small : a.vars < 2 ^ 32; indexed : AreIndexed a.index.items a.entries.items; places : length a.index.items ≡ a.vars } };
+}
+
+/// The place of a literal's mark, or of its watches: two places for each variable.
+pub fn code(lit: Lit) -> usize
+    requires from_one { 1 ≤ lit.var }
+    requires small { lit.var < 2 ^ 32 }
+    ensures { result ≡ code_of lit }
+{
+    let at = 2 * (lit.var - 1) as usize;
+    if lit.positive { at } else { at + 1 }
+}
+
+impl Assignment {
+    /// No entry.
+    pub fn new(alloc: Global, vars: u32) -> Result<Assignment, NoMemory>
+        ensures { IfOk result (λ a. a ≡ record { vars = vars; entries = [] }) }
+    {
+        let entries = Vec::with_capacity(alloc, vars as usize)?;
+        let mut marks = Vec::with_capacity(alloc, 2 * vars as usize)?;
+        for _ in 0..2 * vars as usize {
+            marks.push(false)?;
+        }
+        let mut index = Vec::with_capacity(alloc, vars as usize)?;
+        for _ in 0..vars {
+            index.push(0)?;
+        }
+        Ok(Assignment {
+            vars,
+            entries,
+            marks,
+            index,
+        })
+    }
+
+    /// The number of variables.
+    pub fn vars(&self) -> u32
+        ensures { result ≡ self.now.vars }
+    {
+        self.vars
+    }
+
+    /// The entries in order.
+    pub fn entries(&self) -> &[Entry]
+        ensures { result.now ≡ self.now.entries }
+    {
+        &self.entries
+    }
+
+    /// Whether a literal is true.
+    pub fn is_true(&self, lit: Lit) -> bool
+        requires { LitWithin self.now.vars lit }
+        ensures { result ≡ has_lit (lits_of self.now.entries) lit }
+    {
+        self.marks[code(lit)]
+    }
+
+    /// The entry of a variable, if it has one.
+    pub fn entry_of(&self, var: u64) -> Option<Entry>
+        requires from_one { 1 ≤ var }
+        requires to_vars { var ≤ self.now.vars }
+        ensures found { IfSome result (λ e. IsEntryOf self.now.entries var e) }
+        ensures only { (k : ℕ) (e : Entry) → IsEntry self.now.entries k e → e.lit.var ≡ var → result ≡ Some e }
+    {
+        let at = self.index[(var - 1) as usize] as usize;
+        if at >= self.entries.len() {
+            return None;
+        }
+        let entry = self.entries[at];
+        if entry.lit.var != var {
+            return None;
+        }
+        Some(entry)
+    }
+
+    /// Puts an entry of an open variable after the last.
+    pub fn push(&mut self, entry: Entry)
+        requires within { LitWithin self.old.vars entry.lit }
+        requires opens { is_open (lits_of self.old.entries) entry.lit ≡ true }
+        ensures { self.new ≡ record { vars = self.old.vars; entries = self.old.entries ++ entry ∷ [] } }
+    {
+        self.marks[code(entry.lit)] = true;
+        self.index[(entry.lit.var - 1) as usize] = self.entries.len() as u32;
+        match self.entries.push(entry) {
+            Ok(()) => {}
+            Err(_) => unreachable!(),
+        }
+    }
+
+    /// Takes the last entry away.
+    pub fn pop(&mut self) -> Entry
+        requires { 0 < length self.old.entries }
+        ensures vars { self.new.vars ≡ self.old.vars }
+        ensures entries { self.old.entries ≡ self.new.entries ++ result ∷ [] }
+    {
+        match self.entries.pop() {
+            Some(entry) => {
+                self.marks[code(entry.lit)] = false;
+                entry
+            }
+            None => unreachable!(),
+        }
+    }
+}
