@@ -6,6 +6,7 @@ pub mod certified;
 pub mod certify;
 mod first_line;
 pub mod laws;
+pub mod poll;
 #[cfg(test)]
 mod samples;
 mod subset;
