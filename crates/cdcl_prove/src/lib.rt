@@ -1,0 +1,4 @@
+//! A solver of packing tests that learns a clause from each conflict, and proves what it says.
+#![tactic(auto)]
+
+pub mod mark;
