@@ -29,6 +29,9 @@ keeps marks v = is_kept (mark_of marks v)
 abbrev pub resolves : List Mark → ℕ → Bool
 resolves marks v = is_resolved (mark_of marks v)
 
+abbrev pub has_met : List Mark → ℕ → Bool
+has_met marks v = keeps marks v || resolves marks v
+
 -- the entries of variables that pass the test
 abbrev pub entries_of : (ℕ → Bool) → List Entry → List Entry
 entries_of test entries = filter (λ e. test e.lit.var) entries

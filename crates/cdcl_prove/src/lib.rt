@@ -1,4 +1,6 @@
 //! A solver of packing tests that learns a clause from each conflict, and proves what it says.
 #![tactic(auto)]
 
-pub mod mark;
+mod guide;
+mod mark;
+mod order;
