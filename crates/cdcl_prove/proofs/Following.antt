@@ -116,7 +116,7 @@ hint-before : (clauses : List (List Lit)) (known : List Lit) (place h n : ℕ) (
 hint-before clauses known place h n [] = refl
 hint-before clauses known place h n (g ∷ gs) = refl
 
-has-left : (xs ys : List Entry) (l : Lit) → has_lit (lits_of xs) l ≡ true → has_lit (lits_of (xs ++ ys)) l ≡ true
+pub has-left : (xs ys : List Entry) (l : Lit) → has_lit (lits_of xs) l ≡ true → has_lit (lits_of (xs ++ ys)) l ≡ true
 has-left xs ys l h = ap (λ (z : List Lit). has_lit z l) (map-append (λ (e : Entry). e.lit) xs ys) ∙ (has-append (lits_of xs) (lits_of ys) l ∙ or_left (has_lit (lits_of xs) l) (has_lit (lits_of ys) l) h)
 
 -- the hints from an entry on

@@ -1,2 +1,5 @@
 pub mod Following
 pub mod PickLemmas
+pub mod TrailLemmas
+pub mod AnalysisLemmas
+pub mod DerivationLemmas

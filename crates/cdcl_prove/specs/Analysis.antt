@@ -1,6 +1,6 @@
 -- How a line and its hints are taken from a conflict. Each variable that the analysis meets is kept, so that its literal's
 -- opposite stands in the line, or resolved away, so that its reason is a hint.
-use Rattle.std.specs.Prelude.{ℕ, ◌-◌, ◌≡◌, ◌||◌, Bool, true, false, List, [], ◌∷◌, ◌++◌, map, filter, Option, Some, None, unwrap_or, slice_index_or}
+use Rattle.std.specs.Prelude.{ℕ, ◌-◌, ◌≡◌, ◌||◌, Bool, true, false, List, [], ◌∷◌, ◌++◌, map, filter, Option, Some, None, unwrap_or, slice_index_or, length}
 use Rattle.std.specs.List.{All}
 use Rattle.clause_db.specs.declared.lit.Lit.{Lit}
 use Rattle.clause_db.specs.Clause.{opposite, clause_at}
@@ -61,3 +61,19 @@ IsReasonMet met clauses (Some n) = IsMetAt met (clause_at clauses n)
 -- of each entry that is resolved away the reason's variables were met
 abbrev pub AreClosed : (ℕ → Bool) → (ℕ → Bool) → List (List Lit) → List Entry → Type 0
 AreClosed resolved met clauses entries = All (λ e. resolved e.lit.var ≡ true → IsReasonMet met clauses e.reason) entries
+
+-- the later marks have met more, and resolve the same away
+pub record MeetsMore (earlier later : List Mark) : Type 0 where
+  pub size : length later ≡ length earlier
+  pub still : (v : ℕ) → has_met earlier v ≡ true → has_met later v ≡ true
+  pub same : (v : ℕ) → resolves later v ≡ resolves earlier v
+
+-- a mark for each variable, and of each entry that is resolved away the reason was met
+pub record IsClosed (vars : ℕ) (clauses : List (List Lit)) (entries : List Entry) (marks : List Mark) : Type 0 where
+  pub size : length marks ≡ vars
+  pub closed : AreClosed (resolves marks) (has_met marks) clauses entries
+
+-- and so was the false clause: a conflict is analysed
+pub record IsAnalysed (vars : ℕ) (clauses : List (List Lit)) (entries : List Entry) (conflict : ℕ) (marks : List Mark) : Type 0 where
+  pub closed : IsClosed vars clauses entries marks
+  pub met : IsMetAt (has_met marks) (clause_at clauses conflict)

@@ -1,2 +1,3 @@
 pub mod Analysis
 pub mod Picks
+pub mod Derivation

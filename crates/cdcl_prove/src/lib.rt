@@ -1,6 +1,8 @@
 //! A solver of packing tests that learns a clause from each conflict, and proves what it says.
 #![tactic(auto)]
 
+mod analysis;
+mod derivation;
 mod guide;
 mod mark;
 mod order;
