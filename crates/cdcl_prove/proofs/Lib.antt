@@ -3,3 +3,4 @@ pub mod PickLemmas
 pub mod TrailLemmas
 pub mod AnalysisLemmas
 pub mod DerivationLemmas
+pub mod SearchLemmas

@@ -1,3 +1,4 @@
 pub mod Analysis
 pub mod Picks
 pub mod Derivation
+pub mod Search

@@ -6,3 +6,5 @@ mod derivation;
 mod guide;
 mod mark;
 mod order;
+mod search;
+mod solve;
