@@ -4,6 +4,7 @@
 pub mod answer;
 pub mod certified;
 pub mod certify;
+pub mod delta;
 mod first_line;
 pub mod laws;
 pub mod poll;
