@@ -1,20 +1,19 @@
 -- What the marks of an analysis keep.
-use Rattle.std.proofs.Common.{◌≡◌, ℕ, ◌+◌, ◌-◌, ◌<◌, ◌≤◌, Bool, true, false, not, cond, ◌||◌, List, [], ◌∷◌, ◌++◌, Option, Some, None, length, get_or, take, refl, sym, ap, ◌∙◌, subst, arith, inl, inr, ◌⊎◌}
+use Rattle.std.proofs.Common.{◌≡◌, ℕ, ◌+◌, ◌<◌, ◌≤◌, true, false, List, [], Option, Some, None, length, get_or, take, refl, sym, ap, ◌∙◌, subst, inl, inr, ◌⊎◌}
 use Rattle.std.specs.List.{All}
 use Rattle.std.proofs.lemmas.Bool.{false≢true}
 use Rattle.std.proofs.lemmas.List.Elements.{All-more, All-weaker}
 use Rattle.std.proofs.lemmas.List.{get_or_default}
 use Rattle.clause_db.specs.declared.lit.Lit.{Lit}
 use Rattle.clause_db.specs.Clause.{clause_at}
-use Rattle.clause_db.specs.Clauses.{Clauses, LitWithin}
-use Rattle.rup_check.specs.declared.line.Line.{Line}
+use Rattle.clause_db.specs.Clauses.{Clauses}
 use Rattle.rup_check.specs.Follows.{line_fault}
 use Rattle.trail_prop.specs.declared.entry.Entry.{Entry}
 use Rattle.trail_prop.specs.Entries.{lits_of}
 use Rattle.trail_prop.specs.Trails.{IsTrail, IsFalseAt}
 use Rattle.cdcl_prove.specs.declared.mark.Mark.{Mark}
 use Rattle.cdcl_prove.specs.declared.mark.Mark.TheVariants.{Unmet, Kept, Resolved}
-use Rattle.cdcl_prove.specs.Analysis.{is_kept, is_resolved, mark_of, keeps, resolves, has_met, line_of, hints_of, IsMetAt, IsReasonMet, AreClosed, MeetsMore, IsClosed, IsAnalysed}
+use Rattle.cdcl_prove.specs.Analysis.{is_kept, is_resolved, mark_of, keeps, resolves, has_met, line_of, hints_of, IsMetAt, IsReasonMet, MeetsMore, IsClosed, IsAnalysed}
 use Rattle.cdcl_prove.proofs.TrailLemmas.{same-entry, fits-at}
 use Rattle.cdcl_prove.proofs.Following.{line-follows}
 

@@ -1,21 +1,19 @@
 -- The line that an analysis takes from a conflict follows by its hints.
-use Rattle.std.proofs.Common.{◌≡◌, ◌≢◌, ℕ, ◌+◌, ◌-◌, ◌<◌, ◌≤◌, Bool, true, false, not, cond, ◌||◌, ◌&&◌, ◌==◌, List, [], ◌∷◌, ◌++◌, map, filter, Option, Some, None, Result, Ok, Err, refl, sym, ap, ◌∙◌, subst, arith, append_assoc, nat_lt, eqb-true}
-use Rattle.std.specs.List.{All, list_any, list_all}
-use Rattle.std.proofs.lemmas.Bool.{and_parts, and_from, or_left, or_right, or_from, or_parts, cond-true, cond-false, false_from_ne_true, ne_eqb, le-ltb}
+use Rattle.std.proofs.Common.{◌≡◌, ℕ, ◌+◌, ◌≤◌, Bool, true, false, not, cond, ◌||◌, ◌&&◌, ◌==◌, List, [], ◌∷◌, ◌++◌, map, Option, Some, None, Result, Ok, refl, sym, ap, ◌∙◌, subst, arith, append_assoc, nat_lt}
+use Rattle.std.specs.List.{All, list_any}
+use Rattle.std.proofs.lemmas.Bool.{and_parts, and_from, or_left, or_from, cond-false, ne_eqb, le-ltb}
 use Rattle.std.proofs.lemmas.List.{map-append}
 use Rattle.std.proofs.lemmas.List.Elements.{All-nil, All-cons, All-head, All-tail, filter-append}
 use Rattle.clause_db.specs.declared.lit.Lit.{Lit}
 use Rattle.clause_db.specs.Clause.{opposite, same_lit, has_lit, clause_at}
-use Rattle.clause_db.specs.Clauses.{Clauses, LitWithin}
+use Rattle.clause_db.specs.Clauses.{Clauses}
 use Rattle.clause_db.specs.Forced.{is_false_clause, not_false, only_open, forced_by}
-use Rattle.rup_check.specs.declared.line.Line.{Line}
 use Rattle.rup_check.specs.declared.error.LineErr.{LineErr}
 use Rattle.rup_check.specs.Follows.{line_fault, hints_fault, end_fault, with_forced, after_hint, fault_or, has_bad_lits, has_repeat}
 use Rattle.trail_prop.specs.declared.entry.Entry.{Entry}
-use Rattle.trail_prop.specs.Open.{is_open}
 use Rattle.trail_prop.specs.Entries.{lits_of}
-use Rattle.trail_prop.specs.Trails.{EntryFits, EachFits, IsTrail, HasReason, forced_at, IsFalseAt}
-use Rattle.trail_prop.proofs.Known.{same_lit-is, same_lit-refl, lit-parts, open-parts, open-apart, has-push, has-push_new}
+use Rattle.trail_prop.specs.Trails.{EachFits, IsTrail, HasReason, forced_at, IsFalseAt}
+use Rattle.trail_prop.proofs.Known.{same_lit-is, lit-parts, open-apart, has-push_new}
 use Rattle.trail_prop.proofs.Forcing.{only_open-is, kept-here}
 use Rattle.trail_prop.proofs.Opening.{lits-push}
 use Rattle.cdcl_prove.specs.Analysis.{entries_of, reason_of, line_of, hints_of, IsMetAt, IsReasonMet, AreClosed}

@@ -4,3 +4,5 @@ pub mod TrailLemmas
 pub mod AnalysisLemmas
 pub mod DerivationLemmas
 pub mod SearchLemmas
+pub mod ModelLemmas
+pub mod AnswerLemmas

@@ -1,10 +1,9 @@
 -- Variables without a value, and open literals.
-use Rattle.std.proofs.Common.{◌≡◌, ℕ, ◌+◌, ◌<◌, ◌≤◌, Bool, true, false, not, ◌&&◌, if◌then◌else◌, List, Option, Some, None, is_some, refl, sym, ap, ◌∙◌, subst, arith}
+use Rattle.std.proofs.Common.{◌≡◌, ℕ, Bool, true, false, not, if◌then◌else◌, List, Some, None, refl, ap}
 use Rattle.std.proofs.lemmas.Bool.{and_from}
 use Rattle.clause_db.specs.declared.lit.Lit.{Lit}
-use Rattle.clause_db.specs.Clause.{opposite, has_lit, pos_lit, neg_lit}
+use Rattle.clause_db.specs.Clause.{has_lit, pos_lit, neg_lit}
 use Rattle.trail_prop.specs.Open.{is_open, value_of}
-use Rattle.trail_prop.proofs.Known.{lit-parts}
 
 -- neither literal of a variable without a value is known
 pub both-unknown : (known : List Lit) (v : ℕ) → value_of known v ≡ None → (has_lit known (pos_lit v) ≡ false) × (has_lit known (neg_lit v) ≡ false)

@@ -1,6 +1,5 @@
 -- A decision leaves fewer variables without a value.
-use Rattle.std.proofs.Common.{◌≡◌, ℕ, ◌+◌, ◌-◌, ◌<◌, ◌≤◌, true, List, [], ◌∷◌, ◌++◌, length, ap, subst, arith, length-append}
-use Rattle.clause_db.specs.declared.lit.Lit.{Lit}
+use Rattle.std.proofs.Common.{◌≡◌, ◌-◌, ◌<◌, ◌≤◌, true, List, [], ◌∷◌, ◌++◌, length, ap, subst, arith, length-append}
 use Rattle.clause_db.specs.Clauses.{Clauses, LitWithin}
 use Rattle.trail_prop.specs.declared.entry.Entry.{Entry}
 use Rattle.trail_prop.specs.Open.{is_open}

@@ -1,14 +1,14 @@
 -- What a trail says of its entries by their places, and of the clauses that they name.
-use Rattle.std.proofs.Common.{◌≡◌, ◌≢◌, ℕ, ◌+◌, ◌-◌, ◌<◌, ◌≤◌, Bool, true, false, not, cond, ◌==◌, if◌then◌else◌, List, [], ◌∷◌, ◌++◌, Option, Some, None, length, get_or, take, refl, sym, ap, ◌∙◌, subst, arith, append_assoc, zero, suc, eqb-true}
-use Rattle.std.specs.List.{All, list_all}
-use Rattle.std.proofs.lemmas.Bool.{and_parts, cond-true, cond-false}
+use Rattle.std.proofs.Common.{◌≡◌, ◌≢◌, ℕ, ◌-◌, ◌<◌, ◌≤◌, Bool, true, false, not, cond, ◌==◌, if◌then◌else◌, List, [], ◌∷◌, ◌++◌, Option, Some, None, length, get_or, take, refl, sym, ap, ◌∙◌, subst, arith, append_assoc, zero, suc, eqb-true}
+use Rattle.std.specs.List.{All}
+use Rattle.std.proofs.lemmas.Bool.{and_parts}
 use Rattle.std.proofs.lemmas.List.Elements.{All-nil, All-cons, All-head, All-tail}
 use Rattle.clause_db.specs.declared.lit.Lit.{Lit}
 use Rattle.clause_db.specs.Clause.{opposite, has_lit, clause_at}
 use Rattle.clause_db.specs.Clauses.{Clauses, LitWithin}
-use Rattle.clause_db.specs.Forced.{is_false_clause, not_false, only_open, forced_by}
+use Rattle.clause_db.specs.Forced.{is_false_clause, not_false, forced_by}
 use Rattle.trail_prop.specs.declared.entry.Entry.{Entry}
-use Rattle.trail_prop.specs.Open.{LitsWithin, is_open}
+use Rattle.trail_prop.specs.Open.{LitsWithin}
 use Rattle.trail_prop.specs.Entries.{lits_of, EachOpens}
 use Rattle.trail_prop.specs.Trails.{EntryFits, EachFits, IsTrail, HasReason, forced_at, IsFalseAt}
 use Rattle.trail_prop.proofs.Known.{open-apart, has-push_new}

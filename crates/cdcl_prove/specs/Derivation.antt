@@ -1,7 +1,6 @@
 -- What a solver has derived from a formula: lines, each of which follows from what stands before it, and the trail over
 -- all of these.
-use Rattle.std.specs.Prelude.{ℕ, ◌≡◌, List}
-use Rattle.clause_db.specs.declared.lit.Lit.{Lit}
+use Rattle.std.specs.Prelude.{◌≡◌, List}
 use Rattle.clause_db.specs.Clauses.{Clauses}
 use Rattle.rup_check.specs.declared.line.Line.{Line}
 use Rattle.rup_check.specs.Follows.{clauses_before}

@@ -2,3 +2,4 @@ pub mod Analysis
 pub mod Picks
 pub mod Derivation
 pub mod Search
+pub mod Formulas

@@ -57,13 +57,7 @@ fn mark(
 
 // Visits the entry at a place of the trail, where so many variables of the trail's level are kept. Where the entry is kept
 // and can be spared, its reason's variables are kept in its place. Tells how many of the level are kept then.
-fn visit(
-    trail: &Trail,
-    at: usize,
-    unresolved: usize,
-    marks: &mut Marks,
-    guide: &mut Guide,
-) -> usize
+fn visit(trail: &Trail, at: usize, unresolved: usize, marks: &mut Marks, guide: &mut Guide) -> usize
     requires within { at < length trail.now.entries }
     requires closed { IsClosed trail.now.clauses.vars trail.now.clauses.list trail.now.entries marks.old }
     ensures closed { IsClosed trail.now.clauses.vars trail.now.clauses.list trail.now.entries marks.new }
@@ -97,13 +91,7 @@ fn left(is_of_level: bool, unresolved: usize) -> usize {
 
 // Whether a kept entry is resolved away by its reason: one of level 0 always; one of the trail's level while another of it
 // is kept; any other where the line has the rest of its reason anyway.
-fn can_be_spared(
-    entry: Entry,
-    reason: &[Lit],
-    level: u32,
-    unresolved: usize,
-    marks: &Marks,
-) -> bool
+fn can_be_spared(entry: Entry, reason: &[Lit], level: u32, unresolved: usize, marks: &Marks) -> bool
     requires { LitsWithin (length marks.now) reason.now }
 {
     if entry.level == 0 {

@@ -2,6 +2,8 @@
 #![tactic(auto)]
 
 mod analysis;
+mod answers;
+pub mod cdcl;
 mod derivation;
 mod guide;
 mod mark;

@@ -50,6 +50,13 @@ impl Search {
         })
     }
 
+    /// What was derived.
+    pub(crate) fn into_derivation(self) -> Derivation
+        ensures { result ≡ self.derivation }
+    {
+        self.derivation
+    }
+
     /// Decides and propagates up to a conflict, and learns its line; or up to a model.
     pub(crate) fn step(&mut self, alloc: Global) -> Result<Step, NoMemory>
         ensures formula { self.new.derivation.formula ≡ self.old.derivation.formula }
@@ -123,7 +130,8 @@ impl Search {
         ensures lines { self.new.derivation.lines ≡ self.old.derivation.lines }
     {
         let level = level.min(self.derivation.trail().level());
-        self.guide.release(self.derivation.trail().entries(), level)?;
+        self.guide
+            .release(self.derivation.trail().entries(), level)?;
         self.derivation.backjump(level);
         Ok(())
     }

@@ -1,5 +1,4 @@
-use Rattle.std.proofs.Common.{ℕ, ◌≡◌, ◌≤◌, ◌∙◌, Some, length, sym, ap, subst, List}
-use Rattle.clause_db.specs.declared.lit.Lit.{Lit}
+use Rattle.std.proofs.Common.{ℕ, ◌≡◌, ◌≤◌, ◌∙◌, Some, length, sym, ap, subst}
 use Rattle.clause_db.specs.Clause.{clause_at}
 use Rattle.clause_db.specs.Clauses.{Clauses}
 use Rattle.trail_prop.specs.Entries.{lits_of}

@@ -1,8 +1,7 @@
-use Rattle.std.proofs.Common.{ℕ, ◌≡◌, ◌<◌, ◌≤◌, true, length, subst, arith, take, take_all, List}
+use Rattle.std.proofs.Common.{◌≡◌, true, subst, arith, take_all, List}
 use Rattle.std.specs.List.{All}
 use Rattle.clause_db.specs.declared.lit.Lit.{Lit}
 use Rattle.cdcl_prove.specs.Analysis.{MeetsMore, has_met}
-use Rattle.cdcl_prove.specs.declared.mark.Mark.{Mark}
 use Rattle.cdcl_prove.proofs.AnalysisLemmas.{more-then, met-more}
 use Rattle.cdcl_prove.proofs.analysis.meet.Goals as goal
 

@@ -1,9 +1,9 @@
-use Rattle.std.proofs.Common.{ℕ, ◌≡◌, ◌<◌, ◌≤◌, ◌∙◌, Some, None, true, false, length, sym, ap, subst, arith, List, [], Option, get_or, ◌⊎◌}
+use Rattle.std.proofs.Common.{ℕ, ◌≡◌, ◌<◌, ◌≤◌, Some, None, true, false, length, sym, subst, arith, List, [], get_or, ◌⊎◌}
 use Rattle.clause_db.specs.declared.lit.Lit.{Lit}
 use Rattle.clause_db.specs.Clause.{clause_at}
 use Rattle.clause_db.specs.Clauses.{Clauses, LitWithin}
 use Rattle.trail_prop.specs.Open.{LitsWithin}
-use Rattle.trail_prop.specs.Trails.{IsTrail, EntryFits}
+use Rattle.trail_prop.specs.Trails.{IsTrail}
 use Rattle.trail_prop.specs.declared.entry.Entry.{Entry}
 use Rattle.cdcl_prove.specs.Analysis.{resolves}
 use Rattle.cdcl_prove.proofs.TrailLemmas.{fits-at, reason-number, reason-within}

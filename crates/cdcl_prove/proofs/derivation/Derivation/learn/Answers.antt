@@ -1,6 +1,5 @@
-use Rattle.std.proofs.Common.{ℕ, ◌≡◌, ◌++◌, ◌∷◌, [], None, false, List, sym, ap, subst, ◌∙◌}
+use Rattle.std.proofs.Common.{ℕ, ◌≡◌, ◌++◌, ◌∷◌, [], None, List, sym, ap, subst, ◌∙◌}
 use Rattle.clause_db.specs.declared.lit.Lit.{Lit}
-use Rattle.clause_db.specs.Clauses.{Clauses}
 use Rattle.rup_check.specs.declared.line.Line.{Line}
 use Rattle.rup_check.specs.Follows.{line_fault}
 use Rattle.trail_prop.specs.Open.{LitsWithin}

@@ -1,6 +1,5 @@
-use Rattle.std.proofs.Common.{ℕ, ◌≡◌, ◌+◌, ◌-◌, ◌<◌, Some, None, List, length, sym, ap, subst, ◌∙◌}
+use Rattle.std.proofs.Common.{◌+◌, ◌-◌, ◌<◌, Some, None, length, sym, subst}
 use Rattle.clause_db.specs.Clauses.{Clauses}
-use Rattle.trail_prop.specs.declared.entry.Entry.{Entry}
 use Rattle.trail_prop.specs.Entries.{lits_of, level_of}
 use Rattle.trail_prop.specs.Trails.{TrailView}
 use Rattle.cdcl_prove.specs.Derivation.{clauses_of}
