@@ -1,13 +1,13 @@
 -- The entries of a map that another one lacks, put over that one, give the map.
-use Rattle.std.proofs.Common.{◌≡◌, ℕ, ◌<◌, Bool, true, false, not, cond, ◌==◌, ◌||◌, ◌&&◌, nat_lt, List, [], ◌∷◌, map, filter, refl, sym, ap, ◌∙◌, subst, arith, ⊎_elim, inl, inr, eqb-true, eq-eqb, ne_eqb}
-use Rattle.std.specs.List.{All, list_any}
+use Rattle.std.proofs.Common.{◌≡◌, ℕ, ◌<◌, Bool, true, false, not, cond, ◌==◌, ◌||◌, nat_lt, List, [], ◌∷◌, filter, refl, sym, ap, ◌∙◌, subst, arith, ⊎_elim, inl, inr, eqb-true, eq-eqb, ne_eqb}
+use Rattle.std.specs.List.{All}
 use Rattle.std.proofs.lemmas.Bool.{and_left, and_from, and_parts, lt-ltb, or_cases, or_left, or_right, cases_order, cond-true, cond-false, false_from_ne_true, false≢true}
 use Rattle.std.proofs.lemmas.List.Elements.{All-head, All-tail, All-cons, All-nil}
 use Rattle.pack_defs.specs.ChannelMap.{IsAscending, overlaid}
 use Rattle.pack_defs.specs.Lists.{is_in, is_ascending, has_entry, has_station, same_entry}
 use Rattle.pack_defs.proofs.Chains.{ascending-skip}
 use Rattle.pack_defs.proofs.MapLemmas.{stations, overlaid-none, overlaid-first, overlaid-same, overlaid-above}
-use Rattle.pack_defs.proofs.Words.{below-later, ascending-rest, pair_same, same_entry-same, list_any-map}
+use Rattle.pack_defs.proofs.Words.{below-later, ascending-rest, same_entry-same, list_any-map}
 
 -- some entries of an ascending map ascend
 kept-above : (p : ℕ × ℕ → Bool) (b : ℕ) (xs : List (ℕ × ℕ)) → is_ascending (b ∷ stations xs) ≡ true → is_ascending (b ∷ stations (filter p xs)) ≡ true

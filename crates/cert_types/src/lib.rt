@@ -8,6 +8,7 @@ pub mod delta;
 mod first_line;
 pub mod laws;
 pub mod poll;
+pub mod query;
 #[cfg(test)]
 mod samples;
 mod subset;
