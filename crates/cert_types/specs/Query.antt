@@ -1,5 +1,5 @@
 -- What a solver asks of a query beside a book, and what its attempt says.
-use Rattle.std.specs.Prelude.{ℕ, Bool, not, ◌≡◌, ◌≢◌, ◌&&◌, List}
+use Rattle.std.specs.Prelude.{ℕ, Bool, true, not, ◌≡◌, ◌≢◌, ◌&&◌, List}
 use Rattle.std.specs.List.{list_all}
 use Rattle.pack_defs.specs.Book.{BookView, domain_of}
 use Rattle.pack_defs.specs.Lists.{is_ascending, is_empty, is_in}
@@ -18,8 +18,12 @@ abbrev pub is_on_domains : BookView → List ℕ → List (ℕ × ℕ) → Bool
 is_on_domains book set entries = list_all (λ x. is_in set x.0 && is_in (domain_of book x.0) x.1) entries
 
 -- the set ascends and each of its stations has a channel; the last map is of stations of the set, on their domains
-abbrev pub is_query : BookView → Task → Bool
+unfoldable pub is_query : BookView → Task → Bool
 is_query book task = is_ascending task.set && (has_channels book task.set && is_on_domains book task.set task.last)
+
+-- the task is one that a solver may be asked
+pub record IsQuery (book : BookView) (task : Task) : Type 0 where
+  pub holds : is_query book task ≡ true
 
 -- What an attempt says: an answer is valid; and where another query stands, that number is the poll's latest answer.
 abbrev pub AttemptIs : BookView → Task → Worker → ℕ → Attempt → Type 0

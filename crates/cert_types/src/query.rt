@@ -1,7 +1,8 @@
 ghost use Rattle.std.specs.Prelude.{◌≡◌, ◌&&◌, IsTrue};
+ghost use Rattle.std.specs.Bool.{OnTrue};
 ghost use Rattle.pack_defs.specs.Book.{domain_of};
 ghost use Rattle.pack_defs.specs.Lists.{is_ascending, is_in};
-ghost use Rattle.cert_types.specs.Query.{has_channels, is_on_domains, is_query};
+ghost use Rattle.cert_types.specs.Query.{IsQuery, has_channels, is_on_domains, is_query};
 
 use crate::subset::ascends;
 use crate::task::Task;
@@ -10,8 +11,10 @@ use pack_defs::book::Book;
 /// Whether a task is one that a solver may be asked beside a book: its set ascends and each of its stations has a channel;
 /// its last map is of stations of the set, each on a channel of its domain. It searches by halves, once for each station
 /// and each entry, and takes no memory.
+#[tactic(auto, unfolding(crate::specs::Query::is_query))]
 pub fn is_query(book: &Book, task: &Task) -> bool
-    ensures { result ≡ is_query book.now task.now }
+    ensures exact { result ≡ is_query book.now task.now }
+    ensures query { OnTrue result (IsQuery book.now task.now) }
 {
     let set = task.set.as_slice();
     ascends(set) && has_channels(book, set) && is_on_domains(book, set, task.last.entries())
