@@ -8,5 +8,9 @@ mod derivation;
 mod guide;
 mod mark;
 mod order;
+#[cfg(test)]
+mod samples;
 mod search;
 mod solve;
+#[cfg(test)]
+mod tests;

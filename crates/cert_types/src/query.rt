@@ -2,6 +2,7 @@ ghost use Rattle.std.specs.Prelude.{◌≡◌, ◌&&◌, IsTrue};
 ghost use Rattle.std.specs.Bool.{OnTrue};
 ghost use Rattle.pack_defs.specs.Book.{domain_of};
 ghost use Rattle.pack_defs.specs.Lists.{is_ascending, is_in};
+ghost use Rattle.cert_types.specs.Certificate.{IsTaskOf};
 ghost use Rattle.cert_types.specs.Query.{IsQuery, has_channels, is_on_domains, is_query};
 
 use crate::subset::ascends;
@@ -15,6 +16,7 @@ use pack_defs::book::Book;
 pub fn is_query(book: &Book, task: &Task) -> bool
     ensures exact { result ≡ is_query book.now task.now }
     ensures query { OnTrue result (IsQuery book.now task.now) }
+    ensures task { OnTrue result (IsTaskOf book.now task.now) }
 {
     let set = task.set.as_slice();
     ascends(set) && has_channels(book, set) && is_on_domains(book, set, task.last.entries())
