@@ -117,12 +117,12 @@ fn agrees(alloc: Global, seed: u64) -> Option<(bool, bool)> {
 
 #[test]
 fn says_fit_exactly_where_the_plain_search_does(rt: HostRuntime) -> Result<(), Fail> {
-    let mut fitting = 0;
+    let mut fitting: u32 = 0;
     for seed in 0..40 {
         let (agrees, fit) = agrees(rt.alloc(), seed).ok_or("no memory")?;
         assert!(rt; agrees, "at {seed}");
         if fit {
-            fitting += 1;
+            fitting = fitting.saturating_add(1);
         }
     }
     assert!(rt; fitting > 5 && fitting < 35, "{fitting} fit");
