@@ -11,7 +11,7 @@ use cert_types::poll::{Attempt, Poll};
 use cert_types::task::Task;
 use cnf_encode::encode::encode;
 use pack_defs::book::Book;
-use pack_defs::worker::{Kind, Worker};
+use pack_defs::worker::Worker;
 use std::alloc::{AllocError as NoMemory, Global};
 use std::marker::Model;
 
@@ -23,21 +23,16 @@ pub struct Cdcl {
 }
 
 impl Model for Cdcl {
-    ghost use Rattle.std.specs.Prelude.{◌≡◌};
     ghost use Rattle.pack_defs.specs.declared.worker.Worker.{Worker};
-    ghost use Rattle.pack_defs.specs.declared.worker.Kind.TheVariants.{Cdcl};
 
     ghost Value = { Worker };
 
     ghost view = { λ c. c.worker };
-
-    ghost invariant = { λ c. c.worker.kind ≡ Cdcl };
 }
 
 impl Cdcl {
-    /// The solver of a worker of its kind. The only error is want of memory.
+    /// The solver of a worker, which spends the worker's budget in lines. The only error is want of memory.
     pub fn new(_alloc: Global, worker: &Worker) -> Result<Cdcl, NoMemory>
-        requires { worker.now.kind ≡ Kind.Cdcl }
         ensures { IfOk result (λ solver. solver ≡ worker.now) }
     {
         Ok(Cdcl { worker: *worker })

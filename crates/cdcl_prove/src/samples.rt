@@ -92,9 +92,7 @@ fn kind_of(answer: &Answer) -> Said {
     }
 }
 
-pub(crate) fn learner(budget: u32) -> Worker
-    ensures { result.kind ≡ Kind.Cdcl }
-{
+pub(crate) fn learner(budget: u32) -> Worker {
     Worker {
         kind: Kind::Cdcl,
         budget,
