@@ -2,3 +2,11 @@ pub mod Known
 pub mod Opening
 pub mod Forcing
 pub mod Trailing
+pub mod Places
+pub mod WatchLists
+pub mod Safety
+pub mod Finding
+pub mod Counting
+pub mod Minding
+pub mod Settling
+pub mod Meeting

@@ -1,17 +1,17 @@
 -- Entries that each open a new variable: one more, one less, and that there are no more than variables.
-use Rattle.std.proofs.Common.{◌≡◌, ◌≢◌, ℕ, ◌-◌, ◌<◌, ◌≤◌, true, false, List, [], ◌∷◌, ◌++◌, map, length, refl, sym, ap, ◌∙◌, subst, arith, append_assoc, length-append, eqb-true, inl, inr, ⊎_elim, None}
+use Rattle.std.proofs.Common.{◌≡◌, ◌≢◌, ℕ, ◌-◌, ◌<◌, ◌≤◌, Bool, true, false, not, if◌then◌else◌, Some, List, [], ◌∷◌, ◌++◌, map, length, refl, sym, ap, ◌∙◌, subst, arith, append_assoc, length-append, eqb-true, inl, inr, ⊎_elim, None}
 use Rattle.std.specs.List.{list_any, IsDistinct, AllByRecursion}
 use Rattle.std.proofs.Math.Dec.{eqb}
-use Rattle.std.proofs.lemmas.Bool.{or_cases, or_left, false_from_ne_true, false≢true}
+use Rattle.std.proofs.lemmas.Bool.{and_from, or_cases, or_left, false_from_ne_true, false≢true}
 use Rattle.std.proofs.lemmas.List.{map-append, length-map}
 use Rattle.std.proofs.lemmas.Map.Steps.{length-le_from_distinct_below}
 use Rattle.clause_db.specs.declared.lit.Lit.{Lit}
-use Rattle.clause_db.specs.Clause.{same_lit, has_lit, pos_lit, neg_lit}
+use Rattle.clause_db.specs.Clause.{same_lit, has_lit, pos_lit, neg_lit, opposite}
 use Rattle.clause_db.specs.Clauses.{LitWithin}
 use Rattle.trail_prop.specs.Open.{is_open, value_of}
 use Rattle.trail_prop.specs.declared.entry.Entry.{Entry}
 use Rattle.trail_prop.specs.Entries.{lits_of, EachOpens}
-use Rattle.trail_prop.proofs.Known.{open-apart, has-push, has-push_new, same_lit-is}
+use Rattle.trail_prop.proofs.Known.{open-apart, has-push, has-push_new, same_lit-is, lit-parts}
 
 pub lits-push : (es : List Entry) (e : Entry) → lits_of (es ++ e ∷ []) ≡ lits_of es ++ e.lit ∷ []
 lits-push es e = map-append (λ (x : Entry). x.lit) es (e ∷ [])
@@ -91,3 +91,22 @@ no-value vars es v o n =
     let p : has_lit (lits_of es) (pos_lit v) ≡ false = false_from_ne_true (has_lit (lits_of es) (pos_lit v)) (λ h. let w = known-within vars [] es (pos_lit v) o h in n w.0 w.1) in
     let q : has_lit (lits_of es) (neg_lit v) ≡ false = false_from_ne_true (has_lit (lits_of es) (neg_lit v)) (λ h. let w = known-within vars [] es (neg_lit v) o h in n w.0 w.1) in
     rw (p, q) refl
+
+-- a variable without a value is open, either way
+pub none-opens : (known : List Lit) (l : Lit) → value_of known l.var ≡ None → is_open known l ≡ true
+none-opens known l e = parts (has_lit known (pos_lit l.var)) (has_lit known (neg_lit l.var)) refl refl e l.positive refl
+  where
+    both-unknown : has_lit known l ≡ false → has_lit known (opposite l) ≡ false → is_open known l ≡ true
+    both-unknown p q = and_from (not (has_lit known l)) (not (has_lit known (opposite l))) (ap not p) (ap not q)
+
+    parts : (a b : Bool) → has_lit known (pos_lit l.var) ≡ a → has_lit known (neg_lit l.var) ≡ b → (if a then Some true else (if b then Some false else None)) ≡ None → (s : Bool) → l.positive ≡ s → is_open known l ≡ true
+    parts true b p q e s r = cc
+    parts false true p q e s r = cc
+    parts false false p q e true r =
+        let same : l ≡ pos_lit l.var = lit-parts l (pos_lit l.var) refl r in
+        let other : opposite l ≡ neg_lit l.var = lit-parts (opposite l) (neg_lit l.var) refl (ap not r) in
+        both-unknown (ap (λ (z : Lit). has_lit known z) same ∙ p) (ap (λ (z : Lit). has_lit known z) other ∙ q)
+    parts false false p q e false r =
+        let same : l ≡ neg_lit l.var = lit-parts l (neg_lit l.var) refl r in
+        let other : opposite l ≡ pos_lit l.var = lit-parts (opposite l) (pos_lit l.var) refl (ap not r) in
+        both-unknown (ap (λ (z : Lit). has_lit known z) same ∙ q) (ap (λ (z : Lit). has_lit known z) other ∙ p)

@@ -9,7 +9,7 @@ use Rattle.clause_db.specs.Clauses.{Clauses, LitWithin, ClausesWithin}
 use Rattle.clause_db.specs.Forced.{forced_by}
 use Rattle.trail_prop.specs.declared.entry.Entry.{Entry}
 use Rattle.trail_prop.specs.Entries.{lits_of, level_of, is_decision, EachOpens}
-use Rattle.trail_prop.specs.Trails.{EntryFits, EachFits, IsTrail, HasReason, forced_at, Grows, IsCut, is_up_to, TrailHolds}
+use Rattle.trail_prop.specs.Trails.{EntryFits, EachFits, IsTrail, HasReason, forced_at, Grows, IsCut, is_up_to, TrailHolds, TrailView}
 use Rattle.trail_prop.proofs.Opening.{no-more-than-vars, room-for-one}
 use Rattle.trail_prop.proofs.Forcing.{forced-open, forced-within}
 use Rattle.std.proofs.lemmas.List.Sums.{count_by-le-length}
@@ -86,9 +86,6 @@ levels-up c before (x ∷ xs) f =
     let here : x.level ≤ level_of (before ++ x ∷ xs) = subst (λ (z : List Entry). x.level ≤ level_of z) a (omega arith) in
     let rest : All (λ (e : Entry). e.level ≤ level_of (before ++ x ∷ xs)) xs = subst (λ (z : List Entry). All (λ (e : Entry). e.level ≤ level_of z) xs) a (levels-up c (before ++ x ∷ []) xs f.1) in
     All-cons (λ (e : Entry). e.level ≤ level_of (before ++ x ∷ xs)) x xs here rest
-
-pub grows-none : (es : List Entry) → Grows es es
-grows-none es = record { more = []; follows = sym (append-nil es); forced = All-nil (λ (e : Entry). (is_decision e ≡ false) × (e.level ≡ level_of es)) }
 
 no-decisions : (level : ℕ) (es : List Entry) → All (λ (e : Entry). (is_decision e ≡ false) × (e.level ≡ level)) es → level_of es ≡ 0
 no-decisions level [] a = refl
@@ -210,3 +207,7 @@ cut-levels clauses level earlier later t l k =
           let b = f r.0 r.1 r.2 in
           omega arith
     ]
+
+-- a trail by its parts
+pub same-trail : (t : TrailView) (c : Clauses) (es : List Entry) → t.clauses ≡ c → t.entries ≡ es → t ≡ record { clauses = c; entries = es }
+same-trail t c es p q = λ i. record { clauses = p i; entries = q i }

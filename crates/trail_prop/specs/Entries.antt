@@ -1,5 +1,5 @@
 -- The entries of a trail, and the literals that they make true.
-use Rattle.std.specs.Prelude.{ℕ, ◌≡◌, ◌+◌, ◌*◌, ◌-◌, Bool, true, false, if◌then◌else◌, List, [], ◌∷◌, ◌++◌, map, count_by, is_none, slice_index_or}
+use Rattle.std.specs.Prelude.{ℕ, ◌≡◌, ◌+◌, ◌*◌, ◌-◌, ◌<◌, length, Bool, true, false, if◌then◌else◌, List, [], ◌∷◌, ◌++◌, map, count_by, is_none, slice_index_or}
 use Rattle.clause_db.specs.declared.lit.Lit.{Lit}
 use Rattle.clause_db.specs.Clause.{has_lit}
 use Rattle.clause_db.specs.Clauses.{LitWithin}
@@ -30,6 +30,17 @@ code_of l = if l.positive then 2 * (l.var - 1) else 2 * (l.var - 1) + 1
 -- a mark for each literal, which says whether it is known
 abbrev pub MarksSay : ℕ → List Bool → List Lit → Type 0
 MarksSay vars marks known = (l : Lit) → LitWithin vars l → slice_index_or marks (code_of l) false ≡ has_lit known l
+
+-- the entry at a place, and an entry of a variable
+abbrev pub IsEntry : List Entry → ℕ → Entry → Type 0
+IsEntry entries k e = (k < length entries) × (slice_index_or entries k e ≡ e)
+
+abbrev pub IsEntryOf : List Entry → ℕ → Entry → Type 0
+IsEntryOf entries var e = (k : ℕ) × IsEntry entries k e × (e.lit.var ≡ var)
+
+-- for each variable that has an entry, the entry's place
+abbrev pub AreIndexed : List ℕ → List Entry → Type 0
+AreIndexed index entries = (k : ℕ) (e : Entry) → IsEntry entries k e → slice_index_or index (e.lit.var - 1) 0 ≡ k
 
 pub record Assigned : Type 0 where
   pub vars : ℕ

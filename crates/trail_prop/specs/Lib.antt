@@ -1,5 +1,10 @@
 pub mod Entries
+pub mod Find
+pub mod Good
 pub mod Look
 pub mod Open
 pub mod Passes
+pub mod Steps
 pub mod Trails
+pub mod Turn
+pub mod Watching

@@ -4,8 +4,8 @@ use Rattle.clause_db.specs.Clause.{clause_at}
 use Rattle.clause_db.specs.Clauses.{Clauses}
 use Rattle.trail_prop.specs.Open.{IsComplete}
 use Rattle.trail_prop.specs.declared.entry.Entry.{Entry}
-use Rattle.trail_prop.specs.declared.trail.Pass.{Pass}
-use Rattle.trail_prop.specs.declared.trail.Pass.TheVariants.{Found, Quiet, Moved}
+use Rattle.trail_prop.specs.declared.plain.Pass.{Pass}
+use Rattle.trail_prop.specs.declared.plain.Pass.TheVariants.{Found, Quiet, Moved}
 use Rattle.trail_prop.specs.Entries.{lits_of}
 use Rattle.trail_prop.specs.Trails.{IsFalseAt}
 

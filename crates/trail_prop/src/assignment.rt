@@ -1,14 +1,15 @@
 //! The literals that are true, in order, and a mark for each.
 
-ghost use Rattle.std.specs.Prelude.{ℕ, ◌≡◌, ◌≢◌, ◌+◌, ◌-◌, ◌*◌, ◌^◌, ◌<◌, ◌≤◌, ◌++◌, ◌∷◌, [], length, IfOk, OnOk, OnErr, Some, None, true, false, slice_index_or};
+ghost use Rattle.std.specs.Prelude.{ℕ, ◌≡◌, ◌≢◌, ◌+◌, ◌-◌, ◌*◌, ◌^◌, ◌<◌, ◌≤◌, ◌++◌, ◌∷◌, [], length, IfOk, IfSome, OnOk, OnErr, Some, None, true, false, slice_index_or};
 ghost use Rattle.clause_db.specs.Clause.{has_lit};
 ghost use Rattle.clause_db.specs.Clauses.{LitWithin};
 ghost use Rattle.trail_prop.specs.Open.{is_open};
-ghost use Rattle.trail_prop.specs.Entries.{lits_of, code_of};
+ghost use Rattle.trail_prop.specs.declared.entry.Entry.{Entry};
+ghost use Rattle.trail_prop.specs.Entries.{lits_of, code_of, IsEntry, IsEntryOf};
 
 use crate::entry::Entry;
 use clause_db::lit::Lit;
-use std::alloc::{AllocError, Global};
+use std::alloc::{AllocError as NoMemory, Global};
 use std::marker::Model;
 
 /// The entries of a trail over variables 1 to `vars`, with room for one of each variable.
@@ -17,22 +18,23 @@ pub struct Assignment {
     vars: u32,
     entries: Vec<Entry>,
     marks: Vec<bool>,
+    index: Vec<u32>,
 }
 
 impl Model for Assignment {
     ghost use Rattle.std.specs.Prelude.{◌≡◌, ◌<◌, ◌≤◌, ◌*◌, ◌^◌, [], length};
     ghost use Rattle.std.specs.Vec.{vec_capacity};
-    ghost use Rattle.trail_prop.specs.Entries.{Assigned, EachOpens, MarksSay, lits_of};
+    ghost use Rattle.trail_prop.specs.Entries.{Assigned, AreIndexed, EachOpens, MarksSay, lits_of};
 
     ghost Value = { Assigned };
 
     ghost view = { λ a. record { vars = a.vars; entries = a.entries.items } };
 
-    ghost invariant = { λ a. record { opens : EachOpens a.vars [] a.entries.items; marked : MarksSay a.vars a.marks.items (lits_of a.entries.items); size : length a.marks.items ≡ 2 * a.vars; room : a.vars ≤ vec_capacity a.entries; small : a.vars < 2 ^ 32 } };
+    ghost invariant = { λ a. record { opens : EachOpens a.vars [] a.entries.items; marked : MarksSay a.vars a.marks.items (lits_of a.entries.items); size : length a.marks.items ≡ 2 * a.vars; room : a.vars ≤ vec_capacity a.entries; small : a.vars < 2 ^ 32; indexed : AreIndexed a.index.items a.entries.items; places : length a.index.items ≡ a.vars } };
 }
 
-/// The place of a literal's mark.
-fn code(lit: Lit) -> usize
+/// The place of a literal's mark, or of its watches: two places for each variable.
+pub fn code(lit: Lit) -> usize
     requires from_one { 1 ≤ lit.var }
     requires small { lit.var < 2 ^ 32 }
     ensures { result ≡ code_of lit }
@@ -43,7 +45,7 @@ fn code(lit: Lit) -> usize
 
 impl Assignment {
     /// No entry.
-    pub fn new(alloc: Global, vars: u32) -> Result<Assignment, AllocError>
+    pub fn new(alloc: Global, vars: u32) -> Result<Assignment, NoMemory>
         ensures { IfOk result (λ a. a ≡ record { vars = vars; entries = [] }) }
     {
         let entries = Vec::with_capacity(alloc, vars as usize)?;
@@ -51,10 +53,15 @@ impl Assignment {
         for _ in 0..2 * vars as usize {
             marks.push(false)?;
         }
+        let mut index = Vec::with_capacity(alloc, vars as usize)?;
+        for _ in 0..vars {
+            index.push(0)?;
+        }
         Ok(Assignment {
             vars,
             entries,
             marks,
+            index,
         })
     }
 
@@ -80,6 +87,24 @@ impl Assignment {
         self.marks[code(lit)]
     }
 
+    /// The entry of a variable, if it has one.
+    pub fn entry_of(&self, var: u64) -> Option<Entry>
+        requires from_one { 1 ≤ var }
+        requires to_vars { var ≤ self.now.vars }
+        ensures found { IfSome result (λ e. IsEntryOf self.now.entries var e) }
+        ensures only { (k : ℕ) (e : Entry) → IsEntry self.now.entries k e → e.lit.var ≡ var → result ≡ Some e }
+    {
+        let at = self.index[(var - 1) as usize] as usize;
+        if at >= self.entries.len() {
+            return None;
+        }
+        let entry = self.entries[at];
+        if entry.lit.var != var {
+            return None;
+        }
+        Some(entry)
+    }
+
     /// Puts an entry of an open variable after the last.
     pub fn push(&mut self, entry: Entry)
         requires within { LitWithin self.old.vars entry.lit }
@@ -87,6 +112,7 @@ impl Assignment {
         ensures { self.new ≡ record { vars = self.old.vars; entries = self.old.entries ++ entry ∷ [] } }
     {
         self.marks[code(entry.lit)] = true;
+        self.index[(entry.lit.var - 1) as usize] = self.entries.len() as u32;
         match self.entries.push(entry) {
             Ok(()) => {}
             Err(_) => unreachable!(),

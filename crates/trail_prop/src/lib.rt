@@ -3,5 +3,18 @@
 
 pub mod assignment;
 pub mod entry;
+pub mod good;
 pub mod look;
+pub mod plain;
+pub mod propagate;
+#[cfg(test)]
+mod random_tests;
+#[cfg(test)]
+mod samples;
+#[cfg(test)]
+mod tests;
 pub mod trail;
+pub mod turn;
+pub mod watches;
+pub mod watching;
+pub mod within;

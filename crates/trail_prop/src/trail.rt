@@ -1,244 +1,117 @@
 //! The trail: decisions, and the literals that clauses force.
 
-ghost use Rattle.std.specs.Prelude.{ℕ, ◌≡◌, ◌+◌, ◌-◌, ◌<◌, ◌≤◌, ◌++◌, ◌∷◌, [], length, filter, IfOk, IfSome, IfNone, OnOk, OnErr, Some, None, true, false};
+ghost use Rattle.std.specs.Prelude.{ℕ, ◌≡◌, ◌+◌, ◌≤◌, ◌++◌, ◌∷◌, [], filter, IfOk, IfSome, IfNone, OnOk, OnErr, None};
 ghost use Rattle.clause_db.specs.Clause.{clause_at};
 ghost use Rattle.clause_db.specs.Clauses.{LitWithin, ClausesWithin};
-ghost use Rattle.trail_prop.specs.Open.{LitsWithin, is_open, value_of, IsComplete};
 ghost use Rattle.trail_prop.specs.Entries.{lits_of, level_of};
-ghost use Rattle.trail_prop.specs.Trails.{IsTrail, IsFalseAt, Grows, forced_at, is_up_to, AboveIs, IsCut};
-ghost use Rattle.trail_prop.specs.Passes.{PassIs};
+ghost use Rattle.trail_prop.specs.Open.{LitsWithin, value_of, IsComplete};
+ghost use Rattle.trail_prop.specs.Trails.{IsTrail, IsFalseAt, Grows, is_up_to};
 
-use crate::assignment::Assignment;
 use crate::entry::{Conflict, Entry};
-use crate::look::{Look, look_at};
+use crate::propagate::propagate;
+use crate::watching::Watching;
 use clause_db::list::ClauseList;
 use clause_db::lit::Lit;
-use std::alloc::{AllocError, Global};
+use std::alloc::{AllocError as NoMemory, Global};
 use std::marker::Model;
 
-/// Clauses, and the literals that are true by decisions and by them, in order.
+/// Clauses over variables 1 to `vars`, and the literals that are true by decisions and by the clauses, in order. Each
+/// clause watches two of its literals, so that propagation looks at the clauses of those that became false alone.
 #[derive(Drop)]
 pub struct Trail {
-    clauses: ClauseList,
-    assigned: Assignment,
-    level: u32,
+    watching: Watching,
 }
 
 impl Model for Trail {
-    ghost use Rattle.trail_prop.specs.Trails.{TrailView, TrailHolds};
+    ghost use Rattle.trail_prop.specs.Trails.{TrailView};
 
     ghost Value = { TrailView };
 
-    ghost view = { λ t. record { clauses = t.clauses; entries = t.assigned.entries } };
-
-    ghost invariant = { λ t. TrailHolds t.clauses t.assigned.vars t.assigned.entries t.level };
-}
-
-/// What one pass over the clauses found.
-#[derive(Clone, Copy, Debug, PartialEq, Eq)]
-enum Pass {
-    Found(Conflict),
-    Quiet,
-    Moved,
-}
-
-/// Whether the last entry is above a level.
-fn is_above(assigned: &Assignment, level: u32) -> bool
-    ensures { AboveIs level assigned.now.entries result }
-{
-    let entries = assigned.entries();
-    let count = entries.len();
-    if count == 0 {
-        false
-    } else {
-        level < entries[count - 1].level
-    }
-}
-
-/// Takes away the last entries while they are above a level.
-fn cut_above(assigned: &mut Assignment, level: u32)
-    ensures vars { assigned.new.vars ≡ assigned.old.vars }
-    ensures cut { IsCut level assigned.old.entries assigned.new.entries }
-{
-    while is_above(assigned, level) {
-        let _last = assigned.pop();
-    }
+    ghost view = { λ t. t.watching.trail };
 }
 
 impl Trail {
-    /// No entry yet.
-    pub fn new(alloc: Global, clauses: ClauseList) -> Result<Trail, AllocError>
+    /// The trail of these clauses without an entry; an error where there is no memory. It takes time and room for each
+    /// variable and clause; the first propagation looks at each clause once.
+    pub fn new(alloc: Global, clauses: ClauseList) -> Result<Trail, NoMemory>
         requires { ClausesWithin clauses.vars clauses.list }
         ensures { IfOk result (λ t. t ≡ record { clauses = clauses; entries = [] }) }
     {
-        let assigned = Assignment::new(alloc, clauses.vars())?;
-        Ok(Trail {
-            clauses,
-            assigned,
-            level: 0,
-        })
+        let watching = Watching::new(alloc, clauses)?;
+        Ok(Trail { watching })
     }
 
-    /// The clauses given and added.
+    /// The clauses given and added, numbered from 1.
     pub fn clauses(&self) -> &ClauseList
-        ensures { result.now ≡ self.now.clauses }
+        ensures clauses { result.now ≡ self.now.clauses }
+        ensures within { ClausesWithin self.now.clauses.vars self.now.clauses.list }
     {
-        &self.clauses
+        self.watching.plain().clauses()
     }
 
-    /// The entries in order.
+    /// The entries in order: each with the number of decisions up to it, and the number of the clause that forced it by
+    /// the entries before.
     pub fn entries(&self) -> &[Entry]
         ensures entries { result.now ≡ self.now.entries }
         ensures trail { IsTrail self.now.clauses self.now.entries }
     {
-        self.assigned.entries()
+        self.watching.plain().entries()
     }
 
     /// The number of decisions.
     pub fn level(&self) -> u32
         ensures { result ≡ level_of self.now.entries }
     {
-        self.level
+        self.watching.plain().level()
     }
 
-    /// What is known of a variable.
+    /// Whether a variable is true or false, if that is known; none of a number that is no variable. It is one look into
+    /// an array.
     pub fn value(&self, var: u64) -> Option<bool>
         ensures { result ≡ value_of (lits_of self.now.entries) var }
     {
-        if var == 0 || var > self.assigned.vars() as u64 {
-            return None;
-        }
-        let yes = Lit {
-            var,
-            positive: true,
-        };
-        let no = Lit {
-            var,
-            positive: false,
-        };
-        if self.assigned.is_true(yes) {
-            Some(true)
-        } else if self.assigned.is_true(no) {
-            Some(false)
-        } else {
-            None
-        }
+        self.watching.plain().value(var)
     }
 
-    /// Puts a clause after the last.
-    pub fn add(&mut self, clause: &[Lit]) -> Result<(), AllocError>
+    /// Puts a clause after the last. The next propagation looks at it. Where there is no memory for it, the trail stays
+    /// as it was.
+    pub fn add(&mut self, clause: &[Lit]) -> Result<(), NoMemory>
         requires { LitsWithin self.old.clauses.vars clause.now }
         ensures added { OnOk result (self.new ≡ record { clauses = record { vars = self.old.clauses.vars; list = self.old.clauses.list ++ clause.now ∷ [] }; entries = self.old.entries }) }
         ensures unchanged { OnErr result (self.new ≡ self.old) }
     {
-        self.clauses.add(clause)?;
-        Ok(())
+        self.watching.add(clause)
     }
 
-    /// Opens a level with an open literal.
+    /// Opens a level with a literal whose variable has no value. It takes no memory.
     pub fn decide(&mut self, lit: Lit)
         requires within { LitWithin self.old.clauses.vars lit }
-        requires opens { is_open (lits_of self.old.entries) lit ≡ true }
+        requires opens { value_of (lits_of self.old.entries) lit.var ≡ None }
         ensures { self.new ≡ record { clauses = self.old.clauses; entries = self.old.entries ++ record { lit = lit; level = level_of self.old.entries + 1; reason = None } ∷ [] } }
     {
-        self.level += 1;
-        self.assigned.push(Entry {
-            lit,
-            level: self.level,
-            reason: None,
-        });
+        self.watching.decide(lit);
     }
 
-    /// Puts a literal after the last that a clause forces.
-    fn force(&mut self, lit: Lit, clause: u64)
-        requires { forced_at (lits_of self.old.entries) (clause_at self.old.clauses.list clause) ≡ Some lit }
-        ensures pushed { self.new ≡ record { clauses = self.old.clauses; entries = self.old.entries ++ record { lit = lit; level = level_of self.old.entries; reason = Some clause } ∷ [] } }
-        ensures room { length self.new.entries ≤ self.new.clauses.vars }
-    {
-        self.assigned.push(Entry {
-            lit,
-            level: self.level,
-            reason: Some(clause),
-        });
-    }
-
-    /// Looks once at each clause.
-    fn pass(&mut self) -> Pass
-        ensures clauses { self.new.clauses ≡ self.old.clauses }
-        ensures grows { Grows self.old.entries self.new.entries }
-        ensures found { PassIs self.new.clauses self.old.entries self.new.entries result }
-    {
-        let mut moved = false;
-        for at in 0..self.clauses.len() {
-            match look_at(&self.assigned, self.clauses.get(at + 1)) {
-                Look::False => {
-                    return Pass::Found(Conflict { clause: at + 1 });
-                }
-                Look::Forces(lit) => {
-                    self.force(lit, at + 1);
-                    moved = true;
-                }
-                Look::Settled => {}
-            }
-        }
-        if moved { Pass::Moved } else { Pass::Quiet }
-    }
-
-    /// Puts every literal on the trail that a clause forces, until a clause is false or none forces any more.
-    pub fn propagate(&mut self) -> Result<Option<Conflict>, AllocError>
+    /// Puts every literal on the trail that a clause forces, each of the present level, until a clause is false or none
+    /// forces any more. The answer is a false clause; none, where no clause is false, and none has all its literals
+    /// false but one whose variable has no value; or an error where there is no memory, after which it may be called
+    /// again, and goes on.
+    pub fn propagate(&mut self) -> Result<Option<Conflict>, NoMemory>
         ensures clauses { self.new.clauses ≡ self.old.clauses }
         ensures grows { Grows self.old.entries self.new.entries }
         ensures conflict { IfOk result (λ r. IfSome r (λ c. IsFalseAt (lits_of self.new.entries) (clause_at self.new.clauses.list c.clause))) }
         ensures complete { IfOk result (λ r. IfNone r (IsComplete self.new.clauses.list (lits_of self.new.entries))) }
     {
-        loop {
-            match self.pass() {
-                Pass::Found(conflict) => return Ok(Some(conflict)),
-                Pass::Quiet => return Ok(None),
-                Pass::Moved => {}
-            }
-        }
+        propagate(&mut self.watching)
     }
 
-    /// Takes away the entries above a level.
+    /// Takes away the entries above a level. It takes no memory, and time for each that is taken away.
     pub fn backjump(&mut self, level: u32)
         requires { level ≤ level_of self.old.entries }
         ensures clauses { self.new.clauses ≡ self.old.clauses }
         ensures kept { self.new.entries ≡ filter (is_up_to level) self.old.entries }
         ensures level { level_of self.new.entries ≡ level }
     {
-        cut_above(&mut self.assigned, level);
-        self.level = level;
-    }
-}
-
-#[cfg(test)]
-mod tests {
-    use super::*;
-    use std::test::Fail;
-
-    fn lit(var: u64, positive: bool) -> Lit
-        ensures { result ≡ record { var = var; positive = positive } }
-    {
-        Lit { var, positive }
-    }
-
-    #[test]
-    fn a_conflict_and_a_way_on(rt: HostRuntime) -> Result<(), Fail> {
-        let mut clauses = ClauseList::new(rt.alloc(), 2);
-        clauses.add(&[lit(1, false), lit(2, true)])?;
-        clauses.add(&[lit(1, false), lit(2, false)])?;
-        let mut trail = Trail::new(rt.alloc(), clauses)?;
-        trail.decide(lit(1, true));
-        let found = trail.propagate()?;
-        assert_eq!(rt; found, Some(Conflict { clause: 2 }));
-        assert_eq!(rt; trail.level(), 1);
-        trail.backjump(0);
-        trail.add(&[lit(1, false)])?;
-        assert_eq!(rt; trail.propagate()?, None);
-        assert_eq!(rt; trail.value(1), Some(false));
-        assert_eq!(rt; trail.value(2), None);
-        assert_eq!(rt; trail.value(9), None);
-        Ok(())
+        self.watching.backjump(level);
     }
 }

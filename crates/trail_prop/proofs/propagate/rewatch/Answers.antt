@@ -1,0 +1,43 @@
+use Rattle.std.proofs.Common.{◌≡◌, List, length, get_or, sym, ap, ◌∙◌, subst, arith}
+use Rattle.clause_db.specs.Clauses.{LitWithin}
+use Rattle.trail_prop.specs.declared.watches.Watch.{Watch}
+use Rattle.trail_prop.specs.Watching.{WatchView, watches_at}
+use Rattle.trail_prop.proofs.Minding.{code-listed}
+use Rattle.trail_prop.proofs.Meeting.{same-watch, held-shrunk, moved-apart, hung-gone, hung-held, hung-new}
+use Rattle.trail_prop.proofs.propagate.rewatch.Goals as goal
+
+pub blocked_by-requires-clause-from_one : goal.blocked_by-requires-clause-from_one
+blocked_by-requires-clause-from_one c = c.requires.other.0
+
+pub blocked_by-requires-clause-small : goal.blocked_by-requires-clause-small
+blocked_by-requires-clause-small c =
+    let w = c.requires.other.1 in
+    let s = c.requires.watchful.small in
+    omega arith
+
+pub hang-requires-clause-within : goal.hang-requires-clause-within
+hang-requires-clause-within c = c.requires.lit
+
+pub leave-requires-clause-watch : goal.leave-requires-clause-watch
+leave-requires-clause-watch c =
+    let v = c.args.watching.now in
+    let apart = moved-apart v.trail.clauses.vars v.trail.entries _ _ c.args.gone c.args.moved c.requires.within c.requires.lit c.requires.gone c.requires.moved in
+    let same = hung-gone v c.hang.new.self c.args.moved.lit c.args.gone _ c.in_ok-hang.ensures.hung apart in
+    subst (λ (z : List Watch). (d : Watch) → (get_or z c.args.at d).clause ≡ c.args.watch.clause) (sym same) (same-watch (watches_at v.lists c.args.gone) c.args.at c.args.watch c.requires.place c.requires.watch)
+
+pub leave-requires-clause-lit : goal.leave-requires-clause-lit
+leave-requires-clause-lit c = subst (λ (h : WatchView). LitWithin h.trail.clauses.vars c.args.moved.lit) (sym c.in_ok-hang.ensures.hung) c.requires.lit
+
+pub leave-requires-clause-other : goal.leave-requires-clause-other
+leave-requires-clause-other c = subst (λ (h : WatchView). LitWithin h.trail.clauses.vars c.args.moved.other) (sym c.in_ok-hang.ensures.hung) c.requires.other
+
+pub leave-requires-clause-hung : goal.leave-requires-clause-hung
+leave-requires-clause-hung c = hung-new c.args.watching.now c.hang.new.self c.args.moved.lit c.blocked_by.result c.args.watch.clause (code-listed c.args.watching.now c.args.moved.lit c.requires.watchful c.requires.lit) c.in_ok-hang.ensures.hung c.blocked_by.ensures.same.0
+
+pub returns-clause-met : goal.returns-clause-met
+returns-clause-met c =
+    let v = c.args.watching.now in
+    let apart = moved-apart v.trail.clauses.vars v.trail.entries _ _ c.args.gone c.args.moved c.requires.within c.requires.lit c.requires.gone c.requires.moved in
+    let same = hung-gone v c.hang.new.self c.args.moved.lit c.args.gone _ c.in_ok-hang.ensures.hung apart in
+    let held = hung-held v c.hang.new.self c.args.moved.lit c.args.gone c.args.at _ c.in_ok-hang.ensures.hung apart c.requires.held in
+    (held-shrunk c.hang.new.self c.leave.new.self c.args.gone c.args.at c.leave.ensures held, c.leave.ensures.left ∙ ap (λ (z : List Watch). length z) same)

@@ -1,0 +1,44 @@
+-- What a clause does when one of its watched literals becomes false.
+use Rattle.std.specs.Prelude.{ℕ, ◌≡◌, ◌≢◌, ◌<◌, ◌⊎◌, true, false, List, length, Option, Some, None}
+use Rattle.clause_db.specs.declared.lit.Lit.{Lit}
+use Rattle.clause_db.specs.Clause.{opposite, has_lit}
+use Rattle.clause_db.specs.Forced.{is_false_clause, forced_by}
+use Rattle.trail_prop.specs.declared.turn.Places.{Places}
+use Rattle.trail_prop.specs.declared.turn.Sides.{Sides}
+use Rattle.trail_prop.specs.declared.turn.Moved.{Moved}
+use Rattle.trail_prop.specs.declared.turn.Turn.{Turn}
+use Rattle.trail_prop.specs.declared.turn.Turn.TheVariants.{Holds, Moves, Leaves, Lost}
+use Rattle.trail_prop.specs.Open.{is_open}
+use Rattle.trail_prop.specs.Watching.{lit_at}
+
+-- the place is one of the two
+abbrev pub IsOneOf : ℕ → Places → Type 0
+IsOneOf i p = (i ≡ p.first) ⊎ (i ≡ p.second)
+
+-- two places of the clause, the first of which has the literal
+abbrev pub SidesAre : List Lit → Places → Lit → Option Sides → Type 0
+SidesAre clause p gone None = Unit {0}
+SidesAre clause p gone (Some s) = (s.mine < length clause) × (s.other < length clause) × (lit_at clause s.mine ≡ gone) × IsOneOf s.other p
+
+-- all literals of the clause but this are false: it is false where that is false, and forces that where it is open
+pub record LeavesOnly (known clause : List Lit) (l : Lit) : Type 0 where
+  pub has : has_lit clause l ≡ true
+  pub fails : has_lit known (opposite l) ≡ true → is_false_clause known clause ≡ true
+  pub forces : is_open known l ≡ true → forced_by known clause ≡ Some l
+
+-- the clause may watch the new place, whose literal is not false, and goes on watching one of the old
+pub record IsMove (known clause : List Lit) (p : Places) (gone : Lit) (m : Moved) : Type 0 where
+  pub new_within : m.places.first < length clause
+  pub old_within : m.places.second < length clause
+  pub lit : m.lit ≡ lit_at clause m.places.first
+  pub other : m.other ≡ lit_at clause m.places.second
+  pub apart : m.lit ≢ m.other
+  pub stays : m.other ≢ gone
+  pub old : IsOneOf m.places.second p
+  pub not_false : has_lit known (opposite m.lit) ≡ false
+
+abbrev pub TurnIs : List Lit → List Lit → Places → Lit → Turn → Type 0
+TurnIs known clause p gone (Holds l) = (has_lit clause l ≡ true) × (has_lit known l ≡ true)
+TurnIs known clause p gone (Moves m) = IsMove known clause p gone m
+TurnIs known clause p gone (Leaves l) = LeavesOnly known clause l × (has_lit known l ≡ false)
+TurnIs known clause p gone Lost = Unit {0}

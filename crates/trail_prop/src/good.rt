@@ -1,0 +1,66 @@
+//! Where a clause can be watched.
+
+ghost use Rattle.std.specs.Prelude.{Option, ◌≡◌, ◌<◌, length, true, IfSome, None, Some};
+ghost use Rattle.clause_db.specs.Clauses.{LitWithin};
+ghost use Rattle.trail_prop.specs.Entries.{lits_of};
+ghost use Rattle.trail_prop.specs.Good.{IsGood, IsGoodPlace, AreGood};
+ghost use Rattle.trail_prop.specs.Open.{LitsWithin};
+ghost use Rattle.trail_prop.specs.Watching.{HasTrue};
+
+use crate::assignment::Assignment;
+use crate::plain::PlainTrail;
+use crate::turn::Places;
+use clause_db::lit::Lit;
+
+/// Whether some literal of the clause is true.
+pub fn has_true(assigned: &Assignment, clause: &[Lit]) -> bool
+    requires { LitsWithin assigned.now.vars clause.now }
+    ensures { result ≡ true → HasTrue (lits_of assigned.now.entries) clause.now }
+{
+    for lit in clause {
+        if assigned.is_true(*lit) {
+            return true;
+        }
+    }
+    false
+}
+
+// Whether a clause may watch the literal: it is not false, or became so at the present level where the clause has a
+// true literal.
+fn is_good(plain: &PlainTrail, lit: Lit, holds: bool) -> bool
+    requires { LitWithin plain.now.clauses.vars lit }
+    ensures { result ≡ true → IsGood plain.now.entries holds lit }
+{
+    if !plain.assigned().is_true(lit.opposite()) {
+        return true;
+    }
+    match plain.assigned().entry_of(lit.var) {
+        Some(entry) => holds && entry.level == plain.level(),
+        None => false,
+    }
+}
+
+// A place of the clause that may be watched beside this literal.
+fn good_place(plain: &PlainTrail, clause: &[Lit], holds: bool, beside: Option<Lit>) -> Option<usize>
+    requires { LitsWithin plain.now.clauses.vars clause.now }
+    ensures { IfSome result (λ at. IsGoodPlace plain.now.entries holds clause.now beside at) }
+{
+    for (at, lit) in clause.iter().enumerate() {
+        if Some(*lit) == beside || !is_good(plain, *lit, holds) {
+            continue;
+        }
+        return Some(at);
+    }
+    None
+}
+
+/// Two places of the clause that may be watched.
+pub fn good_places(plain: &PlainTrail, clause: &[Lit]) -> Option<Places>
+    requires { LitsWithin plain.now.clauses.vars clause.now }
+    ensures { IfSome result (AreGood plain.now.entries clause.now) }
+{
+    let holds = has_true(plain.assigned(), clause);
+    let first = good_place(plain, clause, holds, None)?;
+    let second = good_place(plain, clause, holds, Some(clause[first]))?;
+    Some(Places { first, second })
+}

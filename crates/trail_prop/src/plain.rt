@@ -1,0 +1,225 @@
+//! A trail that looks at all its clauses to propagate.
+
+ghost use Rattle.std.specs.Prelude.{ℕ, ◌≡◌, ◌+◌, ◌-◌, ◌<◌, ◌≤◌, ◌++◌, ◌∷◌, [], length, filter, IfOk, IfSome, IfNone, OnOk, OnErr, Some, None, true, false};
+ghost use Rattle.std.specs.List.{All};
+ghost use Rattle.clause_db.specs.Clause.{clause_at};
+ghost use Rattle.clause_db.specs.Clauses.{LitWithin, ClausesWithin};
+ghost use Rattle.trail_prop.specs.Open.{LitsWithin, value_of, IsComplete};
+ghost use Rattle.trail_prop.specs.declared.entry.Entry.{Entry};
+ghost use Rattle.trail_prop.specs.Entries.{lits_of, level_of};
+ghost use Rattle.trail_prop.specs.Trails.{IsTrail, IsFalseAt, Grows, forced_at, is_up_to, AboveIs, IsCut};
+ghost use Rattle.trail_prop.specs.Passes.{PassIs};
+
+use crate::assignment::Assignment;
+use crate::entry::{Conflict, Entry};
+use crate::look::{Look, look_at};
+use clause_db::list::ClauseList;
+use clause_db::lit::Lit;
+use std::alloc::{AllocError as NoMemory, Global};
+use std::marker::Model;
+
+/// Clauses, and the literals that are true by decisions and by them, in order.
+#[derive(Drop)]
+pub struct PlainTrail {
+    clauses: ClauseList,
+    assigned: Assignment,
+    level: u32,
+}
+
+impl Model for PlainTrail {
+    ghost use Rattle.trail_prop.specs.Trails.{TrailView, TrailHolds};
+
+    ghost Value = { TrailView };
+
+    ghost view = { λ t. record { clauses = t.clauses; entries = t.assigned.entries } };
+
+    ghost invariant = { λ t. TrailHolds t.clauses t.assigned.vars t.assigned.entries t.level };
+}
+
+/// What a part of propagation found: a false clause; that none is false and none forces; or that there is more to do.
+#[derive(Clone, Copy, Debug, PartialEq, Eq)]
+pub enum Pass {
+    Found(Conflict),
+    Quiet,
+    Moved,
+}
+
+/// Whether the last entry is above a level.
+fn is_above(assigned: &Assignment, level: u32) -> bool
+    ensures { AboveIs level assigned.now.entries result }
+{
+    let entries = assigned.entries();
+    let count = entries.len();
+    if count == 0 {
+        false
+    } else {
+        level < entries[count - 1].level
+    }
+}
+
+/// Takes away the last entries while they are above a level.
+fn cut_above(assigned: &mut Assignment, level: u32)
+    ensures vars { assigned.new.vars ≡ assigned.old.vars }
+    ensures cut { IsCut level assigned.old.entries assigned.new.entries }
+{
+    while is_above(assigned, level) {
+        let _last = assigned.pop();
+    }
+}
+
+impl PlainTrail {
+    /// No entry yet.
+    pub fn new(alloc: Global, clauses: ClauseList) -> Result<PlainTrail, NoMemory>
+        requires { ClausesWithin clauses.vars clauses.list }
+        ensures { IfOk result (λ t. t ≡ record { clauses = clauses; entries = [] }) }
+    {
+        let assigned = Assignment::new(alloc, clauses.vars())?;
+        Ok(PlainTrail {
+            clauses,
+            assigned,
+            level: 0,
+        })
+    }
+
+    /// The clauses given and added.
+    pub fn clauses(&self) -> &ClauseList
+        ensures clauses { result.now ≡ self.now.clauses }
+        ensures within { ClausesWithin self.now.clauses.vars self.now.clauses.list }
+    {
+        &self.clauses
+    }
+
+    /// The literals that are true.
+    pub fn assigned(&self) -> &Assignment
+        ensures { result.now ≡ record { vars = self.now.clauses.vars; entries = self.now.entries } }
+    {
+        &self.assigned
+    }
+
+    /// The entries in order.
+    pub fn entries(&self) -> &[Entry]
+        ensures entries { result.now ≡ self.now.entries }
+        ensures trail { IsTrail self.now.clauses self.now.entries }
+    {
+        self.assigned.entries()
+    }
+
+    /// The number of decisions.
+    pub fn level(&self) -> u32
+        ensures level { result ≡ level_of self.now.entries }
+        ensures top { All (λ (e : Entry). e.level ≤ level_of self.now.entries) self.now.entries }
+    {
+        self.level
+    }
+
+    /// What is known of a variable.
+    pub fn value(&self, var: u64) -> Option<bool>
+        ensures { result ≡ value_of (lits_of self.now.entries) var }
+    {
+        if var == 0 || var > self.assigned.vars() as u64 {
+            return None;
+        }
+        let yes = Lit {
+            var,
+            positive: true,
+        };
+        let no = Lit {
+            var,
+            positive: false,
+        };
+        if self.assigned.is_true(yes) {
+            Some(true)
+        } else if self.assigned.is_true(no) {
+            Some(false)
+        } else {
+            None
+        }
+    }
+
+    /// Puts a clause after the last.
+    pub fn add(&mut self, clause: &[Lit]) -> Result<(), NoMemory>
+        requires { LitsWithin self.old.clauses.vars clause.now }
+        ensures added { OnOk result (self.new ≡ record { clauses = record { vars = self.old.clauses.vars; list = self.old.clauses.list ++ clause.now ∷ [] }; entries = self.old.entries }) }
+        ensures unchanged { OnErr result (self.new ≡ self.old) }
+    {
+        self.clauses.add(clause)?;
+        Ok(())
+    }
+
+    /// Opens a level with an open literal.
+    pub fn decide(&mut self, lit: Lit)
+        requires within { LitWithin self.old.clauses.vars lit }
+        requires opens { value_of (lits_of self.old.entries) lit.var ≡ None }
+        ensures { self.new ≡ record { clauses = self.old.clauses; entries = self.old.entries ++ record { lit = lit; level = level_of self.old.entries + 1; reason = None } ∷ [] } }
+    {
+        self.level += 1;
+        self.assigned.push(Entry {
+            lit,
+            level: self.level,
+            reason: None,
+        });
+    }
+
+    /// Puts a literal after the last that a clause forces.
+    pub fn force(&mut self, lit: Lit, clause: u64)
+        requires { forced_at (lits_of self.old.entries) (clause_at self.old.clauses.list clause) ≡ Some lit }
+        ensures pushed { self.new ≡ record { clauses = self.old.clauses; entries = self.old.entries ++ record { lit = lit; level = level_of self.old.entries; reason = Some clause } ∷ [] } }
+        ensures room { length self.new.entries ≤ self.new.clauses.vars }
+    {
+        self.assigned.push(Entry {
+            lit,
+            level: self.level,
+            reason: Some(clause),
+        });
+    }
+
+    /// Looks once at each clause.
+    fn pass(&mut self) -> Pass
+        ensures clauses { self.new.clauses ≡ self.old.clauses }
+        ensures grows { Grows self.old.entries self.new.entries }
+        ensures found { PassIs self.new.clauses self.old.entries self.new.entries result }
+    {
+        let mut moved = false;
+        for at in 0..self.clauses.len() {
+            match look_at(&self.assigned, self.clauses.get(at + 1)) {
+                Look::False => {
+                    return Pass::Found(Conflict { clause: at + 1 });
+                }
+                Look::Forces(lit) => {
+                    self.force(lit, at + 1);
+                    moved = true;
+                }
+                Look::Settled => {}
+            }
+        }
+        if moved { Pass::Moved } else { Pass::Quiet }
+    }
+
+    /// Puts every literal on the trail that a clause forces, until a clause is false or none forces any more.
+    pub fn propagate(&mut self) -> Option<Conflict>
+        ensures clauses { self.new.clauses ≡ self.old.clauses }
+        ensures grows { Grows self.old.entries self.new.entries }
+        ensures conflict { IfSome result (λ c. IsFalseAt (lits_of self.new.entries) (clause_at self.new.clauses.list c.clause)) }
+        ensures complete { IfNone result (IsComplete self.new.clauses.list (lits_of self.new.entries)) }
+    {
+        loop {
+            match self.pass() {
+                Pass::Found(conflict) => return Some(conflict),
+                Pass::Quiet => return None,
+                Pass::Moved => {}
+            }
+        }
+    }
+
+    /// Takes away the entries above a level.
+    pub fn backjump(&mut self, level: u32)
+        requires { level ≤ level_of self.old.entries }
+        ensures clauses { self.new.clauses ≡ self.old.clauses }
+        ensures kept { self.new.entries ≡ filter (is_up_to level) self.old.entries }
+        ensures level { level_of self.new.entries ≡ level }
+        ensures cut { IsCut level self.old.entries self.new.entries }
+    {
+        cut_above(&mut self.assigned, level);
+        self.level = level;
+    }
+}

@@ -1,0 +1,323 @@
+//! Propagation over watched clauses.
+
+ghost use Rattle.std.specs.Prelude.{ℕ, ◌≡◌, ◌+◌, ◌-◌, ◌*◌, ◌<◌, ◌≤◌, ◌++◌, ◌∷◌, [], length, if◌then◌else◌, IfOk, IfSome, IfNone, OnOk, OnErr, Some, None, true, false, slice_index_or, slice_set};
+ghost use Rattle.clause_db.specs.Clause.{clause_at, opposite, has_lit};
+ghost use Rattle.clause_db.specs.Clauses.{LitWithin};
+ghost use Rattle.trail_prop.specs.declared.watches.Watch.{Watch};
+ghost use Rattle.trail_prop.specs.Entries.{lits_of, level_of};
+ghost use Rattle.trail_prop.specs.Open.{IsComplete};
+ghost use Rattle.trail_prop.specs.Trails.{IsFalseAt, Grows};
+ghost use Rattle.trail_prop.specs.Turn.{IsMove, LeavesOnly};
+ghost use Rattle.trail_prop.specs.Good.{AreGood};
+ghost use Rattle.trail_prop.specs.Watching.{IsWatchful, WatchFits, watches_at, clause_of, places_of, StandsAt};
+ghost use Rattle.trail_prop.specs.Steps.{AreHeld, MetIs, StepIs};
+
+use crate::entry::Conflict;
+use crate::good::{good_places, has_true};
+use crate::look::{Look, look_at};
+use crate::plain::Pass;
+use crate::turn::{Moved, Places, Turn, turn_of};
+use crate::watches::Watch;
+use crate::watching::Watching;
+use clause_db::lit::Lit;
+use std::alloc::AllocError as NoMemory;
+
+/// What became of a watch in the list of a literal that is false now.
+#[derive(Clone, Copy, Debug, PartialEq, Eq)]
+pub enum Met {
+    False(Conflict),
+    Stays,
+    Leaves,
+}
+
+/// Puts every literal on the trail that a clause forces, until a clause is false or none forces any more.
+pub fn propagate(watching: &mut Watching) -> Result<Option<Conflict>, NoMemory>
+    ensures clauses { watching.new.trail.clauses ≡ watching.old.trail.clauses }
+    ensures grows { Grows watching.old.trail.entries watching.new.trail.entries }
+    ensures conflict { IfOk result (λ r. IfSome r (λ c. IsFalseAt (lits_of watching.new.trail.entries) (clause_at watching.new.trail.clauses.list c.clause))) }
+    ensures complete { IfOk result (λ r. IfNone r (IsComplete watching.new.trail.clauses.list (lits_of watching.new.trail.entries))) }
+{
+    loop {
+        match step(watching)? {
+            Pass::Found(conflict) => return Ok(Some(conflict)),
+            Pass::Quiet => return Ok(None),
+            Pass::Moved => {}
+        }
+    }
+}
+
+// Propagates the entry at the head, or looks at the clauses that wait. Where the entry is not of the last level, which
+// is where a decision came before propagation was complete, looks at all clauses.
+fn step(watching: &mut Watching) -> Result<Pass, NoMemory>
+    ensures clauses { watching.new.trail.clauses ≡ watching.old.trail.clauses }
+    ensures grows { Grows watching.old.trail.entries watching.new.trail.entries }
+    ensures step { IfOk result (StepIs watching.old watching.new) }
+{
+    let Some(entry) = watching.next() else {
+        return review(watching);
+    };
+    if entry.level < watching.plain().level() {
+        return Ok(scan(watching));
+    }
+    visit(watching, entry.lit.opposite())
+}
+
+// Looks at all clauses.
+fn scan(watching: &mut Watching) -> Pass
+    ensures clauses { watching.new.trail.clauses ≡ watching.old.trail.clauses }
+    ensures grows { Grows watching.old.trail.entries watching.new.trail.entries }
+    ensures step { StepIs watching.old watching.new result }
+{
+    match watching.scan() {
+        Some(conflict) => return Pass::Found(conflict),
+        None => return Pass::Quiet,
+    }
+}
+
+// Meets each watch of the literal that the entry at the head made false, and passes the entry.
+fn visit(watching: &mut Watching, gone: Lit) -> Result<Pass, NoMemory>
+    requires within { LitWithin watching.old.trail.clauses.vars gone }
+    requires stands { StandsAt watching.old.trail.entries watching.old.head (level_of watching.old.trail.entries) gone }
+    ensures clauses { watching.new.trail.clauses ≡ watching.old.trail.clauses }
+    ensures grows { Grows watching.old.trail.entries watching.new.trail.entries }
+    ensures step { IfOk result (StepIs watching.old watching.new) }
+{
+    let mut at = 0;
+    while at < watching.count(gone) {
+        match meet(watching, gone, at)? {
+            Met::False(conflict) => return Ok(Pass::Found(conflict)),
+            Met::Stays => at += 1,
+            Met::Leaves => {}
+        }
+    }
+    watching.advance(gone);
+    Ok(Pass::Moved)
+}
+
+// Looks at the clause of a watch, unless the literal that the watch names is true.
+fn meet(watching: &mut Watching, gone: Lit, at: usize) -> Result<Met, NoMemory>
+    requires within { LitWithin watching.old.trail.clauses.vars gone }
+    requires place { at < length (watches_at watching.old.lists gone) }
+    requires gone { has_lit (lits_of watching.old.trail.entries) (opposite gone) ≡ true }
+    requires held { AreHeld watching.old gone at }
+    ensures clauses { watching.new.trail.clauses ≡ watching.old.trail.clauses }
+    ensures head { watching.new.head ≡ watching.old.head }
+    ensures grows { Grows watching.old.trail.entries watching.new.trail.entries }
+    ensures met { IfOk result (MetIs watching.old watching.new gone at) }
+{
+    let watch = watching.watch(gone, at);
+    let blocker = watch.blocker();
+    if watching.plain().assigned().is_true(blocker) {
+        return Ok(Met::Stays);
+    }
+    if watch.pair {
+        return Ok(follow(watching, gone, at, watch, blocker));
+    }
+    meet_long(watching, gone, at, watch)
+}
+
+// Forces the one literal of a clause that may be open, the others being false.
+fn follow(watching: &mut Watching, gone: Lit, at: usize, watch: Watch, lit: Lit) -> Met
+    requires within { LitWithin watching.old.trail.clauses.vars lit }
+    requires place { at < length (watches_at watching.old.lists gone) }
+    requires watch { watch ≡ slice_index_or (watches_at watching.old.lists gone) at watch }
+    requires fits { WatchFits watching.old.trail.clauses.list gone watch }
+    requires only { LeavesOnly (lits_of watching.old.trail.entries) (clause_of watching.old.trail.clauses.list (watch.clause - 1)) lit }
+    requires unknown { has_lit (lits_of watching.old.trail.entries) lit ≡ false }
+    requires held { AreHeld watching.old gone at }
+    ensures clauses { watching.new.trail.clauses ≡ watching.old.trail.clauses }
+    ensures head { watching.new.head ≡ watching.old.head }
+    ensures grows { Grows watching.old.trail.entries watching.new.trail.entries }
+    ensures met { MetIs watching.old watching.new gone at result }
+{
+    let number = watch.clause as u64;
+    if watching.plain().assigned().is_true(lit.opposite()) {
+        return Met::False(Conflict { clause: number });
+    }
+    watching.force(lit, number);
+    Met::Stays
+}
+
+// Looks at a clause of more than two literals.
+fn meet_long(watching: &mut Watching, gone: Lit, at: usize, watch: Watch) -> Result<Met, NoMemory>
+    requires within { LitWithin watching.old.trail.clauses.vars gone }
+    requires place { at < length (watches_at watching.old.lists gone) }
+    requires watch { watch ≡ slice_index_or (watches_at watching.old.lists gone) at watch }
+    requires fits { WatchFits watching.old.trail.clauses.list gone watch }
+    requires long { watch.pair ≡ false }
+    requires gone { has_lit (lits_of watching.old.trail.entries) (opposite gone) ≡ true }
+    requires held { AreHeld watching.old gone at }
+    ensures clauses { watching.new.trail.clauses ≡ watching.old.trail.clauses }
+    ensures head { watching.new.head ≡ watching.old.head }
+    ensures grows { Grows watching.old.trail.entries watching.new.trail.entries }
+    ensures met { IfOk result (MetIs watching.old watching.new gone at) }
+{
+    let number = watch.clause as u64;
+    let clause = watching.plain().clauses().get(number);
+    let places = watching.places(number);
+    match turn_of(watching.plain().assigned(), clause, places, gone) {
+        Turn::Holds(other) => {
+            watching.put(gone, at, watch.blocked_by(other));
+            return Ok(Met::Stays);
+        }
+        Turn::Moves(moved) => return rewatch(watching, gone, at, watch, moved),
+        Turn::Leaves(other) => return Ok(keep_on(watching, gone, at, watch, other)),
+        Turn::Lost => {
+            watching.shelve(gone, at, number)?;
+            return Ok(Met::Leaves);
+        }
+    }
+}
+
+// Names the literal of a clause that may be open in its watch, and forces it.
+fn keep_on(watching: &mut Watching, gone: Lit, at: usize, watch: Watch, other: Lit) -> Met
+    requires within { LitWithin watching.old.trail.clauses.vars gone }
+    requires other { LitWithin watching.old.trail.clauses.vars other }
+    requires watchful { IsWatchful watching.old }
+    requires place { at < length (watches_at watching.old.lists gone) }
+    requires watch { watch ≡ slice_index_or (watches_at watching.old.lists gone) at watch }
+    requires fits { WatchFits watching.old.trail.clauses.list gone watch }
+    requires long { watch.pair ≡ false }
+    requires only { LeavesOnly (lits_of watching.old.trail.entries) (clause_of watching.old.trail.clauses.list (watch.clause - 1)) other }
+    requires unknown { has_lit (lits_of watching.old.trail.entries) other ≡ false }
+    requires held { AreHeld watching.old gone at }
+    ensures clauses { watching.new.trail.clauses ≡ watching.old.trail.clauses }
+    ensures head { watching.new.head ≡ watching.old.head }
+    ensures grows { Grows watching.old.trail.entries watching.new.trail.entries }
+    ensures met { MetIs watching.old watching.new gone at result }
+{
+    let named = watch.blocked_by(other);
+    watching.put(gone, at, named);
+    follow(watching, gone, at, named, other)
+}
+
+// Has the clause of a watch watch another literal.
+fn rewatch(
+    watching: &mut Watching,
+    gone: Lit,
+    at: usize,
+    watch: Watch,
+    moved: Moved,
+) -> Result<Met, NoMemory>
+    requires within { LitWithin watching.old.trail.clauses.vars gone }
+    requires watchful { IsWatchful watching.old }
+    requires lit { LitWithin watching.old.trail.clauses.vars moved.lit }
+    requires other { LitWithin watching.old.trail.clauses.vars moved.other }
+    requires place { at < length (watches_at watching.old.lists gone) }
+    requires watch { watch ≡ slice_index_or (watches_at watching.old.lists gone) at watch }
+    requires fits { WatchFits watching.old.trail.clauses.list gone watch }
+    requires long { watch.pair ≡ false }
+    requires gone { has_lit (lits_of watching.old.trail.entries) (opposite gone) ≡ true }
+    requires moved { IsMove (lits_of watching.old.trail.entries) (clause_of watching.old.trail.clauses.list (watch.clause - 1)) (places_of watching.old.places (watch.clause - 1)) gone moved }
+    requires held { AreHeld watching.old gone at }
+    ensures trail { watching.new.trail ≡ watching.old.trail }
+    ensures head { watching.new.head ≡ watching.old.head }
+    ensures met { IfOk result (MetIs watching.old watching.new gone at) }
+{
+    watching.hang(moved.lit, watch.blocked_by(moved.other))?;
+    watching.leave(gone, at, watch.clause as u64, moved);
+    Ok(Met::Leaves)
+}
+
+// Looks at each clause that waits, and then has each that can be watched watch two literals.
+fn review(watching: &mut Watching) -> Result<Pass, NoMemory>
+    requires { watching.old.head ≡ length watching.old.trail.entries }
+    ensures clauses { watching.new.trail.clauses ≡ watching.old.trail.clauses }
+    ensures grows { Grows watching.old.trail.entries watching.new.trail.entries }
+    ensures step { IfOk result (StepIs watching.old watching.new) }
+{
+    let pass = look_again(watching);
+    take_up_all(watching)?;
+    Ok(pass)
+}
+
+// Looks at each clause that waits.
+fn look_again(watching: &mut Watching) -> Pass
+    requires { watching.old.head ≡ length watching.old.trail.entries }
+    ensures clauses { watching.new.trail.clauses ≡ watching.old.trail.clauses }
+    ensures head { watching.new.head ≡ watching.old.head }
+    ensures grows { Grows watching.old.trail.entries watching.new.trail.entries }
+    ensures step { StepIs watching.old watching.new result }
+{
+    let before = watching.plain().entries().len();
+    for at in 0..watching.pending() {
+        let number = watching.waiting(at);
+        let plain = watching.plain();
+        match look_at(plain.assigned(), plain.clauses().get(number)) {
+            Look::False => return Pass::Found(Conflict { clause: number }),
+            Look::Forces(lit) => watching.force(lit, number),
+            Look::Settled => {}
+        }
+    }
+    if watching.plain().entries().len() > before {
+        Pass::Moved
+    } else {
+        Pass::Quiet
+    }
+}
+
+// Has each clause that waits and can be watched watch two literals, and forgets each that is true for good.
+fn take_up_all(watching: &mut Watching) -> Result<(), NoMemory>
+    ensures trail { watching.new.trail ≡ watching.old.trail }
+    ensures head { watching.new.head ≡ watching.old.head }
+{
+    let mut at = 0;
+    while at < watching.pending() {
+        if !take_up(watching, at)? {
+            at += 1;
+        }
+    }
+    Ok(())
+}
+
+// Whether the clause waits no longer.
+fn take_up(watching: &mut Watching, at: usize) -> Result<bool, NoMemory>
+    requires { at < length watching.old.pending }
+    ensures trail { watching.new.trail ≡ watching.old.trail }
+    ensures head { watching.new.head ≡ watching.old.head }
+    ensures left { IfOk result (λ gone. length watching.new.pending + (if gone then 1 else 0) ≡ length watching.old.pending) }
+{
+    let number = watching.waiting(at);
+    let plain = watching.plain();
+    let clause = plain.clauses().get(number);
+    if plain.level() == 0 && has_true(plain.assigned(), clause) {
+        watching.forget(at, number);
+        return Ok(true);
+    }
+    match good_places(plain, clause) {
+        Some(places) => return watch_two(watching, at, number, places),
+        None => return Ok(false),
+    }
+}
+
+// Has a clause that waits watch two literals, where the numbers are small enough.
+fn watch_two(
+    watching: &mut Watching,
+    at: usize,
+    number: u64,
+    places: Places,
+) -> Result<bool, NoMemory>
+    requires place { at < length watching.old.pending }
+    requires number { number ≡ slice_index_or watching.old.pending at number }
+    requires from_one { 1 ≤ number }
+    requires to_last { number ≤ length watching.old.trail.clauses.list }
+    requires good { AreGood watching.old.trail.entries (clause_of watching.old.trail.clauses.list (number - 1)) places }
+    ensures trail { watching.new.trail ≡ watching.old.trail }
+    ensures head { watching.new.head ≡ watching.old.head }
+    ensures left { IfOk result (λ gone. length watching.new.pending + (if gone then 1 else 0) ≡ length watching.old.pending) }
+{
+    let clause = watching.plain().clauses().get(number);
+    let pair = clause.len() == 2;
+    let first = clause[places.first];
+    let second = clause[places.second];
+    let Some(one) = Watch::of(number, second, pair) else {
+        return Ok(false);
+    };
+    let Some(two) = Watch::of(number, first, pair) else {
+        return Ok(false);
+    };
+    watching.hang(first, one)?;
+    watching.hang(second, two)?;
+    watching.settle(at, number, places);
+    Ok(true)
+}

@@ -1,0 +1,123 @@
+//! What a clause does when one of the two literals that it watches becomes false.
+
+ghost use Rattle.std.specs.Prelude.{◌≡◌, ◌<◌, length, true};
+ghost use Rattle.clause_db.specs.Clause.{has_lit, opposite};
+ghost use Rattle.trail_prop.specs.Entries.{lits_of};
+ghost use Rattle.trail_prop.specs.Open.{LitsWithin};
+ghost use Rattle.trail_prop.specs.Find.{FindIs};
+ghost use Rattle.trail_prop.specs.Turn.{SidesAre, TurnIs};
+
+use crate::assignment::Assignment;
+use clause_db::lit::Lit;
+
+/// The places of the two literals that a clause watches.
+#[derive(Clone, Copy, Debug, PartialEq, Eq)]
+pub struct Places {
+    pub first: usize,
+    pub second: usize,
+}
+
+impl Places {
+    /// No place in particular, for a clause that is not watched.
+    pub fn none() -> Places
+        ensures { result ≡ record { first = 0; second = 0 } }
+    {
+        Places {
+            first: 0,
+            second: 0,
+        }
+    }
+}
+
+/// The place of the watched literal that became false, and that of the other.
+#[derive(Clone, Copy, Debug, PartialEq, Eq)]
+pub struct Sides {
+    pub mine: usize,
+    pub other: usize,
+}
+
+/// The places that a clause watches from now on, the new one first, and the literals there.
+#[derive(Clone, Copy, Debug, PartialEq, Eq)]
+pub struct Moved {
+    pub places: Places,
+    pub lit: Lit,
+    pub other: Lit,
+}
+
+/// What a clause does: its other watched literal is true; it watches another literal; all its literals but the other
+/// watched one are false; or it can't be watched.
+#[derive(Clone, Copy, Debug, PartialEq, Eq)]
+pub enum Turn {
+    Holds(Lit),
+    Moves(Moved),
+    Leaves(Lit),
+    Lost,
+}
+
+// Which of the two places has this literal.
+fn sides_of(clause: &[Lit], places: Places, gone: Lit) -> Option<Sides>
+    ensures { SidesAre clause.now places gone result }
+{
+    if places.first >= clause.len() || places.second >= clause.len() {
+        return None;
+    }
+    if clause[places.first] == gone {
+        return Some(Sides {
+            mine: places.first,
+            other: places.second,
+        });
+    }
+    if clause[places.second] == gone {
+        return Some(Sides {
+            mine: places.second,
+            other: places.first,
+        });
+    }
+    None
+}
+
+// A place of the clause, other than these two, whose literal is not false.
+fn find_place(assigned: &Assignment, clause: &[Lit], sides: Sides) -> Option<usize>
+    requires { LitsWithin assigned.now.vars clause.now }
+    ensures { FindIs (lits_of assigned.now.entries) clause.now sides.mine sides.other result }
+{
+    for (at, lit) in clause.iter().enumerate() {
+        if at != sides.mine && at != sides.other && !assigned.is_true(lit.opposite()) {
+            return Some(at);
+        }
+    }
+    None
+}
+
+/// What a clause does that watches these places, now that this literal is false.
+pub fn turn_of(assigned: &Assignment, clause: &[Lit], places: Places, gone: Lit) -> Turn
+    requires within { LitsWithin assigned.now.vars clause.now }
+    requires gone { has_lit (lits_of assigned.now.entries) (opposite gone) ≡ true }
+    ensures { TurnIs (lits_of assigned.now.entries) clause.now places gone result }
+{
+    let Some(sides) = sides_of(clause, places, gone) else {
+        return Turn::Lost;
+    };
+    let other = clause[sides.other];
+    if other == gone {
+        return Turn::Lost;
+    }
+    if assigned.is_true(other) {
+        return Turn::Holds(other);
+    }
+    let Some(at) = find_place(assigned, clause, sides) else {
+        return Turn::Leaves(other);
+    };
+    let lit = clause[at];
+    if lit == other {
+        return Turn::Lost;
+    }
+    Turn::Moves(Moved {
+        places: Places {
+            first: at,
+            second: sides.other,
+        },
+        lit,
+        other,
+    })
+}

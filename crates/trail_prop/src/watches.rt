@@ -1,0 +1,145 @@
+//! The clauses that watch each literal.
+
+ghost use Rattle.std.specs.Prelude.{ℕ, ◌≡◌, ◌≢◌, ◌+◌, ◌*◌, ◌<◌, ◌≤◌, ◌^◌, ◌++◌, ◌⊎◌, ◌∷◌, [], length, replicate, swap_remove, IfOk, IfSome, OnOk, OnErr, slice_index_or, slice_set};
+ghost use Rattle.trail_prop.specs.declared.watches.Watch.{Watch};
+ghost use Rattle.trail_prop.specs.Watching.{lit_of};
+
+use crate::assignment::code;
+use clause_db::lit::Lit;
+use std::alloc::{AllocError as NoMemory, Global};
+use std::marker::Model;
+
+/// A clause by its number, and the code of one of its literals: where that is true, the clause needs no look. Where
+/// `pair` is set, the clause has no other literals than that and the one that is watched.
+#[derive(Clone, Copy, Debug, PartialEq, Eq)]
+pub struct Watch {
+    pub clause: u32,
+    pub blocker: u32,
+    pub pair: bool,
+}
+
+impl Watch {
+    /// A watch of this clause, where the numbers are small enough for one.
+    pub fn of(number: u64, blocker: Lit, pair: bool) -> Option<Watch>
+        requires from_one { 1 ≤ blocker.var }
+        requires small { blocker.var < 2 ^ 32 }
+        ensures { IfSome result (λ w. (w.clause ≡ number) × (lit_of w.blocker ≡ blocker) × (w.pair ≡ pair)) }
+    {
+        let Ok(clause) = u32::try_from(number) else {
+            return None;
+        };
+        let Ok(blocker) = u32::try_from(code(blocker)) else {
+            return None;
+        };
+        Some(Watch {
+            clause,
+            blocker,
+            pair,
+        })
+    }
+
+    /// The same watch with this blocker, or as it was where the literal's code is too large for one.
+    pub fn blocked_by(self, other: Lit) -> Watch
+        requires from_one { 1 ≤ other.var }
+        requires small { other.var < 2 ^ 32 }
+        ensures same { (result.clause ≡ self.clause) × (result.pair ≡ self.pair) }
+        ensures blocker { (lit_of result.blocker ≡ other) ⊎ (result.blocker ≡ self.blocker) }
+    {
+        match u32::try_from(code(other)) {
+            Ok(blocker) => {
+                return Watch {
+                    clause: self.clause,
+                    blocker,
+                    pair: self.pair,
+                };
+            }
+            Err(_) => return self,
+        }
+    }
+
+    /// The literal that saves the look.
+    pub fn blocker(self) -> Lit
+        ensures { result ≡ lit_of self.blocker }
+    {
+        Lit {
+            var: (self.blocker / 2) as u64 + 1,
+            positive: self.blocker % 2 == 0,
+        }
+    }
+}
+
+/// For each literal's code the watches of that literal.
+#[derive(Drop)]
+pub struct Watches {
+    lists: Vec<Vec<Watch>>,
+}
+
+impl Model for Watches {
+    ghost use Rattle.std.specs.Prelude.{List, map};
+    ghost use Rattle.trail_prop.specs.declared.watches.Watch.{Watch};
+
+    ghost Value = { List (List Watch) };
+
+    ghost view = { λ w. map (λ v. v.items) w.lists.items };
+}
+
+impl Watches {
+    /// No watch of as many literals.
+    pub fn new(alloc: Global, count: usize) -> Result<Watches, NoMemory>
+        ensures { IfOk result (λ w. w ≡ replicate count []) }
+    {
+        let mut lists = Vec::with_capacity(alloc, count)?;
+        for _ in 0..count {
+            lists.push(Vec::new(alloc))?;
+        }
+        Ok(Watches { lists })
+    }
+
+    /// The number of a literal's watches.
+    pub fn len(&self, code: usize) -> usize
+        requires { code < length self.now }
+        ensures { result ≡ length (slice_index_or self.now code []) }
+    {
+        self.lists[code].len()
+    }
+
+    /// A literal's watch at a place.
+    pub fn at(&self, code: usize, at: usize) -> Watch
+        requires list { code < length self.now }
+        requires place { at < length (slice_index_or self.now code []) }
+        ensures { result ≡ slice_index_or (slice_index_or self.now code []) at result }
+    {
+        self.lists[code][at]
+    }
+
+    /// Puts a watch after the last of a literal's.
+    pub fn push(&mut self, code: usize, watch: Watch) -> Result<(), NoMemory>
+        requires { code < length self.old }
+        ensures pushed { OnOk result (self.new ≡ slice_set self.old code (slice_index_or self.old code [] ++ watch ∷ [])) }
+        ensures unchanged { OnErr result (self.new ≡ self.old) }
+    {
+        match self.lists[code].push(watch) {
+            Ok(()) => return Ok(()),
+            Err(_) => return Err(NoMemory),
+        }
+    }
+
+    /// Puts a watch in the place of one of a literal's.
+    pub fn set(&mut self, code: usize, at: usize, watch: Watch)
+        requires list { code < length self.old }
+        requires place { at < length (slice_index_or self.old code []) }
+        ensures { self.new ≡ slice_set self.old code (slice_set (slice_index_or self.old code []) at watch) }
+    {
+        self.lists[code][at] = watch;
+    }
+
+    /// Takes one of a literal's watches away, and puts the last in its place.
+    pub fn remove(&mut self, code: usize, at: usize) -> Watch
+        requires list { code < length self.old }
+        requires place { at < length (slice_index_or self.old code []) }
+        ensures value { result ≡ slice_index_or (slice_index_or self.old code []) at result }
+        ensures left { self.new ≡ slice_set self.old code (swap_remove (slice_index_or self.old code []) at result) }
+    {
+        self.lists[code].swap_remove(at)
+    }
+}

@@ -1,0 +1,299 @@
+//! The clauses on a trail, each of which waits for a look or watches two of its literals.
+
+ghost use Rattle.std.specs.Prelude.{ℕ, ◌≡◌, ◌≢◌, ◌+◌, ◌-◌, ◌*◌, ◌<◌, ◌≤◌, ◌++◌, ◌∷◌, [], length, filter, take, IfOk, IfSome, IfNone, OnOk, OnErr, Some, None, true, false, slice_index_or, slice_set};
+ghost use Rattle.std.specs.List.{All};
+ghost use Rattle.clause_db.specs.Clause.{clause_at, opposite, has_lit};
+ghost use Rattle.clause_db.specs.Clauses.{LitWithin, ClausesWithin};
+ghost use Rattle.trail_prop.specs.declared.watches.Watch.{Watch};
+ghost use Rattle.trail_prop.specs.Entries.{lits_of, level_of};
+ghost use Rattle.trail_prop.specs.Open.{LitsWithin, value_of, IsComplete};
+ghost use Rattle.trail_prop.specs.Trails.{forced_at, IsFalseAt, Grows, is_up_to};
+ghost use Rattle.trail_prop.specs.Turn.{IsMove};
+ghost use Rattle.trail_prop.specs.Watching.{WatchFits, IsWatched, IsFixed, IsWatchful, watches_at, watches_of, waits, clause_of, places_of, AllWait, StandsAt};
+ghost use Rattle.trail_prop.specs.Steps.{onto, relisted, Shrinks, IsHeld, NextIs};
+
+use crate::assignment::code;
+use crate::entry::{Conflict, Entry};
+use crate::plain::PlainTrail;
+use crate::turn::{Moved, Places};
+use crate::watches::{Watch, Watches};
+use clause_db::list::ClauseList;
+use clause_db::lit::Lit;
+use std::alloc::{AllocError as NoMemory, Global};
+use std::marker::Model;
+
+/// A trail whose clauses each wait for a look, or are true for good, or watch two of their literals. The entries before
+/// the head are propagated: where one made a watched literal false, the clause has been true since.
+#[derive(Drop)]
+pub struct Watching {
+    plain: PlainTrail,
+    watches: Watches,
+    places: Vec<Places>,
+    pending: Vec<u64>,
+    head: usize,
+}
+
+impl Model for Watching {
+    ghost use Rattle.trail_prop.specs.Watching.{WatchView, IsWatchful};
+
+    ghost Value = { WatchView };
+
+    ghost view = { λ w. record { trail = w.plain; lists = w.watches; places = w.places.items; pending = w.pending.items; head = w.head } };
+
+    ghost invariant = { λ w. IsWatchful (record { trail = w.plain; lists = w.watches; places = w.places.items; pending = w.pending.items; head = w.head }) };
+}
+
+// The numbers of so many clauses.
+fn all_numbers(alloc: Global, count: u64) -> Result<Vec<u64>, NoMemory>
+    ensures { IfOk result (λ numbers. AllWait count numbers.items) }
+{
+    let mut numbers = Vec::new(alloc);
+    for at in 0..count {
+        numbers.push(at + 1)?;
+    }
+    Ok(numbers)
+}
+
+// Places for so many clauses, none of which is watched yet.
+fn no_places(alloc: Global, count: u64) -> Result<Vec<Places>, NoMemory>
+    ensures { IfOk result (λ places. length places.items ≡ count) }
+{
+    let mut places = Vec::new(alloc);
+    for _ in 0..count {
+        places.push(Places::none())?;
+    }
+    Ok(places)
+}
+
+impl Watching {
+    /// No entry yet, and each clause waits for a look.
+    pub fn new(alloc: Global, clauses: ClauseList) -> Result<Watching, NoMemory>
+        requires { ClausesWithin clauses.vars clauses.list }
+        ensures { IfOk result (λ w. w.trail ≡ record { clauses = clauses; entries = [] }) }
+    {
+        let count = clauses.len();
+        let watches = Watches::new(alloc, 2 * clauses.vars() as usize)?;
+        let places = no_places(alloc, count)?;
+        let pending = all_numbers(alloc, count)?;
+        let plain = PlainTrail::new(alloc, clauses)?;
+        Ok(Watching {
+            plain,
+            watches,
+            places,
+            pending,
+            head: 0,
+        })
+    }
+
+    /// The clauses and the entries.
+    pub fn plain(&self) -> &PlainTrail
+        ensures plain { result.now ≡ self.now.trail }
+        ensures watchful { IsWatchful self.now }
+    {
+        &self.plain
+    }
+
+    /// The entry at the head, if not all are propagated.
+    pub fn next(&self) -> Option<Entry>
+        ensures { NextIs self.now result }
+    {
+        let entries = self.plain.entries();
+        if self.head < entries.len() {
+            Some(entries[self.head])
+        } else {
+            None
+        }
+    }
+
+    /// The number of the watches of a literal.
+    pub fn count(&self, lit: Lit) -> usize
+        requires { LitWithin self.now.trail.clauses.vars lit }
+        ensures { result ≡ length (watches_at self.now.lists lit) }
+    {
+        self.watches.len(code(lit))
+    }
+
+    /// The watch of a literal at a place.
+    pub fn watch(&self, lit: Lit, at: usize) -> Watch
+        requires within { LitWithin self.now.trail.clauses.vars lit }
+        requires place { at < length (watches_at self.now.lists lit) }
+        ensures watch { result ≡ slice_index_or (watches_at self.now.lists lit) at result }
+        ensures fits { WatchFits self.now.trail.clauses.list lit result }
+    {
+        self.watches.at(code(lit), at)
+    }
+
+    /// The places that the clause of a number watches, if it does.
+    pub fn places(&self, number: u64) -> Places
+        requires from_one { 1 ≤ number }
+        requires to_last { number ≤ length self.now.trail.clauses.list }
+        ensures { result ≡ places_of self.now.places (number - 1) }
+    {
+        self.places[(number - 1) as usize]
+    }
+
+    /// How many times a clause waits for a look.
+    pub fn pending(&self) -> usize
+        ensures { result ≡ length self.now.pending }
+    {
+        self.pending.len()
+    }
+
+    /// The number of a clause that waits for a look.
+    pub fn waiting(&self, at: usize) -> u64
+        requires { at < length self.now.pending }
+        ensures number { result ≡ slice_index_or self.now.pending at result }
+        ensures from_one { 1 ≤ result }
+        ensures to_last { result ≤ length self.now.trail.clauses.list }
+    {
+        self.pending[at]
+    }
+
+    /// Puts a clause after the last, which waits for a look.
+    pub fn add(&mut self, clause: &[Lit]) -> Result<(), NoMemory>
+        requires { LitsWithin self.old.trail.clauses.vars clause.now }
+        ensures added { OnOk result (self.new.trail ≡ record { clauses = record { vars = self.old.trail.clauses.vars; list = self.old.trail.clauses.list ++ clause.now ∷ [] }; entries = self.old.trail.entries }) }
+        ensures unchanged { OnErr result (self.new.trail ≡ self.old.trail) }
+    {
+        self.places.reserve(1)?;
+        self.pending.reserve(1)?;
+        self.plain.add(clause)?;
+        self.places.push_reserved(Places::none());
+        self.pending.push_reserved(self.plain.clauses().len());
+        Ok(())
+    }
+
+    /// Opens a level with a literal whose variable has no value.
+    pub fn decide(&mut self, lit: Lit)
+        requires within { LitWithin self.old.trail.clauses.vars lit }
+        requires opens { value_of (lits_of self.old.trail.entries) lit.var ≡ None }
+        ensures { self.new.trail ≡ record { clauses = self.old.trail.clauses; entries = self.old.trail.entries ++ record { lit = lit; level = level_of self.old.trail.entries + 1; reason = None } ∷ [] } }
+    {
+        self.plain.decide(lit);
+    }
+
+    /// Takes away the entries above a level.
+    pub fn backjump(&mut self, level: u32)
+        requires { level ≤ level_of self.old.trail.entries }
+        ensures clauses { self.new.trail.clauses ≡ self.old.trail.clauses }
+        ensures kept { self.new.trail.entries ≡ filter (is_up_to level) self.old.trail.entries }
+        ensures level { level_of self.new.trail.entries ≡ level }
+    {
+        self.plain.backjump(level);
+        self.head = self.head.min(self.plain.entries().len());
+    }
+
+    /// Propagates by looking at all clauses, and leaves the head where it is.
+    pub fn scan(&mut self) -> Option<Conflict>
+        ensures clauses { self.new.trail.clauses ≡ self.old.trail.clauses }
+        ensures grows { Grows self.old.trail.entries self.new.trail.entries }
+        ensures conflict { IfSome result (λ c. IsFalseAt (lits_of self.new.trail.entries) (clause_at self.new.trail.clauses.list c.clause)) }
+        ensures complete { IfNone result (IsComplete self.new.trail.clauses.list (lits_of self.new.trail.entries)) }
+    {
+        self.plain.propagate()
+    }
+
+    /// Puts a literal after the last that a clause forces.
+    pub fn force(&mut self, lit: Lit, number: u64)
+        requires { forced_at (lits_of self.old.trail.entries) (clause_at self.old.trail.clauses.list number) ≡ Some lit }
+        ensures pushed { self.new ≡ onto self.old (record { clauses = self.old.trail.clauses; entries = self.old.trail.entries ++ record { lit = lit; level = level_of self.old.trail.entries; reason = Some number } ∷ [] }) }
+        ensures room { length self.new.trail.entries ≤ self.new.trail.clauses.vars }
+    {
+        self.plain.force(lit, number);
+    }
+
+    /// Passes the entry at the head, once each clause that watches its opposite has a true literal.
+    pub fn advance(&mut self, gone: Lit)
+        requires stands { StandsAt self.old.trail.entries self.old.head (level_of self.old.trail.entries) gone }
+        requires held { All (IsHeld self.old) (watches_at self.old.lists gone) }
+        ensures trail { self.new.trail ≡ self.old.trail }
+        ensures head { self.new.head ≡ self.old.head + 1 }
+        ensures room { length self.new.trail.entries + self.new.head ≤ 2 * self.new.trail.clauses.vars }
+    {
+        if self.head < self.plain.entries().len() {
+            self.head += 1;
+        }
+    }
+
+    /// Puts a watch in the place of another of the same clause.
+    pub fn put(&mut self, gone: Lit, at: usize, watch: Watch)
+        requires within { LitWithin self.old.trail.clauses.vars gone }
+        requires place { at < length (watches_at self.old.lists gone) }
+        requires fits { WatchFits self.old.trail.clauses.list gone watch }
+        requires same { (d : Watch) → (slice_index_or (watches_at self.old.lists gone) at d).clause ≡ watch.clause }
+        ensures { self.new ≡ relisted self.old gone (slice_set (watches_at self.old.lists gone) at watch) }
+    {
+        self.watches.set(code(gone), at, watch);
+    }
+
+    /// Puts a watch after the last of a literal's.
+    pub fn hang(&mut self, lit: Lit, watch: Watch) -> Result<(), NoMemory>
+        requires within { LitWithin self.old.trail.clauses.vars lit }
+        requires fits { WatchFits self.old.trail.clauses.list lit watch }
+        ensures hung { OnOk result (self.new ≡ relisted self.old lit (watches_at self.old.lists lit ++ watch ∷ [])) }
+        ensures unchanged { OnErr result (self.new ≡ self.old) }
+    {
+        self.watches.push(code(lit), watch)?;
+        Ok(())
+    }
+
+    /// Has the clause of a watch wait for a look, and takes the watch away.
+    pub fn shelve(&mut self, gone: Lit, at: usize, number: u64) -> Result<(), NoMemory>
+        requires within { LitWithin self.old.trail.clauses.vars gone }
+        requires from_one { 1 ≤ number }
+        requires to_last { number ≤ length self.old.trail.clauses.list }
+        requires place { at < length (watches_at self.old.lists gone) }
+        requires watch { (d : Watch) → (slice_index_or (watches_at self.old.lists gone) at d).clause ≡ number }
+        ensures shrinks { OnOk result (Shrinks self.old self.new gone at) }
+        ensures unchanged { OnErr result (self.new ≡ self.old) }
+    {
+        self.pending.push(number)?;
+        let _watch = self.watches.remove(code(gone), at);
+        Ok(())
+    }
+
+    /// Takes away a watch whose clause watches another literal from now on.
+    pub fn leave(&mut self, gone: Lit, at: usize, number: u64, moved: Moved)
+        requires within { LitWithin self.old.trail.clauses.vars gone }
+        requires from_one { 1 ≤ number }
+        requires to_last { number ≤ length self.old.trail.clauses.list }
+        requires place { at < length (watches_at self.old.lists gone) }
+        requires watch { (d : Watch) → (slice_index_or (watches_at self.old.lists gone) at d).clause ≡ number }
+        requires gone { has_lit (lits_of self.old.trail.entries) (opposite gone) ≡ true }
+        requires moved { IsMove (lits_of self.old.trail.entries) (clause_of self.old.trail.clauses.list (number - 1)) (places_of self.old.places (number - 1)) gone moved }
+        requires lit { LitWithin self.old.trail.clauses.vars moved.lit }
+        requires other { LitWithin self.old.trail.clauses.vars moved.other }
+        requires hung { 0 < watches_of number (watches_at self.old.lists moved.lit) }
+        ensures { Shrinks self.old self.new gone at }
+    {
+        self.places[(number - 1) as usize] = moved.places;
+        let _watch = self.watches.remove(code(gone), at);
+    }
+
+    /// Has a clause wait no longer that is true for good.
+    pub fn forget(&mut self, at: usize, number: u64)
+        requires place { at < length self.old.pending }
+        requires number { number ≡ slice_index_or self.old.pending at number }
+        requires fixed { IsFixed self.old.trail.entries (clause_of self.old.trail.clauses.list (number - 1)) }
+        ensures trail { self.new.trail ≡ self.old.trail }
+        ensures head { self.new.head ≡ self.old.head }
+        ensures left { length self.new.pending + 1 ≡ length self.old.pending }
+    {
+        let _number = self.pending.swap_remove(at);
+    }
+
+    /// Has a clause wait no longer that is watched from now on.
+    pub fn settle(&mut self, at: usize, number: u64, places: Places)
+        requires place { at < length self.old.pending }
+        requires number { number ≡ slice_index_or self.old.pending at number }
+        requires from_one { 1 ≤ number }
+        requires to_last { number ≤ length self.old.trail.clauses.list }
+        requires watched { IsWatched self.old.trail.entries self.old.head self.old.lists number (clause_of self.old.trail.clauses.list (number - 1)) places }
+        ensures trail { self.new.trail ≡ self.old.trail }
+        ensures head { self.new.head ≡ self.old.head }
+        ensures left { length self.new.pending + 1 ≡ length self.old.pending }
+    {
+        self.places[(number - 1) as usize] = places;
+        let _number = self.pending.swap_remove(at);
+    }
+}
