@@ -2,7 +2,7 @@
 use Rattle.std.specs.Prelude.{ℕ, ◌≡◌, ◌≤◌, true, List, Option, Some, None, is_some}
 use Rattle.clause_db.specs.declared.lit.Lit.{Lit}
 use Rattle.clause_db.specs.Clauses.{LitWithin}
-use Rattle.trail_prop.specs.Open.{is_open, value_of}
+use Rattle.trail_prop.specs.Open.{value_of}
 
 -- every variable has a value
 abbrev pub IsTotal : ℕ → List Lit → Type 0
@@ -19,7 +19,7 @@ abbrev pub VariableIs : ℕ → List Lit → Option ℕ → Type 0
 VariableIs vars known (Some v) = IsOpenVariable vars known v
 VariableIs vars known None = IsTotal vars known
 
--- an open literal, or that every variable has a value
+-- a literal of a variable without a value, or that there is none
 abbrev pub PickIs : ℕ → List Lit → Option Lit → Type 0
-PickIs vars known (Some l) = LitWithin vars l × (is_open known l ≡ true)
+PickIs vars known (Some l) = LitWithin vars l × (value_of known l.var ≡ None)
 PickIs vars known None = IsTotal vars known

@@ -4,7 +4,7 @@ ghost use Rattle.clause_db.specs.Clauses.{ClausesWithin, LitWithin};
 ghost use Rattle.rup_check.specs.Follows.{line_fault};
 ghost use Rattle.cert_types.specs.Spent.{AreSpentLines};
 ghost use Rattle.trail_prop.specs.Entries.{level_of, lits_of};
-ghost use Rattle.trail_prop.specs.Open.{IsComplete, is_open};
+ghost use Rattle.trail_prop.specs.Open.{IsComplete, value_of};
 ghost use Rattle.trail_prop.specs.Trails.{IsFalseAt};
 ghost use Rattle.cdcl_prove.specs.Derivation.{clauses_of};
 
@@ -84,10 +84,10 @@ impl Derivation {
         self.trail.propagate()
     }
 
-    /// Decides an open literal.
+    /// Decides a literal of a variable without a value.
     pub(crate) fn decide(&mut self, lit: Lit)
         requires within { LitWithin self.old.formula.vars lit }
-        requires opens { is_open (lits_of self.old.entries) lit ≡ true }
+        requires opens { value_of (lits_of self.old.entries) lit.var ≡ None }
         ensures formula { self.new.formula ≡ self.old.formula }
         ensures lines { self.new.lines ≡ self.old.lines }
         ensures entries { self.new.entries ≡ self.old.entries ++ record { lit = lit; level = level_of self.old.entries + 1; reason = None } ∷ [] }
