@@ -8,6 +8,7 @@ mod derivation;
 mod guide;
 mod mark;
 mod order;
+mod restarts;
 #[cfg(test)]
 mod samples;
 mod search;
