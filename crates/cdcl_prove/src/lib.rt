@@ -8,6 +8,7 @@ mod derivation;
 mod guide;
 mod mark;
 mod order;
+mod part;
 mod restarts;
 #[cfg(test)]
 mod samples;
