@@ -1,5 +1,5 @@
 -- The answers that a search ends with are valid.
-use Rattle.std.proofs.Common.{◌≡◌, ℕ, ◌+◌, ◌<◌, true, false, ◌&&◌, ◌==◌, List, [], ◌∷◌, ◌++◌, map, length, None, refl, sym, ap, ◌∙◌, subst, arith, append_assoc, length-append, eq-eqb, ⊎_elim}
+use Rattle.std.proofs.Common.{Bool, ◌≡◌, ℕ, ◌+◌, ◌<◌, true, false, ◌&&◌, ◌==◌, List, [], ◌∷◌, ◌++◌, map, length, None, refl, sym, ap, ◌∙◌, subst, arith, append_assoc, length-append, eq-eqb, ⊎_elim, filter, cond}
 use Rattle.std.specs.List.{list_all}
 use Rattle.std.proofs.lemmas.Bool.{and_from, and_parts, or_left, or_right, or_cases, cond-false, eqb-true}
 use Rattle.clause_db.specs.declared.lit.Lit.{Lit}
@@ -11,6 +11,7 @@ use Rattle.pack_defs.specs.ChannelMap.{overlaid}
 use Rattle.pack_defs.specs.Lists.{is_in, is_ascending, has_station}
 use Rattle.pack_defs.specs.Packing.{IsPacking, IsClean}
 use Rattle.pack_defs.specs.declared.worker.Worker.{Worker}
+use Rattle.pack_defs.proofs.Chains.{ascending-filter}
 use Rattle.pack_defs.proofs.Words.{list_any-map}
 use Rattle.assign_check.proofs.Faultless.{on-stations}
 use Rattle.cnf_encode.specs.Formula.{packing_formula, variables_in}
@@ -94,6 +95,20 @@ all-in (x ∷ xs) set f = and_from (is_in set x) (list_all (is_in set) xs) (f x 
 
 pub whole-subset : (set : List ℕ) → is_ascending set ≡ true → is_subset set set ≡ true
 whole-subset set a = and_from (is_ascending set) (list_all (is_in set) set) a (all-in set set (λ s h. h))
+
+filter-in : (p : ℕ → Bool) (xs : List ℕ) (s : ℕ) → is_in (filter p xs) s ≡ true → is_in xs s ≡ true
+filter-in p [] s h = h
+filter-in p (x ∷ xs) s h = step (p x) h (filter-in p xs s)
+  where
+    step : (b : Bool) → is_in (cond b (x ∷ filter p xs) (filter p xs)) s ≡ true → (is_in (filter p xs) s ≡ true → is_in xs s ≡ true) → is_in (x ∷ xs) s ≡ true
+    step true h f = ⊎_elim (λ e. or_left (x == s) (is_in xs s) e) (λ r. or_right (x == s) (is_in xs s) (f r)) (or_cases (x == s) (is_in (filter p xs) s) h)
+    step false h f = or_right (x == s) (is_in xs s) (f h)
+
+-- some stations of the query's set are a subset of it
+pub some-subset : (p : ℕ → Bool) (set part : List ℕ) → is_ascending set ≡ true → part ≡ filter p set → is_subset part set ≡ true
+some-subset p set part a e =
+    subst (λ (xs : List ℕ). is_subset xs set ≡ true) (sym e)
+    (and_from (is_ascending (filter p set)) (list_all (is_in set) (filter p set)) (ascending-filter p set a) (all-in (filter p set) set (λ s h. filter-in p set s h)))
 
 -- ---- a receipt
 

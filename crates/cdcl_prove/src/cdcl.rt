@@ -1,10 +1,12 @@
-ghost use Rattle.std.specs.Prelude.{◌≡◌, IfOk, IsTrue, length};
+ghost use Rattle.std.specs.Prelude.{◌≡◌, IfOk, IfSome, IsTrue, length, true};
 ghost use Rattle.pack_defs.specs.Lists.{is_ascending};
 ghost use Rattle.cert_types.specs.Query.{AttemptIs, IsQuery};
+ghost use Rattle.cert_types.specs.Refutes.{is_subset};
 ghost use Rattle.cdcl_prove.specs.Formulas.{IsFormulaOf};
 
 use crate::answers::{fit, receipt, refutation};
 use crate::guide::Guide;
+use crate::part::around;
 use crate::search::Search;
 use crate::solve::{Outcome, solve};
 use cert_types::poll::{Attempt, Poll};
@@ -58,7 +60,55 @@ impl Cdcl {
         ensures worker { self.new ≡ self.old }
         ensures goes { P.goes poll.old poll.new }
     {
+        if let Some(attempt) = attempt_part(alloc, book, task, self.worker, poll)? {
+            return Ok(attempt);
+        }
         attempt_whole(alloc, book, task, self.worker, poll)
+    }
+}
+
+// Tries to refute the tested station with those that interfere with it, by at most a tenth of the budget. Where that
+// leaves it open, none of its lines is kept.
+fn attempt_part<P: Poll>(
+    alloc: Global,
+    book: &Book,
+    task: &Task,
+    worker: Worker,
+    poll: &mut P,
+) -> Result<Option<Attempt>, NoMemory>
+    requires { IsQuery book.now task.now }
+    ensures said { IfOk result (λ r. IfSome r (λ attempt. AttemptIs book.now task.now worker (P.last poll.new) attempt)) }
+    ensures goes { P.goes poll.old poll.new }
+{
+    let Some(station) = task.station else {
+        return Ok(None);
+    };
+    let part = around(alloc, book, task, station)?;
+    attempt_within(alloc, book, task, &part, worker, poll)
+}
+
+// Tries to refute a part of the set.
+fn attempt_within<P: Poll>(
+    alloc: Global,
+    book: &Book,
+    task: &Task,
+    part: &[u32],
+    worker: Worker,
+    poll: &mut P,
+) -> Result<Option<Attempt>, NoMemory>
+    requires { is_subset part.now task.now.set ≡ true }
+    ensures said { IfOk result (λ r. IfSome r (λ attempt. AttemptIs book.now task.now worker (P.last poll.new) attempt)) }
+    ensures goes { P.goes poll.old poll.new }
+{
+    let mut search = begin(alloc, book, task, part)?;
+    let outcome = solve(alloc, &mut search, worker.budget / 10, task.number, poll)?;
+    match outcome {
+        Outcome::Model | Outcome::Spent => Ok(None),
+        Outcome::Refuted(last) => {
+            let answer = refutation(alloc, part, search.into_derivation(), last)?;
+            Ok(Some(Attempt::Said(answer)))
+        }
+        Outcome::Moved { now } => Ok(Some(Attempt::Moved { now })),
     }
 }
 

@@ -8,6 +8,8 @@ mod derivation;
 mod guide;
 mod mark;
 mod order;
+mod part;
+mod restarts;
 #[cfg(test)]
 mod samples;
 mod search;

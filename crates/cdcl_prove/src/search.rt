@@ -11,6 +11,7 @@ use crate::analysis::analyse;
 use crate::derivation::Derivation;
 use crate::guide::Guide;
 use crate::mark::Marks;
+use crate::restarts::Restarts;
 use clause_db::list::ClauseList;
 use clause_db::lit::Lit;
 use rup_check::line::Line;
@@ -23,6 +24,7 @@ pub(crate) struct Search {
     pub(crate) derivation: Derivation,
     guide: Guide,
     marks: Marks,
+    restarts: Restarts,
 }
 
 /// What one step of a search came to.
@@ -47,6 +49,7 @@ impl Search {
             derivation: Derivation::new(alloc, formula)?,
             guide,
             marks: Marks::new(alloc),
+            restarts: Restarts::new(),
         })
     }
 
@@ -105,10 +108,20 @@ impl Search {
         ensures formula { self.new.derivation.formula ≡ self.old.derivation.formula }
         ensures learnt { OnOk result (length self.new.derivation.lines ≡ length self.old.derivation.lines + 1) }
     {
-        let level = self.level_below(line.lits.as_slice());
+        let level = self.level_after(line.lits.as_slice());
         self.derivation.learn(line)?;
         self.guide.age();
         self.go_back(level)
+    }
+
+    // The level to go back to after a line of these literals: where it forces one of them, or 0 now and then.
+    fn level_after(&mut self, lits: &[Lit]) -> u32
+        ensures { self.new.derivation ≡ self.old.derivation }
+    {
+        if self.restarts.is_due() {
+            return 0;
+        }
+        self.level_below(lits)
     }
 
     // The highest level of these variables that is below the trail's.
