@@ -1,5 +1,5 @@
 -- A posting that was looked at goes into a history that replays.
-use Rattle.std.proofs.Common.{◌≡◌, ℕ, ◌<◌, ◌≤◌, Bool, true, false, if◌then◌else◌, List, [], ◌∷◌, ◌++◌, length, Option, Some, None, option_and_then, refl, sym, ap, ◌∙◌, subst, arith}
+use Rattle.std.proofs.Common.{◌≡◌, List, [], ◌∷◌, ◌++◌, Option, Some, None, option_and_then, refl, sym, ap, ◌∙◌, subst, arith}
 use Rattle.std.proofs.lemmas.Bool.{cond-true}
 use Rattle.pack_defs.specs.Book.{BookView, IsInOrder}
 use Rattle.pack_defs.specs.declared.scenario.Scenario.{Scenario}
@@ -13,10 +13,10 @@ use Rattle.auction_core.specs.declared.posting.Said.TheVariants.{Good, Bad}
 use Rattle.auction_core.specs.Auction.{IsReplayed, entry_told, let_through}
 use Rattle.auction_core.specs.Clockwork.{IsOfAuction}
 use Rattle.auction_core.specs.Replay.{EntryView, after_entry, kept_answer, replay, replay_from, stands}
-use Rattle.auction_core.specs.Rule.{Answers, IsAuction, KeepsTheRule}
+use Rattle.auction_core.specs.Rule.{IsAuction, KeepsTheRule}
 use Rattle.auction_core.specs.Said.{AnswersIfGood, IsSaidOf, MayBeTaken, StandsFor, taken, with_answer}
 use Rattle.auction_core.specs.State.{CoreState, opening}
-use Rattle.auction_core.specs.Take.{is_noted, take, turned_away}
+use Rattle.auction_core.specs.Take.{is_noted, turned_away}
 use Rattle.auction_core.proofs.DeskLemmas.{taken-turned, taken-told}
 use Rattle.auction_core.proofs.Kept.{kept-rule}
 use Rattle.auction_core.proofs.Keeps.{opening-keeps}

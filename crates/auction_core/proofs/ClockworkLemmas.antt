@@ -433,9 +433,9 @@ packing-settles sc book state task entries ascend k e packing =
     let set : List ℕ = task.set in
     let rises = task-rises sc book state task ascend e in
     let last : (is_ascending (map (λ y. y.0) task.last) ≡ true) × ((s : ℕ) → is_in (map (λ y. y.0) task.last) s ≡ true → is_in task.set s ≡ true) = task-has sc book state (λ task. (is_ascending (map (λ y. y.0) task.last) ≡ true) × ((s : ℕ) → is_in (map (λ y. y.0) task.last) s ≡ true → is_in task.set s ≡ true))
-        (refl, λ s h. absurd (false≢true h))
-        (λ t. (restricted-ascending state.map (component book (asked_set sc state.clock t.station) t.station) (map-rises sc book state ascend k), λ s h. restricted-in state.map (component book (asked_set sc state.clock t.station) t.station) s h))
-        task e in
+    (refl, λ s h. absurd (false≢true h))
+    (λ t. (restricted-ascending state.map (component book (asked_set sc state.clock t.station) t.station) (map-rises sc book state ascend k), λ s h. restricted-in state.map (component book (asked_set sc state.clock t.station) t.station) s h))
+    task e in
     let new : is_ascending (map (λ y. y.0) entries) ≡ true = subst (λ xs. is_ascending xs ≡ true) (sym packing.stations) rises in
     let all : overlaid task.last entries ≡ entries = overlaid-all task.last entries last.0 new (λ s h. subst (λ xs. is_in xs s ≡ true) (sym packing.stations) (last.1 s h)) in
     subst (IsCleanOn book set) (sym all) (record {

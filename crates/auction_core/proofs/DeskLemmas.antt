@@ -5,7 +5,6 @@ use Rattle.pack_defs.specs.Book.{BookView}
 use Rattle.pack_defs.specs.declared.scenario.Scenario.{Scenario}
 use Rattle.pack_defs.specs.ClockRule.{ClockTest, clock_tests}
 use Rattle.pack_defs.specs.ChannelMap.{overlaid}
-use Rattle.cert_types.specs.declared.task.Task.{Task}
 use Rattle.auction_core.specs.declared.posting.Posting.{Posting}
 use Rattle.auction_core.specs.declared.posting.Reply.{Reply}
 use Rattle.auction_core.specs.declared.posting.Reply.TheVariants.{Advanced}

@@ -1,5 +1,5 @@
 -- The set of a query ascends.
-use Rattle.std.proofs.Common.{◌≡◌, Bool, true, false, if◌then◌else◌, List, [], ◌∷◌, Some, None, is_none, MatchOption}
+use Rattle.std.proofs.Common.{◌≡◌, Bool, true, false, if◌then◌else◌, List, [], ◌∷◌, Some, is_none, MatchOption}
 use Rattle.std.specs.Prelude.{⊤}
 use Rattle.pack_defs.specs.Book.{BookView}
 use Rattle.pack_defs.specs.Lists.{is_ascending}

@@ -58,7 +58,7 @@ impl Auction {
         ensures state { IfOk result (λ auction. auction.state ≡ opening sc.now book.now) }
         ensures history { IfOk result (λ auction. auction.history ≡ []) }
     {
-        // that every book is in order
+        // With its length a book says that it is in order, which the history's laws ask of it.
         let _ = book.len();
         Ok(Auction {
             desk: Desk::open(alloc, sc, book)?,
@@ -132,10 +132,11 @@ impl Auction {
         self.desk.reserve()
     }
 
-    /// What the posting is told, after what it does is done: it is turned away, or its answer does what it does. An answer
-    /// that was let through has to be valid for the standing query and the worker, unless the posting is turned away. What
-    /// it was told is kept. Where the answer stood for one that was posted unseen, the same was done. It takes no memory,
-    /// and costs what the stations passed up to the next query cost.
+    /// Does what the posting does, and answers what it is told: it is turned away, or its answer settles the query, is
+    /// noted or changes nothing. An answer that was let through has to be valid for the standing query and its worker,
+    /// unless the posting is turned away. Where what the posting says of some answer is so, the same is done as if that
+    /// answer had been posted without a look at it. The history keeps what it was told, and the state keeps the clock
+    /// rule. It takes no memory, and costs what the stations passed up to the next query cost.
     pub fn take(&mut self, posting: Posting) -> Reply
         requires spare { 1 ≤ self.old.spare }
         requires said { MayBeTaken self.old.scenario self.old.book self.old.state posting }

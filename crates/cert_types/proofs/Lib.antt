@@ -5,3 +5,4 @@ pub mod Refuting
 pub mod SpentLaws
 pub mod SubsetLemmas
 pub mod Validity
+pub mod DeltaLemmas

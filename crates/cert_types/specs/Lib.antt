@@ -1,6 +1,7 @@
 pub mod Certificate
 pub mod Examples
 pub mod FirstLine
+pub mod Query
 pub mod Refutes
 pub mod Spent
 pub mod Valid

@@ -4,8 +4,11 @@
 pub mod answer;
 pub mod certified;
 pub mod certify;
+pub mod delta;
 mod first_line;
 pub mod laws;
+pub mod poll;
+pub mod query;
 #[cfg(test)]
 mod samples;
 mod subset;

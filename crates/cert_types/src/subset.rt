@@ -12,7 +12,7 @@ pub(crate) fn is_subset(subset: &[u32], set: &[u32]) -> bool
 }
 
 // Whether each number is above the one before it.
-fn ascends(numbers: &[u32]) -> bool
+pub(crate) fn ascends(numbers: &[u32]) -> bool
     ensures { result ≡ is_ascending numbers.now }
 {
     for i in 1..numbers.len() {

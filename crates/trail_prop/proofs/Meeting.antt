@@ -1,10 +1,10 @@
 -- What is kept while the watches of a literal that became false are met one by one.
-use Rattle.std.proofs.Common.{◌≡◌, ◌≢◌, ℕ, zero, suc, ◌+◌, ◌-◌, ◌<◌, ◌≤◌, true, false, not, ◌==◌, List, [], ◌∷◌, ◌++◌, Some, length, get_or, take, refl, sym, ap, ◌∙◌, subst, inl, inr, arith, length-set, length-append, append-nil, eq-eqb}
+use Rattle.std.proofs.Common.{◌≡◌, ◌≢◌, ℕ, zero, suc, ◌+◌, ◌-◌, ◌<◌, ◌≤◌, true, false, not, ◌==◌, List, [], ◌∷◌, ◌++◌, Some, length, get_or, take, refl, sym, ap, ◌∙◌, subst, inl, inr, arith, length-set, eq-eqb}
 use Rattle.std.specs.Prelude.{slice_set}
 use Rattle.std.specs.List.{All}
 use Rattle.std.proofs.lemmas.Bool.{or_cases, and_from, false≢true}
 use Rattle.std.proofs.lemmas.Grind.{common_steps}
-use Rattle.std.proofs.lemmas.List.{take_more_set, get_or_default, get_or-set_same}
+use Rattle.std.proofs.lemmas.List.{take_more_set, get_or_default}
 use Rattle.std.proofs.lemmas.List.Elements.{All-more, All-push, All-weaker, All-head, All-tail}
 use Rattle.clause_db.specs.declared.lit.Lit.{Lit}
 use Rattle.clause_db.specs.Clause.{opposite, has_lit, same_lit, clause_at}
@@ -18,10 +18,9 @@ use Rattle.trail_prop.specs.Good.{AreGood}
 use Rattle.trail_prop.specs.Open.{LitsWithin, is_open}
 use Rattle.trail_prop.specs.Steps.{onto, relisted, IsHeld, AreHeld, Shrinks}
 use Rattle.trail_prop.specs.Trails.{TrailView, Grows}
-use Rattle.trail_prop.specs.Turn.{IsMove, LeavesOnly}
-use Rattle.trail_prop.specs.Watching.{lit_at, clause_of, watches_at, IsSafe, StandsAt, HasTrue, IsFixed, watches_of, IsWatched, IsPair, WatchView}
+use Rattle.trail_prop.specs.Turn.{IsMove}
+use Rattle.trail_prop.specs.Watching.{lit_at, clause_of, watches_at, IsSafe, StandsAt, HasTrue, IsFixed, watches_of, IsWatched, WatchView}
 use Rattle.trail_prop.proofs.Counting.{count-push, count-pushed}
-use Rattle.trail_prop.proofs.Finding.{pair-leaves, pair-leaves-first}
 use Rattle.trail_prop.proofs.Known.{code-is, same_lit-is}
 use Rattle.trail_prop.proofs.Minding.{relisted-same, relisted-other, relisted-more}
 use Rattle.trail_prop.proofs.Trailing.{grows-level}

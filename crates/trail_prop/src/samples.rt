@@ -92,6 +92,18 @@ pub(crate) fn is_entry(entry: &Entry, number: i64, level: u32, reason: u64) -> b
     entry.lit == lit(number) && entry.level == level && entry.reason.unwrap_or(0) == reason
 }
 
+// Whether this is the entry of its variable.
+pub(crate) fn has_entry(trail: &Trail, number: i64, level: u32, reason: u64) -> bool {
+    let lit = lit(number);
+    if !is_within(trail.clauses().vars(), lit) {
+        return false;
+    }
+    match trail.entry_of(lit.var) {
+        Some(entry) => is_entry(&entry, number, level, reason),
+        None => false,
+    }
+}
+
 // Whether these are the entries: each literal with its level and the number of its reason, or 0.
 pub(crate) fn shows(trail: &Trail, wanted: &[(i64, u32, u64)]) -> bool {
     let entries = trail.entries();

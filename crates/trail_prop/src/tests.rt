@@ -1,4 +1,4 @@
-use crate::samples::{add, backjump, chain, decide, is_entry, propagate, shows, trail};
+use crate::samples::{add, backjump, chain, decide, has_entry, is_entry, propagate, shows, trail};
 use std::test::Fail;
 
 // Three stations on two channels, of which no two may share one: station s on channel c is variable 2 * (s - 1) + c.
@@ -90,6 +90,8 @@ fn a_clause_added_unit(rt: HostRuntime) -> Result<(), Fail> {
     add(rt.alloc(), &mut trail, &[-1, 2, 3])?;
     assert_eq!(rt; propagate(&mut trail)?, 0);
     assert!(rt; shows(&trail, &[(1, 1, 0), (-3, 2, 0), (2, 2, 1)]));
+    assert!(rt; has_entry(&trail, 2, 2, 1));
+    assert!(rt; !has_entry(&trail, 3, 2, 0));
     Ok(())
 }
 

@@ -1,9 +1,10 @@
 //! The trail: decisions, and the literals that clauses force.
 
-ghost use Rattle.std.specs.Prelude.{ℕ, ◌≡◌, ◌+◌, ◌≤◌, ◌++◌, ◌∷◌, [], filter, IfOk, IfSome, IfNone, OnOk, OnErr, None};
+ghost use Rattle.std.specs.Prelude.{ℕ, ◌≡◌, ◌+◌, ◌≤◌, ◌++◌, ◌∷◌, [], filter, IfOk, IfSome, IfNone, OnOk, OnErr, None, Some};
 ghost use Rattle.clause_db.specs.Clause.{clause_at};
 ghost use Rattle.clause_db.specs.Clauses.{LitWithin, ClausesWithin};
-ghost use Rattle.trail_prop.specs.Entries.{lits_of, level_of};
+ghost use Rattle.trail_prop.specs.declared.entry.Entry.{Entry};
+ghost use Rattle.trail_prop.specs.Entries.{lits_of, level_of, IsEntry, IsEntryOf};
 ghost use Rattle.trail_prop.specs.Open.{LitsWithin, value_of, IsComplete};
 ghost use Rattle.trail_prop.specs.Trails.{IsTrail, IsFalseAt, Grows, is_up_to};
 
@@ -71,6 +72,16 @@ impl Trail {
         ensures { result ≡ value_of (lits_of self.now.entries) var }
     {
         self.watching.plain().value(var)
+    }
+
+    /// The entry of a variable, if it has one. It is one look into an array.
+    pub fn entry_of(&self, var: u64) -> Option<Entry>
+        requires from_one { 1 ≤ var }
+        requires to_vars { var ≤ self.now.clauses.vars }
+        ensures found { IfSome result (λ e. IsEntryOf self.now.entries var e) }
+        ensures only { (k : ℕ) (e : Entry) → IsEntry self.now.entries k e → e.lit.var ≡ var → result ≡ Some e }
+    {
+        self.watching.plain().assigned().entry_of(var)
     }
 
     /// Puts a clause after the last. The next propagation looks at it. Where there is no memory for it, the trail stays

@@ -1,5 +1,4 @@
 -- No entry replays to the opening.
-use Rattle.std.proofs.Common.{rules}
 use Rattle.auction_core.proofs.AuctionLemmas.{none-replayed}
 use Rattle.auction_core.proofs.auction.Auction.start.Goals as goal
 

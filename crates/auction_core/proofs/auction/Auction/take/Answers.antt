@@ -1,6 +1,6 @@
 -- With the posting's entry the history replays to the new state, which so keeps the rule.
-use Rattle.std.proofs.Common.{rules, ◌≡◌, ◌++◌, ◌∷◌, [], ap, subst, sym, ◌∙◌, option_and_then}
-use Rattle.auction_core.specs.Auction.{IsReplayed, entry_told}
+use Rattle.std.proofs.Common.{◌≡◌, ◌++◌, ◌∷◌, [], ap, subst, sym, ◌∙◌, option_and_then}
+use Rattle.auction_core.specs.Auction.{entry_told}
 use Rattle.auction_core.specs.Replay.{kept_answer}
 use Rattle.auction_core.specs.Said.{MayBeTaken, taken}
 use Rattle.auction_core.proofs.AuctionLemmas.{replayed-rule, told-replayed}

@@ -1,5 +1,5 @@
 -- A valid fit settles the query.
-use Rattle.std.proofs.Common.{◌≡◌, subst}
+use Rattle.std.proofs.Common.{subst}
 use Rattle.auction_core.specs.Rule.{Answers}
 use Rattle.auction_core.proofs.Keeps.{fit-settles}
 use Rattle.auction_core.proofs.desk.Desk.accept.Goals as goal

@@ -1,8 +1,7 @@
 -- By the lemma on a settled query.
-use Rattle.std.proofs.Common.{rules, ◌≡◌, subst, sym}
+use Rattle.std.proofs.Common.{subst, sym}
 use Rattle.auction_core.specs.Notes.{notes_of}
 use Rattle.auction_core.specs.Rule.{SettlesQuery}
-use Rattle.auction_core.specs.Take.{advanced}
 use Rattle.auction_core.proofs.DeskLemmas.{settles-noted, advanced-is}
 use Rattle.auction_core.proofs.desk.Desk.advance.Goals as goal
 

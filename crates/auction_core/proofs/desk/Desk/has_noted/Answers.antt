@@ -1,5 +1,5 @@
 -- A worker past the last has no place, so it is not noted.
-use Rattle.std.proofs.Common.{rules, ◌≡◌, ◌≤◌, ◌+◌, length, ap, sym, ◌∙◌, arith, le-ltb}
+use Rattle.std.proofs.Common.{◌≡◌, length, ap, sym, ◌∙◌, arith, le-ltb}
 use Rattle.auction_core.specs.Take.{is_noted}
 use Rattle.auction_core.proofs.NoteLemmas.{not-past}
 use Rattle.auction_core.proofs.desk.Desk.has_noted.Goals as goal

@@ -1,5 +1,5 @@
 -- The last worker's receipt settles the query, with those of all the others.
-use Rattle.std.proofs.Common.{rules, ◌≡◌, true, false, ◌+◌, ◌==◌, length, [], subst, sym, ap, ◌∙◌, eq-eqb}
+use Rattle.std.proofs.Common.{◌≡◌, true, false, ◌+◌, ◌==◌, length, [], sym, ap, ◌∙◌, eq-eqb}
 use Rattle.auction_core.specs.declared.record.Shown.TheVariants.{Undecided}
 use Rattle.auction_core.specs.Take.{is_noted}
 use Rattle.auction_core.proofs.Cases.{noted_as, all_spent}

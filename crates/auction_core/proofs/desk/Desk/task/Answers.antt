@@ -1,8 +1,7 @@
 -- The query doesn't depend on what is noted.
-use Rattle.std.proofs.Common.{rules, ◌≡◌, subst, sym, ◌∙◌, ap}
+use Rattle.std.proofs.Common.{◌≡◌, subst, sym}
 use Rattle.std.specs.Prelude.{IfOk}
 use Rattle.auction_core.specs.Notes.{notes_of}
-use Rattle.auction_core.specs.State.{task_of}
 use Rattle.auction_core.proofs.DeskLemmas.{task-noted}
 use Rattle.auction_core.proofs.desk.Desk.task.Goals as goal
 

@@ -1,5 +1,5 @@
 -- By cases on what the posting says.
-use Rattle.std.proofs.Common.{rules, ◌≡◌, sym, ap, ◌∙◌}
+use Rattle.std.proofs.Common.{sym, ap, ◌∙◌}
 use Rattle.auction_core.specs.Take.{accepted}
 use Rattle.auction_core.proofs.DeskLemmas.{taken-turned, taken-told}
 use Rattle.auction_core.proofs.desk.Desk.tell.Goals as goal

@@ -1,7 +1,7 @@
 -- By the lemmas on one place more, with a receipt or without one.
-use Rattle.std.proofs.Common.{rules, ◌≡◌, ◌+◌, length, sym, ap, ◌∙◌, subst, arith, drop}
+use Rattle.std.proofs.Common.{rules, length, ap, ◌∙◌, arith}
 use Rattle.auction_core.specs.Notes.{notes_of}
-use Rattle.auction_core.proofs.NoteLemmas.{how_many, many-bound, one-more, all-counted}
+use Rattle.auction_core.proofs.NoteLemmas.{many-bound, one-more, all-counted}
 use Rattle.auction_core.proofs.notes.Notes.count.Goals as goal
 
 pub overflow_add-count : goal.overflow_add-count

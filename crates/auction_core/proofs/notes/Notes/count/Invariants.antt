@@ -1,5 +1,5 @@
 -- Those counted and those among the places left are all.
-use Rattle.std.proofs.Common.{◌≡◌, ◌≤◌, ◌+◌, drop, length}
+use Rattle.std.proofs.Common.{◌≡◌, ◌+◌, drop}
 use Rattle.auction_core.proofs.NoteLemmas.{how_many}
 use Rattle.auction_core.proofs.notes.Notes.count.Given as goal
 

@@ -1,0 +1,29 @@
+use Rattle.std.proofs.Common.{◌≡◌, true, ℕ, Bool, List, sym, subst}
+use Rattle.clause_db.specs.declared.lit.Lit.{Lit}
+use Rattle.clause_db.specs.Clause.{Satisfies}
+use Rattle.pack_defs.specs.Lists.{is_ascending}
+use Rattle.pack_defs.specs.Packing.{IsPacking}
+use Rattle.cnf_encode.specs.Decode.{listed}
+use Rattle.cnf_encode.specs.Formula.{packing_formula}
+use Rattle.trail_prop.specs.Entries.{lits_of}
+use Rattle.trail_prop.specs.Trails.{TrailView}
+use Rattle.cdcl_prove.proofs.ModelLemmas.{Reads, model-satisfies}
+use Rattle.cdcl_prove.proofs.AnswerLemmas.{query-of_set, query-rises, stations-kept, fit-valid}
+use Rattle.cdcl_prove.proofs.answers.fit.Goals as goal
+
+pub decode-requires-clause-ascending : goal.decode-requires-clause-ascending
+decode-requires-clause-ascending c = subst (λ (xs : List ℕ). is_ascending xs ≡ true) (sym c.as_slice.ensures) (query-rises c.args.book.now c.args.task.now c.requires.query)
+
+pub decode-requires-clause-model : goal.decode-requires-clause-model
+decode-requires-clause-model c =
+    let reads : Reads c.args.derivation.now.formula.vars (lits_of c.args.derivation.now.entries) (listed c.in_ok-model.model.items) = subst (λ (t : TrailView). Reads t.clauses.vars (lits_of t.entries) (listed c.in_ok-model.model.items)) c.trail.ensures c.in_ok-model.ensures in
+    let all = model-satisfies c.args.derivation.now.formula c.args.derivation.now.lines (lits_of c.args.derivation.now.entries) (listed c.in_ok-model.model.items) reads c.requires.model.total c.requires.formula.within c.requires.model.complete in
+    let of-set : Satisfies (listed c.in_ok-model.model.items) (packing_formula c.args.book.now c.args.task.now.set) = subst (λ (z : List (List Lit)). Satisfies (listed c.in_ok-model.model.items) z) c.requires.formula.list all in
+    let of-slice : Satisfies (listed c.in_ok-model.model.items) (packing_formula c.args.book.now c.as_slice.result.now) = subst (λ (xs : List ℕ). Satisfies (listed c.in_ok-model.model.items) (packing_formula c.args.book.now xs)) (sym c.as_slice.ensures) of-set in
+    subst (λ (bs : List Bool). Satisfies (listed bs) (packing_formula c.args.book.now c.as_slice.result.now)) (sym c.deref.ensures.value) of-slice
+
+pub returns : goal.returns
+returns c worker =
+    let packing : IsPacking c.args.book.now c.args.task.now.set c.in_ok-map.map = subst (λ (xs : List ℕ). IsPacking c.args.book.now xs c.in_ok-map.map) c.as_slice.ensures c.in_ok-map.ensures.packing in
+    fit-valid c.args.book.now c.args.task.now worker c.in_ok-map.map c.in_ok-delta.field-0 packing
+    (c.in_ok-delta.ensures.whole (stations-kept c.args.task.now.last c.in_ok-map.map c.args.task.now.set packing.stations (query-of_set c.args.book.now c.args.task.now c.requires.query)))

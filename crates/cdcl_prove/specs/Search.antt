@@ -1,0 +1,43 @@
+-- What a search comes to.
+use Rattle.std.specs.Prelude.{ℕ, ◌≡◌, ◌≢◌, ◌<◌, ◌+◌, true, length, Option, Some, None}
+use Rattle.clause_db.specs.Clause.{clause_at, is_empty_clause}
+use Rattle.rup_check.specs.declared.line.Line.{Line}
+use Rattle.rup_check.specs.Follows.{line_fault}
+use Rattle.trail_prop.specs.declared.entry.Conflict.{Conflict}
+use Rattle.trail_prop.specs.Entries.{lits_of}
+use Rattle.trail_prop.specs.Open.{IsComplete}
+use Rattle.trail_prop.specs.Trails.{IsFalseAt}
+use Rattle.cdcl_prove.specs.declared.search.Step.{Step}
+use Rattle.cdcl_prove.specs.declared.search.Step.TheVariants as step
+use Rattle.cdcl_prove.specs.declared.solve.Outcome.{Outcome}
+use Rattle.cdcl_prove.specs.declared.solve.Outcome.TheVariants as outcome
+use Rattle.cdcl_prove.specs.Derivation.{Derived, clauses_of}
+use Rattle.cdcl_prove.specs.Picks.{IsTotal}
+
+-- every variable has a value, and no clause is false
+pub record IsModel (d : Derived) : Type 0 where
+  pub complete : IsComplete (clauses_of d).list (lits_of d.entries)
+  pub total : IsTotal d.formula.vars (lits_of d.entries)
+
+-- a false clause, or a model
+abbrev pub DescentIs : Derived → Option Conflict → Type 0
+DescentIs d (Some conflict) = IsFalseAt (lits_of d.entries) (clause_at (clauses_of d).list conflict.clause)
+DescentIs d None = IsModel d
+
+-- the line follows and is empty
+pub record IsLast (d : Derived) (line : Line) : Type 0 where
+  pub follows : line_fault d.formula.vars (clauses_of d).list line ≡ None
+  pub ends : is_empty_clause line.lits ≡ true
+
+-- what one step leaves: a line more, a model, or the last line of a refutation
+abbrev pub StepIs : Derived → Derived → Step → Type 0
+StepIs earlier later step.Learnt = length later.lines ≡ length earlier.lines + 1
+StepIs earlier later step.Model = IsModel later × (later.lines ≡ earlier.lines)
+StepIs earlier later (step.Refuted line) = IsLast later line × (later.lines ≡ earlier.lines)
+
+-- how a search ends that has a budget of lines and a query of this number, where the poll's latest answer is `last`
+abbrev pub OutcomeIs : Derived → ℕ → ℕ → ℕ → Outcome → Type 0
+OutcomeIs d budget number last outcome.Model = IsModel d
+OutcomeIs d budget number last (outcome.Refuted line) = IsLast d line × (length d.lines < budget)
+OutcomeIs d budget number last outcome.Spent = length d.lines ≡ budget
+OutcomeIs d budget number last (outcome.Moved now) = (last ≡ now) × (now ≢ number)

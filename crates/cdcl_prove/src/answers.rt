@@ -1,0 +1,85 @@
+ghost use Rattle.std.specs.Prelude.{ℕ, ◌≡◌, ◌≤◌, ◌<◌, IfOk, length, true};
+ghost use Rattle.clause_db.specs.Clause.{has_lit, pos_lit};
+ghost use Rattle.pack_defs.specs.Book.{BookView};
+ghost use Rattle.pack_defs.specs.declared.worker.Worker.{Worker};
+ghost use Rattle.cert_types.specs.declared.task.Task.{Task};
+ghost use Rattle.cert_types.specs.Query.{IsQuery};
+ghost use Rattle.cert_types.specs.Refutes.{is_subset};
+ghost use Rattle.cert_types.specs.Valid.{IsValid};
+ghost use Rattle.cnf_encode.specs.Decode.{listed};
+ghost use Rattle.trail_prop.specs.Entries.{lits_of};
+ghost use Rattle.cdcl_prove.specs.Formulas.{IsFormulaOf};
+ghost use Rattle.cdcl_prove.specs.Search.{IsLast, IsModel};
+
+use crate::derivation::Derivation;
+use cert_types::answer::{Answer, Receipt, Refutation};
+use cert_types::delta::delta;
+use cert_types::task::Task;
+use cnf_encode::decode::decode;
+use pack_defs::book::Book;
+use pack_defs::items::Items;
+use rup_check::line::{Line, Log};
+use std::alloc::{AllocError as NoMemory, Global};
+use trail_prop::trail::Trail;
+
+/// The fit that a model of the set's formula says: the stations whose channel is another than in the last map, or that had
+/// none.
+pub(crate) fn fit(
+    alloc: Global,
+    book: &Book,
+    task: &Task,
+    derivation: &Derivation,
+) -> Result<Answer, NoMemory>
+    requires query { IsQuery book.now task.now }
+    requires formula { IsFormulaOf book.now task.now.set derivation.now.formula }
+    requires model { IsModel derivation.now }
+    ensures { (worker : Worker) → IfOk result (λ answer. IsValid book.now task.now worker answer) }
+{
+    let model = values(alloc, derivation.trail())?;
+    let map = decode(alloc, book, task.set.as_slice(), &model)?;
+    Ok(Answer::Fit(delta(alloc, &task.last, &map)?))
+}
+
+// Whether each variable of the trail is true, variable 1 first.
+fn values(alloc: Global, trail: &Trail) -> Result<Vec<bool>, NoMemory>
+    ensures { IfOk result (λ values. (v : ℕ) → 1 ≤ v → v ≤ trail.now.clauses.vars → listed values.items v ≡ has_lit (lits_of trail.now.entries) (pos_lit v)) }
+{
+    let mut values = Vec::new(alloc);
+    for i in 0..trail.clauses().vars() as u64 {
+        values.push(trail.value(i + 1).unwrap_or(false))?;
+    }
+    Ok(values)
+}
+
+/// The refutation of a subset by the derivation from its formula and the last line, which is empty.
+pub(crate) fn refutation(
+    alloc: Global,
+    subset: &[u32],
+    derivation: Derivation,
+    last: Line,
+) -> Result<Answer, NoMemory>
+    requires { IsLast derivation last }
+    ensures { (book : BookView) (task : Task) (worker : Worker) →
+        IsFormulaOf book subset.now derivation.formula → is_subset subset.now task.set ≡ true →
+        length derivation.lines < worker.budget → IfOk result (λ answer. IsValid book task worker answer) }
+{
+    let mut lines = derivation.into_lines();
+    lines.push(last)?;
+    Ok(Answer::Refuted(Refutation::Proof {
+        subset: Items::from_vec(Vec::from_slice(alloc, subset)?),
+        log: Log {
+            lines: Items::from_vec(lines),
+        },
+    }))
+}
+
+/// The receipt of a derivation from the set's formula that has as many lines as the budget.
+pub(crate) fn receipt(derivation: Derivation) -> Answer
+    ensures { (book : BookView) (task : Task) (worker : Worker) →
+        IsFormulaOf book task.set derivation.formula → length derivation.lines ≡ worker.budget →
+        IsValid book task worker result }
+{
+    Answer::Spent(Receipt::Lines(Log {
+        lines: Items::from_vec(derivation.into_lines()),
+    }))
+}

@@ -1,0 +1,180 @@
+ghost use Rattle.std.specs.Prelude.{◌≡◌, IfOk, IfSome, IsTrue, length, true};
+ghost use Rattle.pack_defs.specs.Lists.{is_ascending};
+ghost use Rattle.cert_types.specs.Query.{AttemptIs, IsQuery};
+ghost use Rattle.cert_types.specs.Refutes.{is_subset};
+ghost use Rattle.cdcl_prove.specs.Formulas.{IsFormulaOf};
+
+use crate::answers::{fit, receipt, refutation};
+use crate::guide::Guide;
+use crate::part::around;
+use crate::search::Search;
+use crate::solve::{Outcome, solve};
+use cert_types::poll::{Attempt, Poll};
+use cert_types::task::Task;
+use cnf_encode::encode::encode;
+use pack_defs::book::Book;
+use pack_defs::worker::Worker;
+use std::alloc::{AllocError as NoMemory, Global};
+use std::marker::Model;
+
+/// A solver that decides and propagates over the packing formula, and learns a line of a proof from each conflict.
+/// Contracts see it as its worker.
+#[derive(Drop)]
+pub struct Cdcl {
+    worker: Worker,
+}
+
+impl Model for Cdcl {
+    ghost use Rattle.pack_defs.specs.declared.worker.Worker.{Worker};
+
+    ghost Value = { Worker };
+
+    ghost view = { λ c. c.worker };
+}
+
+impl Cdcl {
+    /// The solver of a worker, which spends the worker's budget in lines. The only error is want of memory.
+    pub fn new(_alloc: Global, worker: &Worker) -> Result<Cdcl, NoMemory>
+        ensures { IfOk result (λ solver. solver ≡ worker.now) }
+    {
+        Ok(Cdcl { worker: *worker })
+    }
+
+    /// Tries to answer a query. What it says is valid for the book, the query and its worker: the channels that make the
+    /// last map one of the set; a proof that the set does not fit, of at most the worker's budget of lines; or, where so
+    /// many lines are learnt, a receipt of them. Where the poll answers that another query stands, it stops. Each attempt
+    /// begins anew, so that it can be called again whatever it answered.
+    ///
+    /// # Errors
+    ///
+    /// Want of memory.
+    pub fn attempt<P: Poll>(
+        &mut self,
+        alloc: Global,
+        book: &Book,
+        task: &Task,
+        poll: &mut P,
+    ) -> Result<Attempt, NoMemory>
+        requires { IsQuery book.now task.now }
+        ensures said { IfOk result (λ attempt. AttemptIs book.now task.now self.new (P.last poll.new) attempt) }
+        ensures worker { self.new ≡ self.old }
+        ensures goes { P.goes poll.old poll.new }
+    {
+        if let Some(attempt) = attempt_part(alloc, book, task, self.worker, poll)? {
+            return Ok(attempt);
+        }
+        attempt_whole(alloc, book, task, self.worker, poll)
+    }
+}
+
+// Tries to refute the tested station with those that interfere with it, by at most a tenth of the budget. Where that
+// leaves it open, none of its lines is kept.
+fn attempt_part<P: Poll>(
+    alloc: Global,
+    book: &Book,
+    task: &Task,
+    worker: Worker,
+    poll: &mut P,
+) -> Result<Option<Attempt>, NoMemory>
+    requires { IsQuery book.now task.now }
+    ensures said { IfOk result (λ r. IfSome r (λ attempt. AttemptIs book.now task.now worker (P.last poll.new) attempt)) }
+    ensures goes { P.goes poll.old poll.new }
+{
+    let Some(station) = task.station else {
+        return Ok(None);
+    };
+    let part = around(alloc, book, task, station)?;
+    attempt_within(alloc, book, task, &part, worker, poll)
+}
+
+// Tries to refute a part of the set.
+fn attempt_within<P: Poll>(
+    alloc: Global,
+    book: &Book,
+    task: &Task,
+    part: &[u32],
+    worker: Worker,
+    poll: &mut P,
+) -> Result<Option<Attempt>, NoMemory>
+    requires { is_subset part.now task.now.set ≡ true }
+    ensures said { IfOk result (λ r. IfSome r (λ attempt. AttemptIs book.now task.now worker (P.last poll.new) attempt)) }
+    ensures goes { P.goes poll.old poll.new }
+{
+    let mut search = begin(alloc, book, task, part)?;
+    let outcome = solve(alloc, &mut search, worker.budget / 10, task.number, poll)?;
+    match outcome {
+        Outcome::Model | Outcome::Spent => Ok(None),
+        Outcome::Refuted(last) => {
+            let answer = refutation(alloc, part, search.into_derivation(), last)?;
+            Ok(Some(Attempt::Said(answer)))
+        }
+        Outcome::Moved { now } => Ok(Some(Attempt::Moved { now })),
+    }
+}
+
+// Tries the whole set.
+fn attempt_whole<P: Poll>(
+    alloc: Global,
+    book: &Book,
+    task: &Task,
+    worker: Worker,
+    poll: &mut P,
+) -> Result<Attempt, NoMemory>
+    requires { IsQuery book.now task.now }
+    ensures said { IfOk result (λ attempt. AttemptIs book.now task.now worker (P.last poll.new) attempt) }
+    ensures goes { P.goes poll.old poll.new }
+{
+    let mut search = begin(alloc, book, task, task.set.as_slice())?;
+    let outcome = solve(alloc, &mut search, worker.budget, task.number, poll)?;
+    match outcome {
+        Outcome::Model => {
+            let answer = fit(alloc, book, task, &search.derivation)?;
+            Ok(Attempt::Said(answer))
+        }
+        Outcome::Refuted(last) => {
+            let set = task.set.as_slice();
+            let answer = refutation(alloc, set, search.into_derivation(), last)?;
+            Ok(Attempt::Said(answer))
+        }
+        Outcome::Spent => Ok(Attempt::Said(receipt(search.into_derivation()))),
+        Outcome::Moved { now } => Ok(Attempt::Moved { now }),
+    }
+}
+
+// A search over the packing formula of a set, guided by the query's last map.
+fn begin(alloc: Global, book: &Book, task: &Task, set: &[u32]) -> Result<Search, NoMemory>
+    requires { IsTrue (is_ascending set.now) }
+    ensures formula { IfOk result (λ search. IsFormulaOf book.now set.now search.derivation.formula) }
+    ensures empty { IfOk result (λ search. length search.derivation.lines ≡ 0) }
+{
+    let formula = encode(alloc, book, set)?;
+    let guide = guide_by(alloc, book, task, set, formula.vars())?;
+    Search::new(alloc, formula, guide)
+}
+
+// The guide by the last map: each of its channels is tried first, and the stations without one before all others.
+fn guide_by(
+    alloc: Global,
+    book: &Book,
+    task: &Task,
+    set: &[u32],
+    vars: u32,
+) -> Result<Guide, NoMemory> {
+    let mut guide = Guide::new(alloc, vars)?;
+    let mut var: u32 = 0;
+    for s in set {
+        let last = task.last.get(*s);
+        for c in book.domain(*s) {
+            var = var.saturating_add(1);
+            match last {
+                None => guide.prefer(var, 2.0),
+                Some(d) => {
+                    if d == *c {
+                        guide.prefer(var, 1.0);
+                    }
+                }
+            }
+        }
+    }
+    Ok(guide)
+}

@@ -1,0 +1,148 @@
+ghost use Rattle.std.specs.Prelude.{ℕ, ◌≡◌, ◌≤◌, IfSome};
+ghost use Rattle.trail_prop.specs.Entries.{lits_of};
+ghost use Rattle.cdcl_prove.specs.Picks.{IsOpenVariable, PickIs, VariableIs};
+
+use crate::order::Order;
+use clause_db::lit::Lit;
+use std::alloc::{AllocError as NoMemory, Global};
+use trail_prop::entry::Entry;
+use trail_prop::trail::Trail;
+
+/// What guides the search: the order in which variables are decided, the value that each is tried with first, and the
+/// level at which each got its value. Nothing that the solver says rests on it.
+#[derive(Drop)]
+pub(crate) struct Guide {
+    order: Order,
+    // For each variable, from place 1 on.
+    phases: Vec<bool>,
+    levels: Vec<u32>,
+    // So many entries of the trail have their levels noted.
+    noted: usize,
+}
+
+impl Guide {
+    /// No variable is preferred, and each is tried as false.
+    pub(crate) fn new(alloc: Global, vars: u32) -> Result<Guide, NoMemory> {
+        let mut phases = Vec::new(alloc);
+        phases.resize(vars as usize + 1, false)?;
+        let mut levels = Vec::new(alloc);
+        levels.resize(vars as usize + 1, 0)?;
+        Ok(Guide {
+            order: Order::new(alloc, vars)?,
+            phases,
+            levels,
+            noted: 0,
+        })
+    }
+
+    /// Prefers a variable by so many steps, and tries it as true first.
+    pub(crate) fn prefer(&mut self, var: u32, steps: f64) {
+        self.set_phase(var as usize, true);
+        self.order.raise(var, steps);
+    }
+
+    /// Notes the levels of the entries that are new on the trail.
+    pub(crate) fn note(&mut self, entries: &[Entry]) {
+        for at in self.noted..entries.len() {
+            let var = entries[at].lit.var as usize;
+            if var < self.levels.len() {
+                self.levels[var] = entries[at].level;
+            }
+        }
+        self.noted = entries.len();
+    }
+
+    /// Before the trail is cut above a level: its variables from there on can be decided again, with the values that they
+    /// have now.
+    pub(crate) fn release(&mut self, entries: &[Entry], level: u32) -> Result<(), NoMemory> {
+        for at in (0..entries.len()).rev() {
+            let entry = entries[at];
+            if entry.level <= level {
+                self.noted = at + 1;
+                return Ok(());
+            }
+            self.set_phase(entry.lit.var as usize, entry.lit.positive);
+            self.order.put(entry.lit.var.min(u32::MAX as u64) as u32)?;
+        }
+        self.noted = 0;
+        Ok(())
+    }
+
+    /// A conflict involves the variable. Whether it got its value at this level.
+    pub(crate) fn involve(&mut self, var: u64, level: u32) -> bool {
+        self.order.raise(var.min(u32::MAX as u64) as u32, 1.0);
+        self.level(var) == level
+    }
+
+    /// The level at which a variable got its latest value.
+    pub(crate) fn level(&self, var: u64) -> u32 {
+        let v = var as usize;
+        if v < self.levels.len() {
+            self.levels[v]
+        } else {
+            0
+        }
+    }
+
+    /// A conflict is done with: what is met from now on counts for more.
+    pub(crate) fn age(&mut self) {
+        self.order.age();
+    }
+
+    /// The literal to decide next; none where every variable has a value.
+    pub(crate) fn pick(&mut self, trail: &Trail) -> Option<Lit>
+        ensures { PickIs trail.now.clauses.vars (lits_of trail.now.entries) result }
+    {
+        if let Some(var) = self.most_active(trail) {
+            return Some(self.literal(var));
+        }
+        match first_open(trail) {
+            Some(var) => Some(self.literal(var)),
+            None => None,
+        }
+    }
+
+    // The most active variable of the heap that has no value. Those before it leave the heap.
+    fn most_active(&mut self, trail: &Trail) -> Option<u64>
+        ensures { IfSome result (λ v. IsOpenVariable trail.now.clauses.vars (lits_of trail.now.entries) v) }
+    {
+        let vars = trail.clauses().vars();
+        for _ in 0..self.order.len() {
+            let var = self.order.take()?;
+            if var >= 1 && var <= vars && trail.value(var as u64).is_none() {
+                return Some(var as u64);
+            }
+        }
+        None
+    }
+
+    // The variable with its phase.
+    fn literal(&self, var: u64) -> Lit
+        ensures { result.var ≡ var }
+    {
+        let v = var as usize;
+        Lit {
+            var,
+            positive: v < self.phases.len() && self.phases[v],
+        }
+    }
+
+    fn set_phase(&mut self, v: usize, phase: bool) {
+        if v < self.phases.len() {
+            self.phases[v] = phase;
+        }
+    }
+}
+
+// The first variable that has no value.
+fn first_open(trail: &Trail) -> Option<u64>
+    ensures { VariableIs trail.now.clauses.vars (lits_of trail.now.entries) result }
+{
+    let vars = trail.clauses().vars() as u64;
+    for i in 0..vars {
+        if trail.value(i + 1).is_none() {
+            return Some(i + 1);
+        }
+    }
+    None
+}

@@ -1,0 +1,87 @@
+ghost use Rattle.std.specs.Prelude.{ℕ, ◌≡◌, ◌≤◌, ◌⊎◌, true, OnOk, length};
+ghost use Rattle.cdcl_prove.specs.Analysis.{has_met, mark_of, resolves};
+ghost use Rattle.cdcl_prove.specs.declared.mark.Mark.TheVariants.{Unmet};
+
+use std::alloc::{AllocError as NoMemory, Global};
+use std::marker::Model;
+
+/// What an analysis of a conflict has done with a variable.
+#[derive(Clone, Copy, Debug, PartialEq, Eq)]
+pub(crate) enum Mark {
+    /// It has not met it.
+    Unmet,
+    /// It has met it, and keeps its literal for the line.
+    Kept,
+    /// It has met it, and resolves its literal away by its reason.
+    Resolved,
+}
+
+/// A mark for each variable, from variable 1 on.
+#[derive(Drop)]
+pub(crate) struct Marks {
+    marks: Vec<Mark>,
+}
+
+impl Model for Marks {
+    ghost use Rattle.std.specs.Prelude.{List};
+    ghost use Rattle.cdcl_prove.specs.declared.mark.Mark.{Mark};
+
+    ghost Value = { List Mark };
+
+    ghost view = { λ m. m.marks.items };
+}
+
+impl Marks {
+    /// No mark.
+    pub(crate) fn new(alloc: Global) -> Marks {
+        Marks {
+            marks: Vec::new(alloc),
+        }
+    }
+
+    /// A mark for each of so many variables, each unmet.
+    pub(crate) fn reset(&mut self, vars: u32) -> Result<(), NoMemory>
+        ensures size { OnOk result (length self.new ≡ vars) }
+        ensures unmet { OnOk result ((v : ℕ) → mark_of self.new v ≡ Unmet) }
+    {
+        self.marks.clear();
+        self.marks.resize(vars as usize, Mark::Unmet)?;
+        Ok(())
+    }
+
+    /// The mark of a variable.
+    pub(crate) fn get(&self, var: u64) -> Mark
+        requires from_one { 1 ≤ var }
+        requires within { var ≤ length self.now }
+        ensures { result ≡ mark_of self.now var }
+    {
+        self.marks[(var - 1) as usize]
+    }
+
+    /// Keeps a variable that is unmet. Whether it was.
+    pub(crate) fn meet(&mut self, var: u64) -> bool
+        requires from_one { 1 ≤ var }
+        requires within { var ≤ length self.old }
+        ensures size { length self.new ≡ length self.old }
+        ensures met { has_met self.new var ≡ true }
+        ensures still { (v : ℕ) → has_met self.old v ≡ true → has_met self.new v ≡ true }
+        ensures same { (v : ℕ) → resolves self.new v ≡ resolves self.old v }
+    {
+        if self.get(var) != Mark::Unmet {
+            return false;
+        }
+        self.marks[(var - 1) as usize] = Mark::Kept;
+        true
+    }
+
+    /// Resolves a variable away.
+    pub(crate) fn resolve(&mut self, var: u64)
+        requires from_one { 1 ≤ var }
+        requires within { var ≤ length self.old }
+        ensures size { length self.new ≡ length self.old }
+        ensures still { (v : ℕ) → has_met self.old v ≡ true → has_met self.new v ≡ true }
+        ensures others { (v : ℕ) → 1 ≤ v → resolves self.new v ≡ true → (v ≡ var) ⊎ (resolves self.old v ≡ true) }
+    {
+        self.marks[(var - 1) as usize] = Mark::Resolved;
+    }
+}

@@ -1,0 +1,72 @@
+// So many conflicts are a unit of the sequence.
+const UNIT: u64 = 100;
+
+/// When the search begins anew from its lines: after 1, 1, 2, 1, 1, 2, 4, .. units of conflicts (the sequence of Luby,
+/// Sinclair and Zuckerman 1993).
+#[derive(Drop)]
+pub(crate) struct Restarts {
+    turn: u64,
+    left: u64,
+}
+
+impl Restarts {
+    /// No conflict yet.
+    pub(crate) fn new() -> Restarts {
+        Restarts {
+            turn: 1,
+            left: UNIT,
+        }
+    }
+
+    /// One conflict more. Whether the search begins anew after it.
+    pub(crate) fn is_due(&mut self) -> bool {
+        self.left = self.left.saturating_sub(1);
+        if self.left > 0 {
+            return false;
+        }
+        self.turn = self.turn.saturating_add(1);
+        self.left = luby(self.turn).saturating_mul(UNIT);
+        true
+    }
+}
+
+// The number of units at a place of the sequence, from 1: at place 2^k - 1 it is 2^(k-1), and what comes after such a
+// place repeats the sequence.
+fn luby(place: u64) -> u64 {
+    let mut rest = place;
+    for _ in 0..64 {
+        let (size, units) = stretch(rest);
+        if size == rest {
+            return units;
+        }
+        rest = rest.saturating_sub(size / 2);
+    }
+    1
+}
+
+// The least number 2^k - 1 that is not below a place, with 2^(k-1).
+fn stretch(place: u64) -> (u64, u64) {
+    let mut size: u64 = 1;
+    let mut units: u64 = 1;
+    for _ in 0..62 {
+        if size >= place {
+            break;
+        }
+        size = size.saturating_mul(2).saturating_add(1);
+        units = units.saturating_mul(2);
+    }
+    (size, units)
+}
+
+#[cfg(test)]
+mod tests {
+    use super::*;
+
+    #[test]
+    fn the_sequence_begins_so(rt: HostRuntime) {
+        let first = [1, 1, 2, 1, 1, 2, 4, 1, 1, 2, 1, 1, 2, 4, 8];
+        for (i, units) in first.iter().enumerate() {
+            assert_eq!(rt; luby(i as u64 + 1), *units);
+        }
+    }
+}

@@ -1,0 +1,59 @@
+ghost use Rattle.std.specs.Prelude.{ℕ, ◌≡◌, ◌≢◌, ◌≤◌, IfOk, IfSome, length};
+ghost use Rattle.cdcl_prove.specs.Search.{OutcomeIs};
+
+use crate::search::{Search, Step};
+use cert_types::poll::Poll;
+use rup_check::line::Line;
+use std::alloc::{AllocError as NoMemory, Global};
+
+/// How a search ended.
+#[derive(Debug, Drop)]
+pub(crate) enum Outcome {
+    /// Every variable has a value, and no clause is false.
+    Model,
+    /// The last line of a refutation, which is empty.
+    Refuted(Line),
+    /// The budget of lines is spent.
+    Spent,
+    /// The poll answered another number.
+    Moved { now: u64 },
+}
+
+/// Searches until there is a model or a refutation, or so many lines are learnt, or the poll answers another number than
+/// this one. The poll is asked before each line.
+pub(crate) fn solve<P: Poll>(
+    alloc: Global,
+    search: &mut Search,
+    budget: u32,
+    number: u64,
+    poll: &mut P,
+) -> Result<Outcome, NoMemory>
+    requires { length search.old.derivation.lines ≤ budget }
+    ensures formula { search.new.derivation.formula ≡ search.old.derivation.formula }
+    ensures outcome { IfOk result (λ outcome. OutcomeIs search.new.derivation budget number (P.last poll.new) outcome) }
+    ensures goes { P.goes poll.old poll.new }
+{
+    'lines: while search.derivation.len() < budget as usize {
+        if let Some(now) = moved(poll, number) {
+            return Ok(Outcome::Moved { now });
+        }
+        match search.step(alloc)? {
+            Step::Learnt => {}
+            Step::Model => return Ok(Outcome::Model),
+            Step::Refuted(line) => return Ok(Outcome::Refuted(line)),
+        }
+    }
+    Ok(Outcome::Spent)
+}
+
+// The number that the poll answers, where it is another one.
+fn moved<P: Poll>(poll: &mut P, number: u64) -> Option<u64>
+    ensures moved { IfSome result (λ now. (P.last poll.new ≡ now) × (now ≢ number)) }
+    ensures goes { P.goes poll.old poll.new }
+{
+    let now = poll.current();
+    if now == number {
+        return None;
+    }
+    Some(now)
+}

@@ -1,0 +1,32 @@
+ghost use Rattle.std.specs.Prelude.{◌≡◌, ℕ};
+
+use crate::answer::Answer;
+
+/// Tells a solver which query stands now, so that it can stop where its own no longer does.
+pub trait Poll {
+    /// The latest answer.
+    ghost last: { Self → ℕ };
+
+    /// What a poll may come to by being asked, any number of times.
+    ghost goes: { Self → Self → Type 0 };
+
+    /// The number of the query that stands now.
+    fn current(&mut self) -> u64
+        ensures answer { last self.new ≡ result }
+        ensures goes { goes self.old self.new };
+
+    /// Not to ask leaves a poll as it is.
+    ghost goes_nowhere: { (poll : Self) → goes poll poll };
+
+    /// To ask some times, and then some more, is to ask some times.
+    ghost goes_on: { (one two three : Self) → goes one two → goes two three → goes one three };
+}
+
+/// What an attempt at a query came to.
+#[derive(Debug, Drop)]
+pub enum Attempt {
+    /// An answer to the query.
+    Said(Answer),
+    /// The poll answered that another query stands, which has this number.
+    Moved { now: u64 },
+}
