@@ -67,7 +67,7 @@ impl Cdcl {
     }
 }
 
-// Tries to refute the tested station with those that interfere with it, by at most a tenth of the budget. Where that
+// Tries to refute the tested station with those that interfere with it, by at most a hundredth of the budget. Where that
 // leaves it open, none of its lines is kept.
 fn attempt_part<P: Poll>(
     alloc: Global,
@@ -101,7 +101,7 @@ fn attempt_within<P: Poll>(
     ensures goes { P.goes poll.old poll.new }
 {
     let mut search = begin(alloc, book, task, part)?;
-    let outcome = solve(alloc, &mut search, worker.budget / 10, task.number, poll)?;
+    let outcome = solve(alloc, &mut search, worker.budget / 100, task.number, poll)?;
     match outcome {
         Outcome::Model | Outcome::Spent => Ok(None),
         Outcome::Refuted(last) => {

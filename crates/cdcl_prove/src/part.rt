@@ -4,8 +4,8 @@ ghost use Rattle.cert_types.specs.Query.{IsQuery};
 ghost use Rattle.cert_types.specs.Refutes.{is_subset};
 
 use cert_types::task::Task;
-use packing_graph::neighbours::neighbours;
 use pack_defs::book::Book;
+use packing_graph::neighbours::neighbours;
 use std::alloc::{AllocError as NoMemory, Global};
 
 /// The part of the query's set that a station stands in with those that interfere with it.

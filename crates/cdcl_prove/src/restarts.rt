@@ -1,5 +1,5 @@
 // So many conflicts are a unit of the sequence.
-const UNIT: u64 = 100;
+const UNIT: u64 = 1000;
 
 /// When the search begins anew from its lines: after 1, 1, 2, 1, 1, 2, 4, .. units of conflicts (the sequence of Luby,
 /// Sinclair and Zuckerman 1993).

@@ -21,6 +21,7 @@ use Rattle.auction_core.specs.declared.record.Step.{Step}
 use Rattle.auction_core.specs.declared.record.Ending.TheVariants.{Done}
 use Rattle.auction_core.specs.Backed.{IsBacked, record_of}
 use Rattle.auction_core.specs.Examples.{auction_of_three, four_fits, no_station, one_line, posting, refuted, state_after}
+use Rattle.auction_core.specs.Clockwork.{IsOfAuction}
 use Rattle.auction_core.specs.Rule.{IsAuction}
 use Rattle.auction_core.specs.State.{has_ended, opening, task_of}
 use Rattle.auction_core.specs.Take.{PostingView, take}
@@ -126,12 +127,16 @@ pub scenario-is : (budget : ℕ) (decrements : List ℕ) (stations : List Statio
 unfolding three_bids
 scenario-is budget decrements stations workers e f = rw (e, f) refl
 
--- a record of the three stations
-pub three-is : (budget : ℕ) (last : Shown) (sc : Scenario) (stations : List Station) (steps : List Step) → sc ≡ record (auction_of_three (learner budget ∷ [])) { stations = stations } →
-    stations ≡ record { id = 1; volume = 1; value = Some 50 } ∷ record { id = 2; volume = 1; value = Some 70 } ∷ record { id = 3; volume = 1; value = Some 10 } ∷ [] → steps ≡ steps_of_three last →
-    record { scenario = sc; ending = Done; start = Empty; steps = steps; map = (1, 15) ∷ (2, 14) ∷ []; total = 60 } ≡ record_of_three budget last
+-- the three stations' bids
+pub bids-are : (workers : List Worker) (stations : List Station) → stations ≡ record { id = 1; volume = 1; value = Some 50 } ∷ record { id = 2; volume = 1; value = Some 70 } ∷ record { id = 3; volume = 1; value = Some 10 } ∷ [] →
+    record (auction_of_three workers) { stations = stations } ≡ auction_of_three workers
 unfolding three_bids
-three-is budget last sc stations steps e f g = rw (e, f, g) refl
+bids-are workers stations e = rw e refl
+
+-- a record of the three stations
+pub three-is : (budget : ℕ) (last : Shown) (sc : Scenario) (steps : List Step) → sc ≡ auction_of_three (learner budget ∷ []) → steps ≡ steps_of_three last →
+    record { scenario = sc; ending = Done; start = Empty; steps = steps; map = (1, 15) ∷ (2, 14) ∷ []; total = 60 } ≡ record_of_three budget last
+three-is budget last sc steps e f = rw (e, f) refl
 
 -- a record of no station
 pub none-is : (sc : Scenario) (stations : List Station) (steps : List Step) → sc ≡ record (auction_of_three (learner 1000 ∷ [])) { stations = stations } → stations ≡ [] → steps ≡ [] →
@@ -153,3 +158,8 @@ undecided-held last e f g = held three_stations (record_of_three 1 spent_on) (un
 
 pub none-held : {rec : Record} (book : BookView) → rec ≡ record_of_none → IsHeld book rec
 none-held book e = held book record_of_none (none-backed book, none-limits) refl e
+
+-- the auction that the tests carry through
+pub three-of_auction : (sc : Scenario) (book : BookView) → sc ≡ auction_of_three (learner 1000 ∷ []) → book ≡ three_stations → IsOfAuction sc book
+unfolding three_stations three_bids
+three-of_auction sc book e f = rw (e, f) (record { limits = three-limits 1000 (omega arith) (omega arith); stations = refl })

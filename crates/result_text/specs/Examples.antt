@@ -1,5 +1,6 @@
 -- Records of the three-station auction, and of one without a station.
 use Rattle.std.specs.Prelude.{ℕ, List, [], ◌∷◌}
+use Rattle.cert_types.specs.declared.answer.Refutation.{Refutation}
 use Rattle.cert_types.specs.declared.answer.Refutation.TheVariants.{Proof}
 use Rattle.cert_types.specs.declared.answer.Receipt.TheVariants.{Lines}
 use Rattle.cert_types.specs.Examples.{learner, log, not_one, the_end}
@@ -31,8 +32,12 @@ record_of_three budget last = record {
 }
 
 -- the set of all three does not fit, by a log of two lines
+abbrev pub refutation_of_three : Refutation
+refutation_of_three = Proof (1 ∷ 2 ∷ 3 ∷ []) (log (not_one ∷ the_end ∷ []))
+
+-- the first worker showed it so
 abbrev pub refuted_set : Shown
-refuted_set = Refuted 0 (Proof (1 ∷ 2 ∷ 3 ∷ []) (log (not_one ∷ the_end ∷ [])))
+refuted_set = Refuted 0 refutation_of_three
 
 -- the one worker has derived one line
 abbrev pub spent_on : Shown

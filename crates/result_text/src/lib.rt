@@ -2,6 +2,8 @@
 #![tactic(auto)]
 
 pub mod counts;
+#[cfg(test)]
+mod either_way;
 mod replay;
 pub mod rows;
 #[cfg(test)]

@@ -5,7 +5,7 @@ ghost use Rattle.pack_defs.specs.ChannelMap.{IsAscending};
 ghost use Rattle.pack_defs.specs.Examples.{three_stations};
 ghost use Rattle.cert_types.specs.Examples.{learner, not_one, the_end};
 ghost use Rattle.auction_core.specs.Examples.{auction_of_three};
-ghost use Rattle.result_text.specs.Examples.{fitted, record_of_none, record_of_three, refuted_set, spent_on, steps_of_three};
+ghost use Rattle.result_text.specs.Examples.{fitted, record_of_none, record_of_three, refutation_of_three, refuted_set, spent_on, steps_of_three};
 
 use auction_core::record::{Ending, Record, Shown, Step};
 use cert_types::answer::{Receipt, Refutation};
@@ -80,17 +80,24 @@ fn the_end(alloc: Global) -> Result<Line, NoMemory>
     line(alloc, &[], &[13, 1, 9, 2, 10, 3, 11])
 }
 
-// The set of all three does not fit, by these two lines.
-pub(crate) fn refuted(alloc: Global) -> Result<Shown, NoMemory>
-    ensures { IfOk result (λ shown. shown ≡ refuted_set) }
+// What shows that the set of all three does not fit: these two lines.
+pub(crate) fn refutation(alloc: Global) -> Result<Refutation, NoMemory>
+    ensures { IfOk result (λ how. how ≡ refutation_of_three) }
 {
     let lines = vec![in alloc; not_one(alloc)?, the_end(alloc)?]?;
-    let how = Refutation::Proof {
+    Ok(Refutation::Proof {
         subset: Items::from_vec(Vec::from_slice(alloc, &[1, 2, 3])?),
         log: Log {
             lines: Items::from_vec(lines),
         },
-    };
+    })
+}
+
+// The set of all three was refuted so.
+pub(crate) fn refuted(alloc: Global) -> Result<Shown, NoMemory>
+    ensures { IfOk result (λ shown. shown ≡ refuted_set) }
+{
+    let how = refutation(alloc)?;
     Ok(Shown::Refuted { worker: 0, how })
 }
 
@@ -194,12 +201,19 @@ fn done(
     })
 }
 
+// The three stations' auction, with one worker of this budget.
+pub(crate) fn auction_of_three(alloc: Global, budget: u32) -> Result<Scenario, NoMemory>
+    ensures { IfOk result (λ sc. sc ≡ auction_of_three (learner budget ∷ [])) }
+{
+    let stations = vec![in alloc; station(1, 50), station(2, 70), station(3, 10)]?;
+    scenario(alloc, budget, stations)
+}
+
 // The record of the three stations' auction with one worker of this budget, of which the last step was shown so.
 pub(crate) fn record_of_three(alloc: Global, budget: u32, last: Shown) -> Result<Record, NoMemory>
     ensures { IfOk result (λ rec. rec ≡ record_of_three budget last) }
 {
-    let stations = vec![in alloc; station(1, 50), station(2, 70), station(3, 10)]?;
-    let scenario = scenario(alloc, budget, stations)?;
+    let scenario = auction_of_three(alloc, budget)?;
     let steps = steps(alloc, last)?;
     done(alloc, scenario, steps, &[(1, 15), (2, 14)], 60)
 }

@@ -13,7 +13,7 @@ use std::alloc::{AllocError as NoMemory, Global};
 use std::test::Fail;
 
 // Whether these are the record's result and summary.
-fn tells(
+pub(crate) fn tells(
     alloc: Global,
     rec: &Record,
     book: &Book,
