@@ -2,5 +2,9 @@
 #![tactic(auto)]
 
 pub mod run;
+#[cfg(test)]
+mod samples;
 pub mod serial;
 pub mod standing;
+#[cfg(test)]
+mod tests;
