@@ -1,19 +1,18 @@
 -- An auction of which each query is settled by a search.
-use Rattle.std.proofs.Common.{◌≡◌, ◌∙◌, ℕ, suc, ◌+◌, ◌<◌, ◌≤◌, Bool, true, false, cond, List, [], ◌∷◌, length, filter, Option, Some, None, is_none, is_some, not, inl, inr, refl, sym, ap, subst, arith, Contains, MatchBool, MatchOption, unwrap_or}
-use Rattle.std.specs.Prelude.{find, option_map, IsFalse}
+use Rattle.std.proofs.Common.{◌≡◌, ◌∙◌, ℕ, ◌+◌, Bool, true, false, cond, List, [], ◌∷◌, Option, Some, None, is_none, inl, inr, refl, sym, ap, subst, Contains, MatchOption}
+use Rattle.std.specs.Prelude.{find, option_map}
 use Rattle.std.specs.Option.{option_map_or}
-use Rattle.std.proofs.lemmas.Bool.{cases_Bool, cond-false, false≢true, true≢false, false_from_ne_true, both_ways}
+use Rattle.std.proofs.lemmas.Bool.{cases_Bool, false≢true, true≢false, false_from_ne_true, both_ways}
 use Rattle.pack_defs.specs.declared.scenario.Scenario.{Scenario}
 use Rattle.pack_defs.specs.Book.{BookView, domain_of}
 use Rattle.pack_defs.specs.ChannelMap.{overlaid}
-use Rattle.pack_defs.specs.Lists.{is_empty, is_in}
+use Rattle.pack_defs.specs.Lists.{is_empty}
 use Rattle.pack_defs.specs.Packing.{IsClean, IsPacking, fits}
 use Rattle.pack_defs.specs.Prices.{start_set}
 use Rattle.pack_defs.specs.ClockRule.{ClockTest, clock_rule, clock_tests, is_active, on_air_set}
 use Rattle.pack_defs.proofs.FitsLaws.{fits-from, fits-gives}
 use Rattle.pack_defs.proofs.Members.{Contains-from_map, Contains-here, Contains-nil, Contains-there}
 use Rattle.cert_types.specs.declared.task.Task.{Task}
-use Rattle.auction_core.specs.declared.record.Ending.{Ending}
 use Rattle.auction_core.specs.declared.record.Ending.TheVariants.{Done, StartRefuted}
 use Rattle.auction_core.specs.declared.record.Record.{Record}
 use Rattle.auction_core.specs.declared.record.Shown.{Shown}
@@ -21,8 +20,8 @@ use Rattle.auction_core.specs.declared.record.Shown.TheVariants.{Empty, Fits, No
 use Rattle.auction_core.specs.Backed.{IsBacked, IsSettledBy, IsStartShown, ending_of, is_undecided, record_of, shown_start, undecided_of}
 use Rattle.auction_core.specs.Clockwork.{IsOfAuction}
 use Rattle.auction_core.specs.Rule.{IsAuction, KeepsTheRule, SettlesQuery}
-use Rattle.auction_core.specs.State.{CoreState, answered, before_start, delta_of, go_on, has_ended, opening, past_first, settled, settled_unasked, shows_room, start_task, start_unasked, started, task_of}
-use Rattle.auction_core.proofs.ClockworkLemmas.{go_on-fewer, packing-settles, started-start}
+use Rattle.auction_core.specs.State.{CoreState, answered, before_start, delta_of, go_on, opening, past_first, settled, settled_unasked, shows_room, start_task, start_unasked, started, task_of}
+use Rattle.auction_core.proofs.ClockworkLemmas.{packing-settles, started-start}
 use Rattle.auction_core.proofs.Done.{done-map}
 use Rattle.auction_core.proofs.Keeps.{go-on-start, is-start, start-map}
 use Rattle.auction_core.proofs.Room.{by-worker}
@@ -30,7 +29,7 @@ use Rattle.cert_types.proofs.Refuting.{refuted-unfit}
 use Rattle.pack_defs.proofs.Words.{ascending-from}
 use Rattle.pack_defs.specs.Scenario.{facilities}
 use Rattle.auction_core.proofs.Steps.{step_of, undecided-push-false}
-use Rattle.auction_cmd.specs.PlainRule.{IsDecided, IsSearched, queries_left, rule_ending}
+use Rattle.auction_cmd.specs.PlainRule.{IsDecided, IsSearched, rule_ending}
 
 -- ---- a search settles the query
 
@@ -101,14 +100,6 @@ opening-decided sc book =
         ] in
         outer (is_empty (start_set sc)) e
 
-started-most : (sc : Scenario) (book : BookView) (state : CoreState) (shown : Shown) → length (started sc book state shown).left ≤ length (clock_tests sc) + length state.left
-started-most sc book state shown =
-    let on : CoreState = record state { start = Some shown; map = overlaid state.map (delta_of shown) } in
-    elim (shows_room shown) as (λ b. length (cond b (go_on sc book (clock_tests sc) on) (record state { start = Some shown })).left ≤ length (clock_tests sc) + length state.left) [
-      | true ↦ let few = go_on-fewer sc book (clock_tests sc) on in omega (arith, few)
-      | false ↦ omega arith
-    ]
-
 -- a query that is decided leaves nothing undecided
 pub answered-decided : (sc : Scenario) (book : BookView) (state : CoreState) (shown : Shown) → IsDecided state → is_undecided shown ≡ false → IsDecided (answered sc book state shown)
 answered-decided sc book state shown h d =
@@ -127,29 +118,6 @@ answered-decided sc book state shown h d =
       ]
     ] in
     go state.start state.left refl
-
--- ---- and there are fewer queries yet
-
-pub answered-fewer : (sc : Scenario) (book : BookView) (state : CoreState) (shown : Shown) → has_ended state ≡ false → queries_left sc (answered sc book state shown) < queries_left sc state
-answered-fewer sc book state shown on =
-    let next : CoreState = record state { noted = []; number = state.number + 1 } in
-    let go : (o : Option Shown) (l : List ClockTest) → state.start ≡ o → state.left ≡ l → cond (is_none o) false (is_empty l) ≡ false → queries_left sc (cond (is_none o) (started sc book next shown) (past_first sc book next shown l)) < length l + cond (is_none o) (length (clock_tests sc) + 1) 0 = λ o l. elim o as (λ o. state.start ≡ o → state.left ≡ l → cond (is_none o) false (is_empty l) ≡ false → queries_left sc (cond (is_none o) (started sc book next shown) (past_first sc book next shown l)) < length l + cond (is_none o) (length (clock_tests sc) + 1) 0) [
-      | None ↦ λ e f k.
-          let begun : is_none (started sc book next shown).start ≡ false = ap is_none (started-start sc book next shown) in
-          let rest : cond (is_none (started sc book next shown).start) (length (clock_tests sc) + 1) 0 ≡ 0 = ap (λ b. cond b (length (clock_tests sc) + 1) 0) begun in
-          let few = started-most sc book next shown in
-          let old : length state.left ≡ length l = ap length f in
-          omega (arith, rest, few, old)
-      | Some begun ↦ elim l as (λ l. state.start ≡ Some begun → state.left ≡ l → is_empty l ≡ false → queries_left sc (past_first sc book next shown l) < length l + 0) [
-        | [] ↦ λ e f k. absurd (true≢false k)
-        | t ∷ ts ↦ λ e f k.
-            let same : is_none (go_on sc book ts (settled sc next t shown)).start ≡ false = ap is_none ((go-on-start sc book ts (settled sc next t shown)).0 ∙ e) in
-            let rest : cond (is_none (go_on sc book ts (settled sc next t shown)).start) (length (clock_tests sc) + 1) 0 ≡ 0 = ap (λ b. cond b (length (clock_tests sc) + 1) 0) same in
-            let few = go_on-fewer sc book ts (settled sc next t shown) in
-            omega (arith, rest, few)
-      ]
-    ] in
-    go state.start state.left refl refl on
 
 -- ---- how the start fits
 

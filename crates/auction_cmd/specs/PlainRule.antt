@@ -1,11 +1,10 @@
 -- The plain rule: each query of an auction is settled by a search through every channel map of its set.
-use Rattle.std.specs.Prelude.{◌≡◌, ◌+◌, ℕ, Bool, false, if◌then◌else◌, List, [], length, is_none, IsFalse}
+use Rattle.std.specs.Prelude.{◌≡◌, ℕ, false, if◌then◌else◌, List, [], IsFalse}
 use Rattle.std.specs.Option.{option_map_or}
 use Rattle.pack_defs.specs.declared.scenario.Scenario.{Scenario}
 use Rattle.pack_defs.specs.Book.{BookView}
 use Rattle.pack_defs.specs.Packing.{IsPacking, fits}
 use Rattle.pack_defs.specs.Prices.{start_set}
-use Rattle.pack_defs.specs.ClockRule.{clock_tests}
 use Rattle.auction_core.specs.declared.record.Ending.{Ending}
 use Rattle.auction_core.specs.declared.record.Ending.TheVariants.{Done, StartRefuted}
 use Rattle.auction_core.specs.declared.record.Shown.{Shown}
@@ -30,7 +29,3 @@ IsSearched book set (Undecided receipts) = ⊥
 pub record IsDecided (state : CoreState) : Type 0 where
   pub start : option_map_or is_undecided state.start false ≡ false
   pub steps : undecided_of state.steps ≡ []
-
--- how many queries there may be yet
-abbrev pub queries_left : Scenario → CoreState → ℕ
-queries_left sc state = length state.left + (if is_none state.start then length (clock_tests sc) + 1 else 0)

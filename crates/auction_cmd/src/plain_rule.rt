@@ -6,8 +6,8 @@ ghost use Rattle.pack_defs.specs.ClockRule.{clock_rule, on_air_set};
 ghost use Rattle.cert_types.specs.Certificate.{IsTaskOf};
 ghost use Rattle.auction_core.specs.Backed.{IsBacked, undecided_of};
 ghost use Rattle.auction_core.specs.Clockwork.{IsOfAuction};
-ghost use Rattle.auction_core.specs.State.{has_ended};
-ghost use Rattle.auction_cmd.specs.PlainRule.{IsDecided, IsSearched, queries_left, rule_ending};
+ghost use Rattle.auction_core.specs.State.{has_ended, queries_left};
+ghost use Rattle.auction_cmd.specs.PlainRule.{IsDecided, IsSearched, rule_ending};
 
 use auction_core::clockwork::Clockwork;
 use auction_core::record::{Ending, Record, Shown};

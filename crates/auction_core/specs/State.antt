@@ -1,7 +1,7 @@
 -- The state of an auction between two postings, and how a settled query moves it. The clock is that of Milgrom and Segal,
 -- "Clock Auctions and Radio Spectrum Reallocation" (2020), and a query is the feasibility check of the SATFC papers. That
 -- a test of a station without a channel needs no query, and how queries are numbered, is this project's own.
-use Rattle.std.specs.Prelude.{ℕ, Bool, true, false, ◌+◌, if◌then◌else◌, List, [], ◌∷◌, ◌++◌, filter, find, Option, Some, None, option_map, is_none}
+use Rattle.std.specs.Prelude.{ℕ, Bool, true, false, ◌+◌, if◌then◌else◌, List, [], ◌∷◌, ◌++◌, filter, find, length, Option, Some, None, option_map, is_none}
 use Rattle.std.specs.Option.{option_map_or}
 use Rattle.pack_defs.specs.Book.{BookView, domain_of}
 use Rattle.pack_defs.specs.ChannelMap.{overlaid}
@@ -136,3 +136,7 @@ abbrev pub answered : Scenario → BookView → CoreState → Shown → CoreStat
 answered sc book state shown =
     let next = record state { noted = []; number = state.number + 1 } in
     if is_none state.start then started sc book next shown else past_first sc book next shown state.left
+
+-- how many queries there may be yet
+abbrev pub queries_left : Scenario → CoreState → ℕ
+queries_left sc state = length state.left + (if is_none state.start then length (clock_tests sc) + 1 else 0)

@@ -2,6 +2,7 @@
 
 ghost use Rattle.std.specs.Prelude.{◌≡◌, ◌≤◌, ◌++◌, ◌∷◌, [], IfOk, MatchOption, OnOk, Some, ⊤, length, option_and_then, option_map, true};
 ghost use Rattle.cert_types.specs.Certificate.{IsTaskOf};
+ghost use Rattle.cert_types.specs.Query.{IsQuery};
 ghost use Rattle.cert_types.specs.declared.answer.Answer.{Answer};
 ghost use Rattle.auction_core.specs.Auction.{entry_told, let_through};
 ghost use Rattle.auction_core.specs.Backed.{IsBacked, record_of};
@@ -73,9 +74,10 @@ impl Auction {
         self.desk.book()
     }
 
-    /// The workers of the scenario.
+    /// The workers of the scenario: one to sixteen.
     pub fn workers(&self) -> &[Worker]
-        ensures { result.now ≡ self.now.scenario.workers }
+        ensures workers { result.now ≡ self.now.scenario.workers }
+        ensures few { length result.now ≤ 16 }
     {
         self.desk.workers()
     }
@@ -111,11 +113,12 @@ impl Auction {
     }
 
     /// The standing query; none where the auction has ended. It costs what the component of the tested station costs, or,
-    /// while the start test stands, one pass over the stations. The only error is want of memory. An answer to it may be
-    /// checked, since its set ascends.
+    /// while the start test stands, one pass over the stations. The only error is want of memory. A solver may be asked it,
+    /// and an answer to it may be checked.
     pub fn task(&self, alloc: Global) -> Result<Option<Task>, NoMemory>
         ensures task { IfOk result (λ task. task ≡ task_of self.now.scenario self.now.book self.now.state) }
         ensures checked { IfOk result (λ task. MatchOption task ⊤ (IsTaskOf self.now.book)) }
+        ensures query { IfOk result (λ task. MatchOption task ⊤ (IsQuery self.now.book)) }
     {
         self.desk.task(alloc)
     }

@@ -1,5 +1,6 @@
 use Rattle.std.proofs.Common.{◌≡◌}
-use Rattle.auction_cmd.specs.PlainRule.{IsDecided, queries_left}
+use Rattle.auction_core.specs.State.{queries_left}
+use Rattle.auction_cmd.specs.PlainRule.{IsDecided}
 use Rattle.auction_cmd.proofs.plain_rule.plain_run.Given as goal
 
 abbrev pub invariant-loop-alloc : goal.invariant-loop-alloc

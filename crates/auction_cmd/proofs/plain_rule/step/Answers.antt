@@ -1,8 +1,9 @@
 -- A search settles the standing query, and leaves nothing undecided.
-use Rattle.std.proofs.Common.{◌≡◌, ◌∙◌, ap, sym, subst, Some, None}
+use Rattle.std.proofs.Common.{◌∙◌, sym, subst}
 use Rattle.auction_core.proofs.ClockworkLemmas.{no-task, task-rises}
+use Rattle.auction_core.proofs.QueryLemmas.{answered-fewer}
 use Rattle.auction_cmd.specs.PlainRule.{IsDecided, IsSearched}
-use Rattle.auction_cmd.proofs.PlainLemmas.{answered-decided, answered-fewer, search-decides, search-settles}
+use Rattle.auction_cmd.proofs.PlainLemmas.{answered-decided, search-decides, search-settles}
 use Rattle.auction_cmd.proofs.plain_rule.step.Goals as goal
 
 pub unreachable-requires : goal.unreachable-requires

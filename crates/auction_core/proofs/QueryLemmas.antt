@@ -1,0 +1,181 @@
+-- The standing query is one that a solver may be asked; and what is left once it is answered.
+use Rattle.std.proofs.Common.{◌≡◌, ◌∙◌, ℕ, ◌+◌, ◌<◌, ◌≤◌, Bool, true, false, not, cond, ◌&&◌, ◌||◌, ◌==◌, inl, inr, List, [], ◌∷◌, length, map, find, Option, Some, None, is_none, option_map, refl, sym, ap, subst, arith, Contains, MatchOption}
+use Rattle.std.specs.Prelude.{⊤}
+use Rattle.std.specs.List.{list_all}
+use Rattle.std.specs.Option.{option_map_or}
+use Rattle.std.proofs.lemmas.Bool.{and_from, cases_Bool, eqb-true, or_cases, true≢false}
+use Rattle.pack_defs.specs.declared.scenario.Scenario.{Scenario}
+use Rattle.pack_defs.specs.Book.{BookView, domain_of}
+use Rattle.pack_defs.specs.ChannelMap.{overlaid}
+use Rattle.pack_defs.specs.Components.{component}
+use Rattle.pack_defs.specs.Lists.{is_ascending, is_empty, is_in}
+use Rattle.pack_defs.specs.Packing.{IsClean}
+use Rattle.pack_defs.specs.Prices.{declines, start_set}
+use Rattle.pack_defs.specs.Scenario.{facilities}
+use Rattle.pack_defs.specs.ClockRule.{ClockTest, asked_set, clock_tests, is_active, is_on_air, on_air_set}
+use Rattle.pack_defs.proofs.Members.{Contains-from_filter, Contains-from_map, Contains-nil, is_in-from, is_in-gives, list_all-from}
+use Rattle.pack_defs.proofs.Words.{ascending-from}
+use Rattle.cert_types.specs.Query.{IsQuery as MayBeAsked, has_channels, is_on_domains, is_query}
+use Rattle.auction_core.specs.declared.record.Shown.{Shown}
+use Rattle.auction_core.specs.declared.record.Shown.TheVariants.{Empty, NoChannel}
+use Rattle.auction_core.specs.Clockwork.{IsOfAuction}
+use Rattle.auction_core.specs.Rule.{IsQuery as IsNext, KeepsTheRule}
+use Rattle.auction_core.specs.State.{CoreState, answered, delta_of, first_task, go_on, has_ended, past_first, queries_left, restricted, settled, settled_unasked, shows_room, start_task, start_unasked, started, task_of, test_task}
+use Rattle.auction_core.proofs.Answers.{component-ascending, filter-ascending, filter-in, in-filter}
+use Rattle.auction_core.proofs.ClockworkLemmas.{go_on-fewer, started-start}
+use Rattle.auction_core.proofs.Keeps.{go-on-start, task-is}
+use Rattle.auction_core.proofs.Kept.{IsAtStart, IsUnderWay, Stands, match-false, match-true, rule-kept}
+use Rattle.auction_core.proofs.Merged.{in-component}
+
+-- ---- the query of the start
+
+none-bare : (p : ℕ → Bool) (xs : List ℕ) → find p xs ≡ None → list_all (λ s. not (p s)) xs ≡ true
+none-bare p [] h = refl
+none-bare p (x ∷ xs) h =
+    (elim (p x) as (λ b. cond b (Some x) (find p xs) ≡ None → (not b && list_all (λ s. not (p s)) xs) ≡ true) [
+      | true ↦ λ k. cc
+      | false ↦ λ k. none-bare p xs k
+    ]) h
+
+start-channels : (sc : Scenario) (book : BookView) → start_unasked sc book ≡ None → has_channels book (start_set sc) ≡ true
+start-channels sc book h =
+    let bare : Option ℕ = find (λ s. is_empty (domain_of book s)) (start_set sc) in
+    let inner : (o : Option ℕ) → option_map NoChannel o ≡ None → o ≡ None = λ o. elim o as (λ o. option_map NoChannel o ≡ None → o ≡ None) [
+      | None ↦ λ k. refl
+      | Some s ↦ λ k. cc
+    ] in
+    let outer : (b : Bool) → cond b (Some Empty) (option_map NoChannel bare) ≡ None → bare ≡ None = λ b. elim b as (λ b. cond b (Some Empty) (option_map NoChannel bare) ≡ None → bare ≡ None) [
+      | true ↦ λ k. cc
+      | false ↦ λ k. inner bare k
+    ] in
+    none-bare (λ s. is_empty (domain_of book s)) (start_set sc) (outer (is_empty (start_set sc)) h)
+
+from-parts : (book : BookView) (n r : ℕ) (o : Option ℕ) (set : List ℕ) (last : List (ℕ × ℕ)) → is_ascending set ≡ true → has_channels book set ≡ true → is_on_domains book set last ≡ true → MayBeAsked book (record { number = n; round = r; station = o; set = set; last = last })
+unfolding is_query
+from-parts book n r o set last a c d = record { holds = and_from (is_ascending set) (has_channels book set && is_on_domains book set last) a (and_from (has_channels book set) (is_on_domains book set last) c d) }
+
+start-query : (sc : Scenario) (book : BookView) (state : CoreState) → IsOfAuction sc book → start_unasked sc book ≡ None → MayBeAsked book (start_task sc state)
+start-query sc book state a h =
+    from-parts book state.number 0 None (start_set sc) [] (filter-ascending (λ f. declines sc f 0) (facilities sc) (ascending-from (facilities sc) a.limits.ascend)) (start-channels sc book h) refl
+
+-- ---- the query of a test
+
+some-channel : (xs : List ℕ) (c : ℕ) → Contains xs c → is_empty xs ≡ false
+some-channel [] c h = absurd (Contains-nil c h)
+some-channel (x ∷ xs) c h = refl
+
+-- a station of a clean map has a channel
+on-map : (book : BookView) (m : List (ℕ × ℕ)) (s : ℕ) → IsClean book m → is_in (map (λ x. x.0) m) s ≡ true → is_empty (domain_of book s) ≡ false
+on-map book m s clean h =
+    let (x, listed, is) = Contains-from_map (λ (e : ℕ × ℕ). e.0) m s (is_in-gives (map (λ (e : ℕ × ℕ). e.0) m) s h) in
+    some-channel (domain_of book s) x.1 (subst (λ z. Contains (domain_of book z) x.1) is (clean.on_domain x listed))
+
+-- so has each station that a test asks about
+asked-channel : (sc : Scenario) (book : BookView) (state : CoreState) (t : ClockTest) (s : ℕ) → IsClean book state.map → map (λ x. x.0) state.map ≡ on_air_set sc state.clock → is_empty (domain_of book t.station) ≡ false → is_in (component book (asked_set sc state.clock t.station) t.station) s ≡ true → is_empty (domain_of book s) ≡ false
+asked-channel sc book state t s clean stations own h =
+    let parts = filter-in (λ f. is_on_air state.clock f || (f == t.station)) (facilities sc) s (in-component book (asked_set sc state.clock t.station) t.station s h) in
+    elim (or_cases (is_on_air state.clock s) (s == t.station) parts.1) [
+      | inl air ↦ on-map book state.map s clean (subst (λ xs. is_in xs s ≡ true) (sym stations) (in-filter (λ f. is_on_air state.clock f) (facilities sc) s parts.0 air))
+      | inr same ↦ subst (λ z. is_empty (domain_of book z) ≡ false) (sym (eqb-true s t.station same)) own
+    ]
+
+test-query : (sc : Scenario) (book : BookView) (state : CoreState) (t : ClockTest) → IsOfAuction sc book → IsClean book state.map → map (λ x. x.0) state.map ≡ on_air_set sc state.clock → is_empty (domain_of book t.station) ≡ false → MayBeAsked book (test_task sc book state t)
+test-query sc book state t a clean stations own =
+    let set : List ℕ = component book (asked_set sc state.clock t.station) t.station in
+    let rises = component-ascending book (asked_set sc state.clock t.station) t.station (filter-ascending (λ f. is_on_air state.clock f || (f == t.station)) (facilities sc) (ascending-from (facilities sc) a.limits.ascend)) in
+    let channels : has_channels book set ≡ true = list_all-from (λ s. not (is_empty (domain_of book s))) set (λ s listed. ap not (asked-channel sc book state t s clean stations own (is_in-from set s listed))) in
+    let on : is_on_domains book set (restricted state.map set) ≡ true = list_all-from (λ (x : ℕ × ℕ). is_in set x.0 && is_in (domain_of book x.0) x.1) (restricted state.map set) (λ x listed.
+    let parts = Contains-from_filter (λ (x : ℕ × ℕ). is_in set x.0) state.map x listed in
+    and_from (is_in set x.0) (is_in (domain_of book x.0) x.1) parts.1 (is_in-from (domain_of book x.0) x.1 (clean.on_domain x parts.0))) in
+    from-parts book state.number t.round (Some t.station) set (restricted state.map set) rises channels on
+
+-- ---- the standing query
+
+pub task-query : (sc : Scenario) (book : BookView) (state : CoreState) → IsOfAuction sc book → KeepsTheRule sc book state → MatchOption (task_of sc book state) ⊤ (MayBeAsked book)
+task-query sc book state a k =
+    let under : (start : Shown) (t : ClockTest) (ts : List ClockTest) → state.left ≡ t ∷ ts → Stands sc book state (Some start) → MayBeAsked book (test_task sc book state t) = λ start t ts f stands.
+    elim (cases_Bool (shows_room start)) [
+      | inl room ↦
+          let u = match-true (IsUnderWay sc book start state) (IsAtStart sc book state) (shows_room start) room stands in
+          let query : (is_active state.clock t.station ≡ true) × (is_empty (domain_of book t.station) ≡ false) = subst (IsNext book state) f u.query in
+          test-query sc book state t a u.clean u.stations query.1
+      | inr none ↦
+          let at = match-false (IsUnderWay sc book start state) (IsAtStart sc book state) (shows_room start) none stands in
+          let bare : t ∷ ts ≡ [] = sym f ∙ at.left in
+          cc
+    ] in
+    let go : (o : Option Shown) (l : List ClockTest) → state.start ≡ o → state.left ≡ l → Stands sc book state o → MatchOption (cond (is_none o) (Some (start_task sc state)) (first_task sc book state l)) ⊤ (MayBeAsked book) = λ o l. elim o as (λ o. state.start ≡ o → state.left ≡ l → Stands sc book state o → MatchOption (cond (is_none o) (Some (start_task sc state)) (first_task sc book state l)) ⊤ (MayBeAsked book)) [
+      | None ↦ λ e f stands. start-query sc book state a (stands.query e)
+      | Some start ↦ elim l as (λ l. state.start ≡ Some start → state.left ≡ l → Stands sc book state (Some start) → MatchOption (first_task sc book state l) ⊤ (MayBeAsked book)) [
+        | [] ↦ λ e f stands. tt
+        | t ∷ ts ↦ λ e f stands. under start t ts f stands
+      ]
+    ] in
+    subst (λ o. MatchOption o ⊤ (MayBeAsked book)) (sym (task-is sc book state state.start state.left refl refl)) (go state.start state.left refl refl (rule-kept sc book state k).stands)
+
+-- ---- the number of the query
+
+go_on-number : (sc : Scenario) (book : BookView) (ts : List ClockTest) (state : CoreState) → (go_on sc book ts state).number ≡ state.number
+go_on-number sc book [] state = refl
+go_on-number sc book (t ∷ ts) state =
+    let at : CoreState = record state { left = t ∷ ts } in
+    let inner : (b : Bool) → (option_map_or (go_on sc book ts) (option_map (settled sc state t) (cond b (Some (NoChannel t.station)) None)) at).number ≡ state.number = λ b. elim b as (λ b. (option_map_or (go_on sc book ts) (option_map (settled sc state t) (cond b (Some (NoChannel t.station)) None)) at).number ≡ state.number) [
+      | true ↦ go_on-number sc book ts (settled sc state t (NoChannel t.station))
+      | false ↦ refl
+    ] in
+    elim (is_active state.clock t.station) as (λ b. (option_map_or (go_on sc book ts) (cond b (option_map (settled sc state t) (settled_unasked book state t)) (Some state)) at).number ≡ state.number) [
+      | true ↦ inner (is_empty (domain_of book t.station))
+      | false ↦ go_on-number sc book ts state
+    ]
+
+started-number : (sc : Scenario) (book : BookView) (state : CoreState) (shown : Shown) → (started sc book state shown).number ≡ state.number
+started-number sc book state shown =
+    let on : CoreState = record state { start = Some shown; map = overlaid state.map (delta_of shown) } in
+    elim (shows_room shown) as (λ b. (cond b (go_on sc book (clock_tests sc) on) (record state { start = Some shown })).number ≡ state.number) [
+      | true ↦ go_on-number sc book (clock_tests sc) on
+      | false ↦ refl
+    ]
+
+-- a settled query is followed by one of the next number
+pub answered-number : (sc : Scenario) (book : BookView) (state : CoreState) (shown : Shown) → (answered sc book state shown).number ≡ state.number + 1
+answered-number sc book state shown =
+    let next : CoreState = record state { noted = []; number = state.number + 1 } in
+    let past : (l : List ClockTest) → (past_first sc book next shown l).number ≡ state.number + 1 = λ l. elim l as (λ l. (past_first sc book next shown l).number ≡ state.number + 1) [
+      | [] ↦ refl
+      | t ∷ ts ↦ go_on-number sc book ts (settled sc next t shown)
+    ] in
+    elim (is_none state.start) as (λ b. (cond b (started sc book next shown) (past_first sc book next shown state.left)).number ≡ state.number + 1) [
+      | true ↦ started-number sc book next shown
+      | false ↦ past state.left
+    ]
+
+started-most : (sc : Scenario) (book : BookView) (state : CoreState) (shown : Shown) → length (started sc book state shown).left ≤ length (clock_tests sc) + length state.left
+started-most sc book state shown =
+    let on : CoreState = record state { start = Some shown; map = overlaid state.map (delta_of shown) } in
+    elim (shows_room shown) as (λ b. length (cond b (go_on sc book (clock_tests sc) on) (record state { start = Some shown })).left ≤ length (clock_tests sc) + length state.left) [
+      | true ↦ let few = go_on-fewer sc book (clock_tests sc) on in omega (arith, few)
+      | false ↦ omega arith
+    ]
+
+-- ---- and there are fewer queries yet
+
+pub answered-fewer : (sc : Scenario) (book : BookView) (state : CoreState) (shown : Shown) → has_ended state ≡ false → queries_left sc (answered sc book state shown) < queries_left sc state
+answered-fewer sc book state shown on =
+    let next : CoreState = record state { noted = []; number = state.number + 1 } in
+    let go : (o : Option Shown) (l : List ClockTest) → state.start ≡ o → state.left ≡ l → cond (is_none o) false (is_empty l) ≡ false → queries_left sc (cond (is_none o) (started sc book next shown) (past_first sc book next shown l)) < length l + cond (is_none o) (length (clock_tests sc) + 1) 0 = λ o l. elim o as (λ o. state.start ≡ o → state.left ≡ l → cond (is_none o) false (is_empty l) ≡ false → queries_left sc (cond (is_none o) (started sc book next shown) (past_first sc book next shown l)) < length l + cond (is_none o) (length (clock_tests sc) + 1) 0) [
+      | None ↦ λ e f k.
+          let begun : is_none (started sc book next shown).start ≡ false = ap is_none (started-start sc book next shown) in
+          let rest : cond (is_none (started sc book next shown).start) (length (clock_tests sc) + 1) 0 ≡ 0 = ap (λ b. cond b (length (clock_tests sc) + 1) 0) begun in
+          let few = started-most sc book next shown in
+          let old : length state.left ≡ length l = ap length f in
+          omega (arith, rest, few, old)
+      | Some begun ↦ elim l as (λ l. state.start ≡ Some begun → state.left ≡ l → is_empty l ≡ false → queries_left sc (past_first sc book next shown l) < length l + 0) [
+        | [] ↦ λ e f k. absurd (true≢false k)
+        | t ∷ ts ↦ λ e f k.
+            let same : is_none (go_on sc book ts (settled sc next t shown)).start ≡ false = ap is_none ((go-on-start sc book ts (settled sc next t shown)).0 ∙ e) in
+            let rest : cond (is_none (go_on sc book ts (settled sc next t shown)).start) (length (clock_tests sc) + 1) 0 ≡ 0 = ap (λ b. cond b (length (clock_tests sc) + 1) 0) same in
+            let few = go_on-fewer sc book ts (settled sc next t shown) in
+            omega (arith, rest, few)
+      ]
+    ] in
+    go state.start state.left refl refl on
