@@ -1,3 +1,6 @@
+pub mod CountLaws
+pub mod Counts
 pub mod Faultless
 pub mod Finds
+pub mod Moves
 pub mod Violations

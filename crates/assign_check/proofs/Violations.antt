@@ -20,16 +20,19 @@ use Rattle.assign_check.proofs.Finds.{stands-exactly, stands-only}
 abbrev pub is_violated_from : List (ℕ × ℕ) → ℕ × ℕ → Pair → Bool
 is_violated_from entries own p = (p.a == own.1) && has_entry entries (p.g, p.b)
 
-eq_swap : (a b : ℕ) → (a == b) ≡ (b == a)
+pub eq_swap : (a b : ℕ) → (a == b) ≡ (b == a)
 eq_swap a b = grind (arith, nat_tests)
 
--- which is what it says that a pair from the entry's station is violated
-from_own : (entries : List (ℕ × ℕ)) (own : ℕ × ℕ) (p : Pair) → IsAscending entries → has_entry entries own ≡ true → p.f ≡ own.0 → is_violated_from entries own p ≡ is_violated entries p
-from_own entries own p a h e =
+-- an entry's station has no other channel
+pub own-channel : (entries : List (ℕ × ℕ)) (own : ℕ × ℕ) (c : ℕ) → IsAscending entries → has_entry entries own ≡ true → has_entry entries (own.0, c) ≡ (c == own.1)
+own-channel entries own c a h =
     let known : channel_of own.0 entries ≡ Some own.1 = stands-only own.0 own.1 entries a h in
-    let first : has_entry entries (own.0, p.a) ≡ (p.a == own.1) =
-    sym (stands-exactly own.0 p.a entries a) ∙ ap (λ o. option_eq nat_eq o (Some p.a)) known ∙ eq_swap own.1 p.a in
-    ap (λ b. b && has_entry entries (p.g, p.b)) (sym first ∙ ap (λ (f : ℕ). has_entry entries (f, p.a)) (sym e))
+    sym (stands-exactly own.0 c entries a) ∙ ap (λ o. option_eq nat_eq o (Some c)) known ∙ eq_swap own.1 c
+
+-- which is what it says that a pair from the entry's station is violated
+pub from_own : (entries : List (ℕ × ℕ)) (own : ℕ × ℕ) (p : Pair) → IsAscending entries → has_entry entries own ≡ true → p.f ≡ own.0 → is_violated_from entries own p ≡ is_violated entries p
+from_own entries own p a h e =
+    ap (λ b. b && has_entry entries (p.g, p.b)) (sym (own-channel entries own p.a a h) ∙ ap (λ (f : ℕ). has_entry entries (f, p.a)) (sym e))
 
 find-agrees : (keep t u : Pair → Bool) (ps : List Pair) → ((p : Pair) → keep p ≡ true → t p ≡ u p) → find t (filter keep ps) ≡ find u (filter keep ps)
 find-agrees keep t u [] h = refl
@@ -108,10 +111,14 @@ none-more entries pairs i l n e = record {
       ∙ or_from (has_station (take i entries) p.f) ((x.0 == p.f) || false) (n.none p there h) (or_from (x.0 == p.f) false other refl);
 }
 
+-- an entry's station is one of the map
+pub station-has : (entries : List (ℕ × ℕ)) (x : ℕ × ℕ) → has_entry entries x ≡ true → has_station entries x.0 ≡ true
+station-has entries x h = sym (list_any-map (λ z. z == x.0) (λ (y : ℕ × ℕ). y.0) entries) ∙ station-in entries x h
+
 -- a violated pair is from a station of the map
 violated-station : (entries : List (ℕ × ℕ)) (p : Pair) → is_violated entries p ≡ true → has_station entries p.f ≡ true
 violated-station entries p h =
-    sym (list_any-map (λ z. z == p.f) (λ (y : ℕ × ℕ). y.0) entries) ∙ station-in entries (p.f, p.a) (and_parts (has_entry entries (p.f, p.a)) (has_entry entries (p.g, p.b)) h).0
+    station-has entries (p.f, p.a) (and_parts (has_entry entries (p.f, p.a)) (has_entry entries (p.g, p.b)) h).0
 
 -- one that isn't among the first is the next or a later one
 next-or_later : (entries : List (ℕ × ℕ)) (i f : ℕ) → IsAscending entries → has_station (take i entries) f ≡ false → has_station entries f ≡ true → (get_or entries i (0, 0)).0 ≤ f

@@ -1,4 +1,4 @@
-ghost use Rattle.std.specs.Prelude.{◌≡◌, ◌==◌, IfOk, IsTrue, filter, find};
+ghost use Rattle.std.specs.Prelude.{◌≡◌, ◌==◌, IsTrue, filter, find};
 ghost use Rattle.pack_defs.specs.ChannelMap.{IsAscending};
 ghost use Rattle.pack_defs.specs.Lists.{has_entry, is_ascending};
 ghost use Rattle.assign_check.specs.Fault.{extra, first_fault, is_violated, missing, off_domain, violation};
@@ -108,38 +108,8 @@ fn stands(map: &ChannelMap, s: u32, c: u8) -> bool
 #[cfg(test)]
 mod tests {
     use super::*;
-    use pack_defs::domain::Domain;
-    use pack_defs::items::Items;
-    use std::alloc::{AllocError, Global};
+    use crate::samples::{on_one, three_stations};
     use std::test::Fail;
-
-    // A station that may use channels 14 and 15.
-    fn on_both(alloc: Global, station: u32) -> Result<Domain, AllocError>
-        ensures { IfOk result (λ d. (d.station ≡ station) × IsTrue (is_ascending d.channels)) }
-    {
-        let channels = Items::from_vec(Vec::from_slice(alloc, &[14, 15])?);
-        Ok(Domain { station, channels })
-    }
-
-    fn on_one(f: u32, g: u32, c: u8) -> Pair
-        ensures { result ≡ record { f = f; a = c; g = g; b = c } }
-    {
-        Pair { f, a: c, g, b: c }
-    }
-
-    // Three stations on two channels, of which no two may share one.
-    fn three_stations(alloc: Global) -> Result<Book, AllocError> {
-        let domains = [on_both(alloc, 1)?, on_both(alloc, 2)?, on_both(alloc, 3)?];
-        let pairs = [
-            on_one(1, 2, 14),
-            on_one(1, 3, 14),
-            on_one(1, 2, 15),
-            on_one(1, 3, 15),
-            on_one(2, 3, 14),
-            on_one(2, 3, 15),
-        ];
-        Book::build(alloc, 15, &[1, 2, 3], &domains, &pairs)
-    }
 
     #[test]
     fn first_of_each_fault(rt: HostRuntime) -> Result<(), Fail> {

@@ -1,6 +1,9 @@
-//! The first fault of a channel map on a set of stations.
+//! The first fault of a channel map on a set of stations, and assignments that may violate pairs.
 #![tactic(auto)]
 
+pub mod assignment;
 pub mod check;
 pub mod fault;
 pub mod laws;
+#[cfg(test)]
+mod samples;

@@ -1,5 +1,4 @@
 pub mod EndLemmas
-pub mod PlainLemmas
 pub mod PlanLemmas
 pub mod PromiseLemmas
 pub mod ReadingLemmas

@@ -2,11 +2,14 @@
 use Rattle.std.proofs.Common.{◌≡◌, ◌≢◌, ◌⊎◌, ◌<◌, ◌≤◌, ◌∙◌, ◌+◌, ◌-◌, ◌^◌, ℕ, Bool, true, false, not, inl, inr, List, [], ◌∷◌, ◌++◌, length, min, refl, sym, ap, subst, arith, Option, Some, None}
 use Rattle.std.specs.Prelude.{Ok, Err, Result, IsSome, IsTrue, MatchOption, ⊤}
 use Rattle.std.specs.List.{list_all}
-use Rattle.std.proofs.lemmas.Bool.{true≢false, false≢true, not-true}
+use Rattle.std.proofs.lemmas.Bool.{true≢false, false≢true, false_from_ne_true, not-true}
 use Rattle.pack_defs.specs.Lists.{is_in}
+use Rattle.pack_defs.specs.Book.{BookView}
+use Rattle.pack_defs.specs.ClockRule.{ClockTest}
 use Rattle.pack_defs.specs.Packing.{fits}
 use Rattle.pack_defs.specs.Prices.{start_set}
-use Rattle.pack_defs.proofs.Members.{is_in-gives, list_all-gives}
+use Rattle.pack_defs.proofs.FitsLaws.{fits-from}
+use Rattle.pack_defs.proofs.Members.{Contains-nil, is_in-gives, list_all-gives}
 use Rattle.outside_io.specs.Faults.{HasRisen}
 use Rattle.outside_io.specs.Files.{OthersStand, Puts, StoredFile}
 use Rattle.outside_io.specs.Loads.{Stores, Writes}
@@ -14,22 +17,24 @@ use Rattle.outside_io.specs.declared.folder.StoreErr.{StoreErr}
 use Rattle.auction_cmd.specs.declared.inputs.Inputs.{Inputs}
 use Rattle.auction_cmd.specs.declared.inputs.Stop.{Stop}
 use Rattle.auction_cmd.specs.declared.inputs.Stop.TheVariants.{CannotRead, Refused, NoMemory}
-use Rattle.auction_core.specs.declared.record.Ending.{Ending}
+use Rattle.auction_core.specs.declared.record.Ending.TheVariants.{Done, StartRefuted, StartUndecided}
 use Rattle.auction_core.specs.declared.record.Record.{Record}
+use Rattle.auction_core.specs.Backed.{undecided_of}
+use Rattle.auction_core.proofs.StartShown.{open-some}
 use Rattle.auction_cmd.specs.declared.refusal.Input.{Input}
 use Rattle.auction_cmd.specs.declared.refusal.Refusal.{Refusal}
 use Rattle.auction_cmd.specs.Counts.{counts_text}
-use Rattle.auction_cmd.specs.Ends.{AreHeld, CheckEnds, Delivers, Ends, Explains, IsRecordOf, IsRefutedRecordOf, IsStarved, IsHalted, RunEnds, StartFits, StartUnfit, result_of, summary_of}
+use Rattle.auction_cmd.specs.Ends.{AreHeld, CheckEnds, Delivers, Ends, Explains, IsOpenRecordOf, IsRecordOf, IsRefutedRecordOf, IsStarved, IsHalted, RunEnds, StartFits, StartUnfit, done_status, result_of, summary_of}
 use Rattle.auction_cmd.specs.Ends.CheckEnds.{CheckStopped, CheckStarved, Counted, CountsCut}
 use Rattle.auction_cmd.specs.Ends.Delivers.{Both, NotStored, NotSaid, OutOfRoom}
 use Rattle.auction_cmd.specs.Ends.Ends.{Starved, Usage, Repeated, Ran, Checked}
-use Rattle.auction_cmd.specs.Ends.RunEnds.{RunStopped, RunStarved, Unfit, Delivered}
+use Rattle.auction_cmd.specs.Ends.RunEnds.{RunStopped, RunStarved, Unfit, StartOpen, Delivered}
 use Rattle.auction_cmd.specs.Inputs.{Agrees, RisesAt, inputs_of}
 use Rattle.auction_cmd.specs.Outside.{Outside, IsSaid}
 use Rattle.auction_cmd.specs.Plan.{Plan, no_command, repeats, runs, checks}
-use Rattle.auction_cmd.specs.Promises.{AreThere, IsDone, IsOr, IsSomeRecord, IsUnwritten, Promises, inputs_read}
+use Rattle.auction_cmd.specs.Promises.{AreThere, IsDecided, IsDone, IsLeftOpen, IsOr, IsRecordAt, IsSomeRecord, IsUnwritten, Promises, inputs_read}
 use Rattle.auction_cmd.specs.Refusals.{line_of, name_of}
-use Rattle.auction_cmd.specs.Says.{memory_line, twice_line, unfit_line, unread_line}
+use Rattle.auction_cmd.specs.Says.{memory_line, open_line, twice_line, unfit_line, unread_line}
 use Rattle.auction_cmd.specs.Words.{InputNames, RunNames}
 use Rattle.auction_cmd.proofs.ReadingLemmas.{can-read}
 
@@ -59,6 +64,23 @@ apart-lists : (xs ys : List ℕ) (status : ℕ) → list_all (λ x. not (is_in y
 apart-lists xs ys status apart h k =
     let out = list_all-gives (λ x. not (is_in ys x)) xs status apart (is_in-gives xs status h) in
     false≢true (sym (not-true (is_in ys status) out) ∙ k)
+
+-- a status of the one list isn't one of the other
+not-in : (xs ys : List ℕ) (status : ℕ) → list_all (λ x. not (is_in ys x)) xs ≡ true → IsTrue (is_in xs status) → is_in ys status ≡ false
+not-in xs ys status apart h = false_from_ne_true (is_in ys status) (λ k. apart-lists xs ys status apart h k)
+
+-- no status but 0 where no test is left open
+none-open : (U : List ClockTest) → done_status U ≡ 0 → U ≡ []
+none-open [] h = refl
+none-open (t ∷ ts) h = cc
+
+either-done : (U : List ClockTest) (status : ℕ) → status ≡ done_status U → (status ≡ 0) ⊎ (status ≡ 1)
+either-done [] status h = inl h
+either-done (t ∷ ts) status h = inr h
+
+-- a set of no station fits
+nobody-fits : (book : BookView) (set : List ℕ) → set ≡ [] → fits book set ≡ true
+nobody-fits book set none = rw none (fits-from book [] (record { entries = []; stations = refl; clean = record { on_domain = λ x l. absurd (Contains-nil x l); apart = λ x y l m. absurd (Contains-nil x l) } }))
 
 -- ---- a reading that stopped
 
@@ -90,30 +112,37 @@ stopped-memory names before after status h eight = by h.stop h.explains
 data Reading (names : InputNames) (before after : Outside) (status : ℕ) : Type 0 where
   Halted : IsHalted names before after status → Reading names before after status
   Short : status ≡ 8 → Reading names before after status
-  Went : (inputs : Inputs) → AreHeld names before inputs → IsTrue (is_in (0 ∷ 4 ∷ 6 ∷ 8 ∷ []) status) → Reading names before after status
-
-delivered-statuses : (name text summary : List ℕ) (before after : Outside) (status : ℕ) → Delivers name text summary before after status → IsTrue (is_in (0 ∷ 4 ∷ 8 ∷ []) status)
-delivered-statuses name text summary before after status (Both is a b) = one-of (0 ∷ 4 ∷ 8 ∷ []) status 0 is refl
-delivered-statuses name text summary before after status (NotStored is a b c d) = one-of (0 ∷ 4 ∷ 8 ∷ []) status 4 is refl
-delivered-statuses name text summary before after status (NotSaid is a b c d) = one-of (0 ∷ 4 ∷ 8 ∷ []) status 4 is refl
-delivered-statuses name text summary before after status (OutOfRoom is a b) = one-of (0 ∷ 4 ∷ 8 ∷ []) status 8 is refl
+  Went : (inputs : Inputs) → AreHeld names before inputs → IsTrue (is_in (0 ∷ 1 ∷ 4 ∷ 6 ∷ 7 ∷ 8 ∷ []) status) → Reading names before after status
 
 -- of two lists of statuses, the first within the second
 within : (xs ys : List ℕ) (status : ℕ) → list_all (is_in ys) xs ≡ true → IsTrue (is_in xs status) → IsTrue (is_in ys status)
 within xs ys status all h = list_all-gives (is_in ys) xs status all (is_in-gives xs status h)
 
+-- the status of an auction that was carried through
+done-within : (U : List ClockTest) → IsTrue (is_in (0 ∷ 1 ∷ []) (done_status U))
+done-within [] = refl
+done-within (t ∷ ts) = refl
+
+delivered-statuses : (name text summary : List ℕ) (U : List ClockTest) (before after : Outside) (status : ℕ) → Delivers name text summary (done_status U) before after status → IsTrue (is_in (0 ∷ 1 ∷ 4 ∷ 8 ∷ []) status)
+delivered-statuses name text summary U before after status (Both is a b) =
+    subst (λ z. IsTrue (is_in (0 ∷ 1 ∷ 4 ∷ 8 ∷ []) z)) (sym is) (within (0 ∷ 1 ∷ []) (0 ∷ 1 ∷ 4 ∷ 8 ∷ []) (done_status U) refl (done-within U))
+delivered-statuses name text summary U before after status (NotStored is a b c d) = one-of (0 ∷ 1 ∷ 4 ∷ 8 ∷ []) status 4 is refl
+delivered-statuses name text summary U before after status (NotSaid is a b c d) = one-of (0 ∷ 1 ∷ 4 ∷ 8 ∷ []) status 4 is refl
+delivered-statuses name text summary U before after status (OutOfRoom is a b) = one-of (0 ∷ 1 ∷ 4 ∷ 8 ∷ []) status 8 is refl
+
 run-reading : (names : RunNames) (before after : Outside) (status : ℕ) (found : Option Record) → RunEnds names before after status found → Reading names.inputs before after status
 run-reading names before after status found (RunStopped s none) = Halted s
 run-reading names before after status found (RunStarved s) = Short s.status_is
-run-reading names before after status found (Unfit inputs rec held of is kept said files) = Went inputs held (one-of (0 ∷ 4 ∷ 6 ∷ 8 ∷ []) status 6 is refl)
+run-reading names before after status found (Unfit inputs rec held of is kept said files) = Went inputs held (one-of (0 ∷ 1 ∷ 4 ∷ 6 ∷ 7 ∷ 8 ∷ []) status 6 is refl)
+run-reading names before after status found (StartOpen inputs rec held of is kept said files) = Went inputs held (one-of (0 ∷ 1 ∷ 4 ∷ 6 ∷ 7 ∷ 8 ∷ []) status 7 is refl)
 run-reading names before after status found (Delivered inputs rec held of kept d) =
-    Went inputs held (within (0 ∷ 4 ∷ 8 ∷ []) (0 ∷ 4 ∷ 6 ∷ 8 ∷ []) status refl (delivered-statuses names.result _ _ before after status d))
+    Went inputs held (within (0 ∷ 1 ∷ 4 ∷ 8 ∷ []) (0 ∷ 1 ∷ 4 ∷ 6 ∷ 7 ∷ 8 ∷ []) status refl (delivered-statuses names.result _ _ _ before after status d))
 
 check-reading : (names : InputNames) (before after : Outside) (status : ℕ) (found : Option Record) → CheckEnds names before after status found → Reading names before after status
 check-reading names before after status found (CheckStopped s none) = Halted s
 check-reading names before after status found (CheckStarved s) = Short s.status_is
-check-reading names before after status found (Counted inputs held is none writes files) = Went inputs held (one-of (0 ∷ 4 ∷ 6 ∷ 8 ∷ []) status 0 is refl)
-check-reading names before after status found (CountsCut inputs held is none rises less said files) = Went inputs held (one-of (0 ∷ 4 ∷ 6 ∷ 8 ∷ []) status 4 is refl)
+check-reading names before after status found (Counted inputs held is none writes files) = Went inputs held (one-of (0 ∷ 1 ∷ 4 ∷ 6 ∷ 7 ∷ 8 ∷ []) status 0 is refl)
+check-reading names before after status found (CountsCut inputs held is none rises less said files) = Went inputs held (one-of (0 ∷ 1 ∷ 4 ∷ 6 ∷ 7 ∷ 8 ∷ []) status 4 is refl)
 
 -- ---- the command that a plan is
 
@@ -163,7 +192,18 @@ refused-cause names before after status files (Halted h) told five = by h.stop (
     by (Refused why) agrees e = (why, agrees, e.1)
     by NoMemory agrees e = let eight = e.0 in absurd (omega arith)
 refused-cause names before after status files (Short eight) told five = absurd (omega arith)
-refused-cause names before after status files (Went inputs are on) told five = absurd (off (0 ∷ 4 ∷ 6 ∷ 8 ∷ []) status 5 on five refl)
+refused-cause names before after status files (Went inputs are on) told five = absurd (off (0 ∷ 1 ∷ 4 ∷ 6 ∷ 7 ∷ 8 ∷ []) status 5 on five refl)
+
+-- the line names the input that could not be read
+unread-line : (names : InputNames) (before after : Outside) (status : ℕ) → Reading names before after status → status ≡ 3 → (input : Input) × IsSaid before after (unread_line (name_of names input))
+unread-line names before after status (Halted h) three = by h.stop h.explains
+  where
+    by : (stop : Stop) → Explains names stop before.held after.held before.cuts after.cuts status → (input : Input) × IsSaid before after (unread_line (name_of names input))
+    by (CannotRead input) e = (input, e.1)
+    by (Refused why) e = let five = e.0 in absurd (omega arith)
+    by NoMemory e = let eight = e.0 in absurd (omega arith)
+unread-line names before after status (Short eight) three = absurd (omega arith)
+unread-line names before after status (Went inputs are on) three = absurd (off (0 ∷ 1 ∷ 4 ∷ 6 ∷ 7 ∷ 8 ∷ []) status 3 on three refl)
 
 -- a status that an input stops at, where the files hold another thing than inputs
 stops-at : (names : InputNames) (before after : Outside) (status : ℕ) (files : List StoredFile) (why : Refusal) → Reading names before after status → before.files ≡ Some files → inputs_of files names ≡ Err (Refused why) → IsOr 5 before status
@@ -187,7 +227,7 @@ read-there names before after status files (Halted h) told steady there = by h.s
     by (Refused why) agrees e = let five = e.0 in λ three. omega arith
     by NoMemory agrees e = let eight = e.0 in λ three. omega arith
 read-there names before after status files (Short eight) told steady there = λ three. omega arith
-read-there names before after status files (Went inputs are on) told steady there = λ three. off (0 ∷ 4 ∷ 6 ∷ 8 ∷ []) status 3 on three refl
+read-there names before after status files (Went inputs are on) told steady there = λ three. off (0 ∷ 1 ∷ 4 ∷ 6 ∷ 7 ∷ 8 ∷ []) status 3 on three refl
 
 missing-one : (names : InputNames) (before after : Outside) (status : ℕ) (files : List StoredFile) (input : Input) → Reading names before after status → before.files ≡ Some files → before.steady ≡ true → inputs_of files names ≡ Err (CannotRead input) →
     (status ≡ 8) ⊎ ((status ≡ 3) × IsSaid before after (unread_line (name_of names input)))
@@ -230,55 +270,109 @@ module _ (names : RunNames) (before after : Outside) (status : ℕ) (found : Opt
       puts None h = h
       puts (Some new) h = h
 
-  run-done : (files : List StoredFile) → RunEnds names before after status found → before.files ≡ Some files → status ≡ 0 → IsDone files names before after found
-  run-done files (RunStopped s none) told zero = absurd (off (3 ∷ 5 ∷ 8 ∷ []) status 0 (stopped-statuses names.inputs before after status s) zero refl)
-  run-done files (RunStarved s) told zero = let eight = s.status_is in absurd (omega arith)
-  run-done files (Unfit inputs rec are of six kept said same) told zero = absurd (omega arith)
-  run-done files (Delivered inputs rec are of kept (Both is stores writes)) told zero = record {
+  -- an auction that was carried through and told doesn't end at 4 or 8
+  never-four : (U : List ClockTest) → status ≡ done_status U → status ≡ 4 → ⊥
+  never-four U is four = off (0 ∷ 1 ∷ []) status 4 (subst (λ z. IsTrue (is_in (0 ∷ 1 ∷ []) z)) (sym is) (done-within U)) four refl
+
+  never-eight : (U : List ClockTest) → status ≡ done_status U → status ≡ 8 → ⊥
+  never-eight U is eight = off (0 ∷ 1 ∷ []) status 8 (subst (λ z. IsTrue (is_in (0 ∷ 1 ∷ []) z)) (sym is) (done-within U)) eight refl
+
+  run-done : (files : List StoredFile) → RunEnds names before after status found → before.files ≡ Some files → IsTrue (is_in (0 ∷ 1 ∷ []) status) → IsDone files names before after status found
+  run-done files (RunStopped s none) told h = absurd (apart-lists (0 ∷ 1 ∷ []) (3 ∷ 5 ∷ 8 ∷ []) status refl h (stopped-statuses names.inputs before after status s))
+  run-done files (RunStarved s) told h = absurd (off (0 ∷ 1 ∷ []) status 8 h s.status_is refl)
+  run-done files (Unfit inputs rec are of six kept said same) told h = absurd (off (0 ∷ 1 ∷ []) status 6 h six refl)
+  run-done files (StartOpen inputs rec are of seven kept said same) told h = absurd (off (0 ∷ 1 ∷ []) status 7 h seven refl)
+  run-done files (Delivered inputs rec are of kept (Both is stores writes)) told h = record {
     inputs = inputs;
     accepted = are files told;
-    result = stored-puts files after.files (result_of inputs) told stores;
+    rec = rec;
+    recorded = kept;
+    auction = of;
+    result = stored-puts files after.files (result_of inputs (undecided_of rec.steps)) told stores;
     summary = writes;
-    recorded = rw kept of;
+    status_is = is;
   }
-  run-done files (Delivered inputs rec are of kept (NotStored four a b c d)) told zero = absurd (omega arith)
-  run-done files (Delivered inputs rec are of kept (NotSaid four a b c d)) told zero = absurd (omega arith)
-  run-done files (Delivered inputs rec are of kept (OutOfRoom eight a b)) told zero = absurd (omega arith)
+  run-done files (Delivered inputs rec are of kept (NotStored four a b c d)) told h = absurd (off (0 ∷ 1 ∷ []) status 4 h four refl)
+  run-done files (Delivered inputs rec are of kept (NotSaid four a b c d)) told h = absurd (off (0 ∷ 1 ∷ []) status 4 h four refl)
+  run-done files (Delivered inputs rec are of kept (OutOfRoom eight a b)) told h = absurd (off (0 ∷ 1 ∷ []) status 8 h eight refl)
+
+  run-decided : (files : List StoredFile) → RunEnds names before after status found → before.files ≡ Some files → status ≡ 0 → IsDecided files names before after
+  run-decided files end told zero =
+      let done = run-done files end told (one-of (0 ∷ 1 ∷ []) status 0 zero refl) in
+      let none : undecided_of done.rec.steps ≡ [] = none-open (undecided_of done.rec.steps) (sym done.status_is ∙ zero) in
+      record {
+        inputs = done.inputs;
+        accepted = done.accepted;
+        result = subst (λ U. MatchOption after.files ⊥ (λ new. Puts files new names.result (result_of done.inputs U))) none done.result;
+        summary = subst (λ U. Writes before.held after.held (summary_of done.inputs U) (Ok tt)) none done.summary;
+      }
 
   run-unfit : (files : List StoredFile) → RunEnds names before after status found → before.files ≡ Some files → status ≡ 6 →
       (inputs : Inputs) × (inputs_of files names.inputs ≡ Ok inputs) × StartUnfit inputs × IsSaid before after unfit_line
   run-unfit files (RunStopped s none) told six = absurd (off (3 ∷ 5 ∷ 8 ∷ []) status 6 (stopped-statuses names.inputs before after status s) six refl)
   run-unfit files (RunStarved s) told six = let eight = s.status_is in absurd (omega arith)
   run-unfit files (Unfit inputs rec are of is kept said same) told six = (inputs, are files told, of.starts, said)
-  run-unfit files (Delivered inputs rec are of kept d) told six = absurd (off (0 ∷ 4 ∷ 8 ∷ []) status 6 (delivered-statuses names.result _ _ before after status d) six refl)
+  run-unfit files (StartOpen inputs rec are of seven kept said same) told six = absurd (omega arith)
+  run-unfit files (Delivered inputs rec are of kept d) told six = absurd (off (0 ∷ 1 ∷ 4 ∷ 8 ∷ []) status 6 (delivered-statuses names.result _ _ _ before after status d) six refl)
 
-  run-unfits : (files : List StoredFile) (inputs : Inputs) → RunEnds names before after status found → before.files ≡ Some files → inputs_of files names.inputs ≡ Ok inputs → StartUnfit inputs → IsOr 6 before status
-  run-unfits files inputs (RunStopped s none) told is unfit = halted-held names.inputs before after status 6 files inputs s told is
-  run-unfits files inputs (RunStarved s) told is unfit = inr (inl s.status_is)
-  run-unfits files inputs (Unfit own rec are of six kept said same) told is unfit = inl six
+  run-unfits : (files : List StoredFile) (inputs : Inputs) → RunEnds names before after status found → before.files ≡ Some files → inputs_of files names.inputs ≡ Ok inputs → StartUnfit inputs → IsOr 6 before status ⊎ (status ≡ 7)
+  run-unfits files inputs (RunStopped s none) told is unfit = inl (halted-held names.inputs before after status 6 files inputs s told is)
+  run-unfits files inputs (RunStarved s) told is unfit = inl (inr (inl s.status_is))
+  run-unfits files inputs (Unfit own rec are of six kept said same) told is unfit = inl (inl six)
+  run-unfits files inputs (StartOpen own rec are of seven kept said same) told is unfit = inr seven
   run-unfits files inputs (Delivered own rec are of kept d) told is unfit =
       let same : own ≡ inputs = same-inputs own inputs (sym (are files told) ∙ is) in
       absurd (true≢false (sym (subst (λ (z : Inputs). fits z.book (start_set z.scenario) ≡ true) same of.starts) ∙ unfit))
 
-  run-stored : (files : List StoredFile) → RunEnds names before after status found → before.files ≡ Some files → status ≡ 4 → IsUnwritten files names before after
+  run-open : (files : List StoredFile) → RunEnds names before after status found → before.files ≡ Some files → status ≡ 7 → IsLeftOpen files names before after found
+  run-open files (RunStopped s none) told seven = absurd (off (3 ∷ 5 ∷ 8 ∷ []) status 7 (stopped-statuses names.inputs before after status s) seven refl)
+  run-open files (RunStarved s) told seven = let eight = s.status_is in absurd (omega arith)
+  run-open files (Unfit inputs rec are of six kept said same) told seven = absurd (omega arith)
+  run-open files (StartOpen inputs rec are of is kept said same) told seven =
+      record { inputs = inputs; accepted = are files told; rec = rec; recorded = kept; auction = of; line = said }
+  run-open files (Delivered inputs rec are of kept d) told seven = absurd (off (0 ∷ 1 ∷ 4 ∷ 8 ∷ []) status 7 (delivered-statuses names.result _ _ _ before after status d) seven refl)
+
+  run-nobody : (files : List StoredFile) (inputs : Inputs) → RunEnds names before after status found → before.files ≡ Some files → inputs_of files names.inputs ≡ Ok inputs → start_set inputs.scenario ≡ [] → is_in (6 ∷ 7 ∷ []) status ≡ false
+  run-nobody files inputs (RunStopped s none) told is nobody = not-in (3 ∷ 5 ∷ 8 ∷ []) (6 ∷ 7 ∷ []) status refl (stopped-statuses names.inputs before after status s)
+  run-nobody files inputs (RunStarved s) told is nobody = not-in (8 ∷ []) (6 ∷ 7 ∷ []) status refl (one-of (8 ∷ []) status 8 s.status_is refl)
+  run-nobody files inputs (Unfit own rec are of six kept said same) told is nobody =
+      let one : own ≡ inputs = same-inputs own inputs (sym (are files told) ∙ is) in
+      absurd (true≢false (sym (nobody-fits own.book (start_set own.scenario) (ap (λ (z : Inputs). start_set z.scenario) one ∙ nobody)) ∙ of.starts))
+  run-nobody files inputs (StartOpen own rec are of seven kept said same) told is nobody =
+      let one : own ≡ inputs = same-inputs own inputs (sym (are files told) ∙ is) in
+      absurd (open-some own.scenario own.book rec of.backed of.ending (ap (λ (z : Inputs). start_set z.scenario) one ∙ nobody))
+  run-nobody files inputs (Delivered own rec are of kept d) told is nobody = not-in (0 ∷ 1 ∷ 4 ∷ 8 ∷ []) (6 ∷ 7 ∷ []) status refl (delivered-statuses names.result _ _ _ before after status d)
+
+  run-stored : (files : List StoredFile) → RunEnds names before after status found → before.files ≡ Some files → status ≡ 4 → IsUnwritten files names before after found
   run-stored files (RunStopped s none) told four = absurd (off (3 ∷ 5 ∷ 8 ∷ []) status 4 (stopped-statuses names.inputs before after status s) four refl)
   run-stored files (RunStarved s) told four = let eight = s.status_is in absurd (omega arith)
   run-stored files (Unfit inputs rec are of six kept said same) told four = absurd (omega arith)
-  run-stored files (Delivered inputs rec are of kept (Both zero a b)) told four = absurd (omega arith)
+  run-stored files (StartOpen inputs rec are of seven kept said same) told four = absurd (omega arith)
+  run-stored files (Delivered inputs rec are of kept (Both is a b)) told four = absurd (never-four (undecided_of rec.steps) is four)
   run-stored files (Delivered inputs rec are of kept (NotStored is stores rises unsteady said)) told four = inl (rises, unsteady, said)
-  run-stored files (Delivered inputs rec are of kept (NotSaid is stores rises less said)) told four =
-      inr (inputs, are files told, stored-puts files after.files (result_of inputs) told stores, rises, said)
+  run-stored files (Delivered inputs rec are of kept (NotSaid is stores rises less said)) told four = inr (record {
+    inputs = inputs;
+    accepted = are files told;
+    rec = rec;
+    recorded = kept;
+    auction = of;
+    result = stored-puts files after.files (result_of inputs (undecided_of rec.steps)) told stores;
+    failed = rises;
+    unsure = less;
+    summary = said;
+  })
   run-stored files (Delivered inputs rec are of kept (OutOfRoom eight a b)) told four = absurd (omega arith)
 
   run-surely : (files : List StoredFile) → RunEnds names before after status found → before.files ≡ Some files → before.steady ≡ true →
-      ((inputs : Inputs) → inputs_of files names.inputs ≡ Ok inputs → length (summary_of inputs) ≤ before.sure) → status ≢ 4
+      ((inputs : Inputs) (undecided : List ClockTest) → inputs_of files names.inputs ≡ Ok inputs → length (summary_of inputs undecided) ≤ before.sure) → status ≢ 4
   run-surely files (RunStopped s none) told steady room = λ four. off (3 ∷ 5 ∷ 8 ∷ []) status 4 (stopped-statuses names.inputs before after status s) four refl
   run-surely files (RunStarved s) told steady room = let eight = s.status_is in λ four. omega arith
   run-surely files (Unfit inputs rec are of six kept said same) told steady room = λ four. omega arith
-  run-surely files (Delivered inputs rec are of kept (Both zero a b)) told steady room = λ four. omega arith
+  run-surely files (StartOpen inputs rec are of seven kept said same) told steady room = λ four. omega arith
+  run-surely files (Delivered inputs rec are of kept (Both is a b)) told steady room = never-four (undecided_of rec.steps) is
   run-surely files (Delivered inputs rec are of kept (NotStored is stores rises unsteady said)) told steady room = absurd (unsteady steady)
   run-surely files (Delivered inputs rec are of kept (NotSaid is stores rises less said)) told steady room =
-      let enough = room inputs (are files told) in absurd (omega arith)
+      let enough = room inputs (undecided_of rec.steps) (are files told) in absurd (omega arith)
   run-surely files (Delivered inputs rec are of kept (OutOfRoom eight a b)) told steady room = λ four. omega arith
 
   -- files that stand
@@ -298,60 +392,96 @@ module _ (names : RunNames) (before after : Outside) (status : ℕ) (found : Opt
   run-others files (RunStopped s none) told = stand files told s.files
   run-others files (RunStarved s) told = stand files told s.files
   run-others files (Unfit inputs rec are of six kept said same) told = stand files told same
-  run-others files (Delivered inputs rec are of kept (Both zero stores b)) told = store-others files (result_of inputs) _ told stores
-  run-others files (Delivered inputs rec are of kept (NotStored is stores rises unsteady said)) told = store-others files (result_of inputs) _ told stores
-  run-others files (Delivered inputs rec are of kept (NotSaid is stores rises less said)) told = store-others files (result_of inputs) _ told stores
-  run-others files (Delivered inputs rec are of kept (OutOfRoom eight stores b)) told = store-others files (result_of inputs) _ told stores
+  run-others files (StartOpen inputs rec are of seven kept said same) told = stand files told same
+  run-others files (Delivered inputs rec are of kept (Both zero stores b)) told = store-others files (result_of inputs (undecided_of rec.steps)) _ told stores
+  run-others files (Delivered inputs rec are of kept (NotStored is stores rises unsteady said)) told = store-others files (result_of inputs (undecided_of rec.steps)) _ told stores
+  run-others files (Delivered inputs rec are of kept (NotSaid is stores rises less said)) told = store-others files (result_of inputs (undecided_of rec.steps)) _ told stores
+  run-others files (Delivered inputs rec are of kept (OutOfRoom eight stores b)) told = store-others files (result_of inputs (undecided_of rec.steps)) _ told stores
 
-  run-complete : (files : List StoredFile) (inputs : Inputs) → RunEnds names before after status found → before.files ≡ Some files → inputs_of files names.inputs ≡ Ok inputs → StartFits inputs → IsOr 0 before status ⊎ (status ≡ 4)
+  run-complete : (files : List StoredFile) (inputs : Inputs) → RunEnds names before after status found → before.files ≡ Some files → inputs_of files names.inputs ≡ Ok inputs → StartFits inputs →
+      IsOr 0 before status ⊎ IsTrue (is_in (1 ∷ 4 ∷ 7 ∷ []) status)
   run-complete files inputs (RunStopped s none) told is fit = inl (halted-held names.inputs before after status 0 files inputs s told is)
   run-complete files inputs (RunStarved s) told is fit = inl (inr (inl s.status_is))
   run-complete files inputs (Unfit own rec are of six kept said same) told is fit =
       let one : own ≡ inputs = same-inputs own inputs (sym (are files told) ∙ is) in
       absurd (true≢false (sym fit ∙ subst (λ (z : Inputs). fits z.book (start_set z.scenario) ≡ false) one of.starts))
-  run-complete files inputs (Delivered own rec are of kept (Both zero a b)) told is fit = inl (inl zero)
-  run-complete files inputs (Delivered own rec are of kept (NotStored four a b c d)) told is fit = inr four
-  run-complete files inputs (Delivered own rec are of kept (NotSaid four a b c d)) told is fit = inr four
+  run-complete files inputs (StartOpen own rec are of seven kept said same) told is fit = inr (one-of (1 ∷ 4 ∷ 7 ∷ []) status 7 seven refl)
+  run-complete files inputs (Delivered own rec are of kept (Both done a b)) told is fit = elim (either-done (undecided_of rec.steps) status done) [
+    | inl zero ↦ inl (inl zero)
+    | inr one ↦ inr (one-of (1 ∷ 4 ∷ 7 ∷ []) status 1 one refl)
+  ]
+  run-complete files inputs (Delivered own rec are of kept (NotStored four a b c d)) told is fit = inr (one-of (1 ∷ 4 ∷ 7 ∷ []) status 4 four refl)
+  run-complete files inputs (Delivered own rec are of kept (NotSaid four a b c d)) told is fit = inr (one-of (1 ∷ 4 ∷ 7 ∷ []) status 4 four refl)
   run-complete files inputs (Delivered own rec are of kept (OutOfRoom eight a b)) told is fit = inl (inr (inl eight))
 
-  there : (rec : Record) → found ≡ Some rec → IsSome found
-  there rec is = rw is refl
+  run-recorded : RunEnds names before after status found → IsTrue (is_in (0 ∷ 1 ∷ 4 ∷ []) status) → IsRecordAt names before Done found
+  run-recorded (RunStopped s none) h = absurd (apart-lists (0 ∷ 1 ∷ 4 ∷ []) (3 ∷ 5 ∷ 8 ∷ []) status refl h (stopped-statuses names.inputs before after status s))
+  run-recorded (RunStarved s) h = absurd (off (0 ∷ 1 ∷ 4 ∷ []) status 8 h s.status_is refl)
+  run-recorded (Unfit inputs rec are of six kept said same) h = absurd (off (0 ∷ 1 ∷ 4 ∷ []) status 6 h six refl)
+  run-recorded (StartOpen inputs rec are of seven kept said same) h = absurd (off (0 ∷ 1 ∷ 4 ∷ []) status 7 h seven refl)
+  run-recorded (Delivered inputs rec are of kept d) h = record { inputs = inputs; held = are; rec = rec; recorded = kept; auction = of }
 
-  run-recorded : RunEnds names before after status found → IsTrue (is_in (0 ∷ 4 ∷ 6 ∷ []) status) → IsSome found
-  run-recorded (RunStopped s none) h = absurd (apart-lists (0 ∷ 4 ∷ 6 ∷ []) (3 ∷ 5 ∷ 8 ∷ []) status refl h (stopped-statuses names.inputs before after status s))
-  run-recorded (RunStarved s) h = absurd (off (0 ∷ 4 ∷ 6 ∷ []) status 8 h s.status_is refl)
-  run-recorded (Unfit inputs rec are of six kept said same) h = there rec kept
-  run-recorded (Delivered inputs rec are of kept d) h = there rec kept
+  run-refuted : RunEnds names before after status found → status ≡ 6 → IsRecordAt names before StartRefuted found
+  run-refuted (RunStopped s none) six = absurd (off (3 ∷ 5 ∷ 8 ∷ []) status 6 (stopped-statuses names.inputs before after status s) six refl)
+  run-refuted (RunStarved s) six = let eight = s.status_is in absurd (omega arith)
+  run-refuted (Unfit inputs rec are of is kept said same) six = record { inputs = inputs; held = are; rec = rec; recorded = kept; auction = of }
+  run-refuted (StartOpen inputs rec are of seven kept said same) six = absurd (omega arith)
+  run-refuted (Delivered inputs rec are of kept d) six = absurd (off (0 ∷ 1 ∷ 4 ∷ 8 ∷ []) status 6 (delivered-statuses names.result _ _ _ before after status d) six refl)
+
+  run-opened : RunEnds names before after status found → status ≡ 7 → IsRecordAt names before StartUndecided found
+  run-opened (RunStopped s none) seven = absurd (off (3 ∷ 5 ∷ 8 ∷ []) status 7 (stopped-statuses names.inputs before after status s) seven refl)
+  run-opened (RunStarved s) seven = let eight = s.status_is in absurd (omega arith)
+  run-opened (Unfit inputs rec are of six kept said same) seven = absurd (omega arith)
+  run-opened (StartOpen inputs rec are of is kept said same) seven = record { inputs = inputs; held = are; rec = rec; recorded = kept; auction = of }
+  run-opened (Delivered inputs rec are of kept d) seven = absurd (off (0 ∷ 1 ∷ 4 ∷ 8 ∷ []) status 7 (delivered-statuses names.result _ _ _ before after status d) seven refl)
+
+  run-summed : RunEnds names before after status found → IsTrue (is_in (0 ∷ 1 ∷ []) status) →
+      (inputs : Inputs) × (rec : Record) × (found ≡ Some rec) × IsRecordOf inputs rec
+      × (status ≡ done_status (undecided_of rec.steps))
+      × Writes before.held after.held (summary_of inputs (undecided_of rec.steps)) (Ok tt)
+  run-summed (RunStopped s none) h = absurd (apart-lists (0 ∷ 1 ∷ []) (3 ∷ 5 ∷ 8 ∷ []) status refl h (stopped-statuses names.inputs before after status s))
+  run-summed (RunStarved s) h = absurd (off (0 ∷ 1 ∷ []) status 8 h s.status_is refl)
+  run-summed (Unfit inputs rec are of six kept said same) h = absurd (off (0 ∷ 1 ∷ []) status 6 h six refl)
+  run-summed (StartOpen inputs rec are of seven kept said same) h = absurd (off (0 ∷ 1 ∷ []) status 7 h seven refl)
+  run-summed (Delivered inputs rec are of kept (Both is stores writes)) h = (inputs, rec, kept, of, is, writes)
+  run-summed (Delivered inputs rec are of kept (NotStored four a b c d)) h = absurd (off (0 ∷ 1 ∷ []) status 4 h four refl)
+  run-summed (Delivered inputs rec are of kept (NotSaid four a b c d)) h = absurd (off (0 ∷ 1 ∷ []) status 4 h four refl)
+  run-summed (Delivered inputs rec are of kept (OutOfRoom eight a b)) h = absurd (off (0 ∷ 1 ∷ []) status 8 h eight refl)
 
   run-unrecorded : RunEnds names before after status found → IsTrue (is_in (2 ∷ 3 ∷ 5 ∷ []) status) → found ≡ None
   run-unrecorded (RunStopped s none) h = none
   run-unrecorded (RunStarved s) h = s.found_is
   run-unrecorded (Unfit inputs rec are of six kept said same) h = absurd (off (2 ∷ 3 ∷ 5 ∷ []) status 6 h six refl)
-  run-unrecorded (Delivered inputs rec are of kept d) h = absurd (apart-lists (2 ∷ 3 ∷ 5 ∷ []) (0 ∷ 4 ∷ 8 ∷ []) status refl h (delivered-statuses names.result _ _ before after status d))
+  run-unrecorded (StartOpen inputs rec are of seven kept said same) h = absurd (off (2 ∷ 3 ∷ 5 ∷ []) status 7 h seven refl)
+  run-unrecorded (Delivered inputs rec are of kept d) h = absurd (apart-lists (2 ∷ 3 ∷ 5 ∷ []) (0 ∷ 1 ∷ 4 ∷ 8 ∷ []) status refl h (delivered-statuses names.result _ _ _ before after status d))
 
   run-backed : RunEnds names before after status found → MatchOption found ⊤ IsSomeRecord
   run-backed (RunStopped s none) = absent found none
   run-backed (RunStarved s) = absent found s.found_is
   run-backed (Unfit inputs rec are of six kept said same) = rw kept (record { inputs = inputs; backed = of.backed; packing = λ done. cc (sym of.ending ∙ done) })
+  run-backed (StartOpen inputs rec are of seven kept said same) = rw kept (record { inputs = inputs; backed = of.backed; packing = λ done. cc (sym of.ending ∙ done) })
   run-backed (Delivered inputs rec are of kept d) = rw kept (record { inputs = inputs; backed = of.backed; packing = λ done. of.packing })
 
-  run-statuses : RunEnds names before after status found → IsTrue (is_in (0 ∷ 3 ∷ 4 ∷ 5 ∷ 6 ∷ 8 ∷ []) status)
-  run-statuses (RunStopped s none) = within (3 ∷ 5 ∷ 8 ∷ []) (0 ∷ 3 ∷ 4 ∷ 5 ∷ 6 ∷ 8 ∷ []) status refl (stopped-statuses names.inputs before after status s)
-  run-statuses (RunStarved s) = one-of (0 ∷ 3 ∷ 4 ∷ 5 ∷ 6 ∷ 8 ∷ []) status 8 s.status_is refl
-  run-statuses (Unfit inputs rec are of six kept said same) = one-of (0 ∷ 3 ∷ 4 ∷ 5 ∷ 6 ∷ 8 ∷ []) status 6 six refl
-  run-statuses (Delivered inputs rec are of kept d) = within (0 ∷ 4 ∷ 8 ∷ []) (0 ∷ 3 ∷ 4 ∷ 5 ∷ 6 ∷ 8 ∷ []) status refl (delivered-statuses names.result _ _ before after status d)
+  run-statuses : RunEnds names before after status found → IsTrue (is_in (0 ∷ 1 ∷ 3 ∷ 4 ∷ 5 ∷ 6 ∷ 7 ∷ 8 ∷ []) status)
+  run-statuses (RunStopped s none) = within (3 ∷ 5 ∷ 8 ∷ []) (0 ∷ 1 ∷ 3 ∷ 4 ∷ 5 ∷ 6 ∷ 7 ∷ 8 ∷ []) status refl (stopped-statuses names.inputs before after status s)
+  run-statuses (RunStarved s) = one-of (0 ∷ 1 ∷ 3 ∷ 4 ∷ 5 ∷ 6 ∷ 7 ∷ 8 ∷ []) status 8 s.status_is refl
+  run-statuses (Unfit inputs rec are of six kept said same) = one-of (0 ∷ 1 ∷ 3 ∷ 4 ∷ 5 ∷ 6 ∷ 7 ∷ 8 ∷ []) status 6 six refl
+  run-statuses (StartOpen inputs rec are of seven kept said same) = one-of (0 ∷ 1 ∷ 3 ∷ 4 ∷ 5 ∷ 6 ∷ 7 ∷ 8 ∷ []) status 7 seven refl
+  run-statuses (Delivered inputs rec are of kept d) = within (0 ∷ 1 ∷ 4 ∷ 8 ∷ []) (0 ∷ 1 ∷ 3 ∷ 4 ∷ 5 ∷ 6 ∷ 7 ∷ 8 ∷ []) status refl (delivered-statuses names.result _ _ _ before after status d)
 
   run-unread : RunEnds names before after status found → status ≡ 3 → HasRisen before.faults after.faults
   run-unread (RunStopped s none) three = stopped-unread names.inputs before after status s three
   run-unread (RunStarved s) three = let eight = s.status_is in absurd (omega arith)
   run-unread (Unfit inputs rec are of six kept said same) three = absurd (omega arith)
-  run-unread (Delivered inputs rec are of kept d) three = absurd (off (0 ∷ 4 ∷ 8 ∷ []) status 3 (delivered-statuses names.result _ _ before after status d) three refl)
+  run-unread (StartOpen inputs rec are of seven kept said same) three = absurd (omega arith)
+  run-unread (Delivered inputs rec are of kept d) three = absurd (off (0 ∷ 1 ∷ 4 ∷ 8 ∷ []) status 3 (delivered-statuses names.result _ _ _ before after status d) three refl)
 
   run-unwritten : RunEnds names before after status found → status ≡ 4 → HasRisen before.faults after.faults ⊎ HasRisen before.cuts after.cuts
   run-unwritten (RunStopped s none) four = absurd (off (3 ∷ 5 ∷ 8 ∷ []) status 4 (stopped-statuses names.inputs before after status s) four refl)
   run-unwritten (RunStarved s) four = let eight = s.status_is in absurd (omega arith)
   run-unwritten (Unfit inputs rec are of six kept said same) four = absurd (omega arith)
-  run-unwritten (Delivered inputs rec are of kept (Both zero a b)) four = absurd (omega arith)
+  run-unwritten (StartOpen inputs rec are of seven kept said same) four = absurd (omega arith)
+  run-unwritten (Delivered inputs rec are of kept (Both is a b)) four = absurd (never-four (undecided_of rec.steps) is four)
   run-unwritten (Delivered inputs rec are of kept (NotStored is stores rises unsteady said)) four = inl rises
   run-unwritten (Delivered inputs rec are of kept (NotSaid is stores rises less said)) four = inr rises
   run-unwritten (Delivered inputs rec are of kept (OutOfRoom eight a b)) four = absurd (omega arith)
@@ -363,19 +493,22 @@ module _ (names : RunNames) (before after : Outside) (status : ℕ) (found : Opt
   run-untouched (RunStopped s none) absent = s.files
   run-untouched (RunStarved s) absent = s.files
   run-untouched (Unfit inputs rec are of six kept said same) absent = same
+  run-untouched (StartOpen inputs rec are of seven kept said same) absent = same
   run-untouched (Delivered inputs rec are of kept d) absent = absurd (none-some rec kept absent)
 
-  run-six : RunEnds names before after status found → status ≡ 6 → after.files ≡ before.files
-  run-six (RunStopped s none) six = s.files
-  run-six (RunStarved s) six = s.files
-  run-six (Unfit inputs rec are of is kept said same) six = same
-  run-six (Delivered inputs rec are of kept d) six = absurd (off (0 ∷ 4 ∷ 8 ∷ []) status 6 (delivered-statuses names.result _ _ before after status d) six refl)
+  run-ended : RunEnds names before after status found → IsTrue (is_in (6 ∷ 7 ∷ []) status) → after.files ≡ before.files
+  run-ended (RunStopped s none) h = s.files
+  run-ended (RunStarved s) h = s.files
+  run-ended (Unfit inputs rec are of is kept said same) h = same
+  run-ended (StartOpen inputs rec are of is kept said same) h = same
+  run-ended (Delivered inputs rec are of kept d) h = absurd (apart-lists (6 ∷ 7 ∷ []) (0 ∷ 1 ∷ 4 ∷ 8 ∷ []) status refl h (delivered-statuses names.result _ _ _ before after status d))
 
   run-memory : RunEnds names before after status found → status ≡ 8 → IsSaid before after memory_line
   run-memory (RunStopped s none) eight = stopped-memory names.inputs before after status s eight
   run-memory (RunStarved s) eight = s.line
   run-memory (Unfit inputs rec are of six kept said same) eight = absurd (omega arith)
-  run-memory (Delivered inputs rec are of kept (Both zero a b)) eight = absurd (omega arith)
+  run-memory (StartOpen inputs rec are of seven kept said same) eight = absurd (omega arith)
+  run-memory (Delivered inputs rec are of kept (Both is a b)) eight = absurd (never-eight (undecided_of rec.steps) is eight)
   run-memory (Delivered inputs rec are of kept (NotStored four a b c d)) eight = absurd (omega arith)
   run-memory (Delivered inputs rec are of kept (NotSaid four a b c d)) eight = absurd (omega arith)
   run-memory (Delivered inputs rec are of kept (OutOfRoom is stores said)) eight = said
@@ -449,12 +582,12 @@ module _ (names : InputNames) (before after : Outside) (status : ℕ) (found : O
 -- ---- how the program ends
 
 module _ (plan : Plan) (before after : Outside) (status : ℕ) (found : Option Record) where
-  all-statuses : Ends plan before after status found → IsTrue (is_in (0 ∷ 2 ∷ 3 ∷ 4 ∷ 5 ∷ 6 ∷ 8 ∷ []) status)
-  all-statuses (Starved s still) = one-of (0 ∷ 2 ∷ 3 ∷ 4 ∷ 5 ∷ 6 ∷ 8 ∷ []) status 8 s.status_is refl
-  all-statuses (Usage text is two none said files still) = one-of (0 ∷ 2 ∷ 3 ∷ 4 ∷ 5 ∷ 6 ∷ 8 ∷ []) status 2 two refl
-  all-statuses (Repeated name is five none said files still) = one-of (0 ∷ 2 ∷ 3 ∷ 4 ∷ 5 ∷ 6 ∷ 8 ∷ []) status 5 five refl
-  all-statuses (Ran names is end) = within (0 ∷ 3 ∷ 4 ∷ 5 ∷ 6 ∷ 8 ∷ []) (0 ∷ 2 ∷ 3 ∷ 4 ∷ 5 ∷ 6 ∷ 8 ∷ []) status refl (run-statuses names before after status found end)
-  all-statuses (Checked names is end) = within (0 ∷ 3 ∷ 4 ∷ 5 ∷ 8 ∷ []) (0 ∷ 2 ∷ 3 ∷ 4 ∷ 5 ∷ 6 ∷ 8 ∷ []) status refl (check-statuses names before after status found end)
+  all-statuses : Ends plan before after status found → IsTrue (is_in (0 ∷ 1 ∷ 2 ∷ 3 ∷ 4 ∷ 5 ∷ 6 ∷ 7 ∷ 8 ∷ []) status)
+  all-statuses (Starved s still) = one-of (0 ∷ 1 ∷ 2 ∷ 3 ∷ 4 ∷ 5 ∷ 6 ∷ 7 ∷ 8 ∷ []) status 8 s.status_is refl
+  all-statuses (Usage text is two none said files still) = one-of (0 ∷ 1 ∷ 2 ∷ 3 ∷ 4 ∷ 5 ∷ 6 ∷ 7 ∷ 8 ∷ []) status 2 two refl
+  all-statuses (Repeated name is five none said files still) = one-of (0 ∷ 1 ∷ 2 ∷ 3 ∷ 4 ∷ 5 ∷ 6 ∷ 7 ∷ 8 ∷ []) status 5 five refl
+  all-statuses (Ran names is end) = within (0 ∷ 1 ∷ 3 ∷ 4 ∷ 5 ∷ 6 ∷ 7 ∷ 8 ∷ []) (0 ∷ 1 ∷ 2 ∷ 3 ∷ 4 ∷ 5 ∷ 6 ∷ 7 ∷ 8 ∷ []) status refl (run-statuses names before after status found end)
+  all-statuses (Checked names is end) = within (0 ∷ 3 ∷ 4 ∷ 5 ∷ 8 ∷ []) (0 ∷ 1 ∷ 2 ∷ 3 ∷ 4 ∷ 5 ∷ 6 ∷ 7 ∷ 8 ∷ []) status refl (check-statuses names before after status found end)
 
   -- words that are no command
   no-plan : Ends plan before after status found → plan ≡ no_command → (status ≡ 2) ⊎ (status ≡ 8)
@@ -468,7 +601,7 @@ module _ (plan : Plan) (before after : Outside) (status : ℕ) (found : Option R
   only-no_plan (Starved s still) two = let eight = s.status_is in absurd (omega arith)
   only-no_plan (Usage text is is_two none said files still) two = is
   only-no_plan (Repeated name is five none said files still) two = absurd (omega arith)
-  only-no_plan (Ran names is end) two = absurd (off (0 ∷ 3 ∷ 4 ∷ 5 ∷ 6 ∷ 8 ∷ []) status 2 (run-statuses names before after status found end) two refl)
+  only-no_plan (Ran names is end) two = absurd (off (0 ∷ 1 ∷ 3 ∷ 4 ∷ 5 ∷ 6 ∷ 7 ∷ 8 ∷ []) status 2 (run-statuses names before after status found end) two refl)
   only-no_plan (Checked names is end) two = absurd (off (0 ∷ 3 ∷ 4 ∷ 5 ∷ 8 ∷ []) status 2 (check-statuses names before after status found end) two refl)
 
   named-twice : (name : List ℕ) → Ends plan before after status found → plan ≡ repeats name → ((status ≡ 5) × IsSaid before after (twice_line name)) ⊎ (status ≡ 8)
@@ -515,12 +648,12 @@ module _ (plan : Plan) (before after : Outside) (status : ℕ) (found : Option R
   all-untouched (Ran names is end) none = run-untouched names before after status found end none
   all-untouched (Checked names is end) none = check-files names before after status found end
 
-  all-six : Ends plan before after status found → status ≡ 6 → after.files ≡ before.files
-  all-six (Starved s still) six = s.files
-  all-six (Usage text is two absent said files still) six = files
-  all-six (Repeated name is five absent said files still) six = files
-  all-six (Ran names is end) six = run-six names before after status found end six
-  all-six (Checked names is end) six = check-files names before after status found end
+  all-ended : Ends plan before after status found → IsTrue (is_in (6 ∷ 7 ∷ []) status) → after.files ≡ before.files
+  all-ended (Starved s still) h = s.files
+  all-ended (Usage text is two absent said files still) h = files
+  all-ended (Repeated name is five absent said files still) h = files
+  all-ended (Ran names is end) h = run-ended names before after status found end h
+  all-ended (Checked names is end) h = check-files names before after status found end
 
   all-memory : Ends plan before after status found → status ≡ 8 → IsSaid before after memory_line
   all-memory (Starved s still) eight = s.line
@@ -544,10 +677,15 @@ promises-of plan before after status found end = record {
   usage = no-plan plan before after status found end;
   usage_only = only-no_plan plan before after status found end;
   twice = λ name. named-twice plan before after status found name end;
-  done = λ files names told is zero. run-done names before after status found files (ran plan names before after status found end is) told zero;
+  done = λ files names told is h. run-done names before after status found files (ran plan names before after status found end is) told h;
+  decided = λ files names told is zero. run-decided names before after status found files (ran plan names before after status found end is) told zero;
   counted = λ files names told is zero. check-counted names before after status found files (checked plan names before after status found end is) told zero;
   backed = all-backed plan before after status found end;
   recorded = λ names is h. run-recorded names before after status found (ran plan names before after status found end is) h;
+  refuted_recorded = λ names is six. run-refuted names before after status found (ran plan names before after status found end is) six;
+  open_recorded = λ names is seven. run-opened names before after status found (ran plan names before after status found end is) seven;
+  summed = λ names is h. run-summed names before after status found (ran plan names before after status found end is) h;
+  unread_says = λ names is three. unread-line names before after status (read-by plan names before after status found end is) three;
   unrecorded = all-unrecorded plan before after status found end;
   no_record = λ names is. check-none names before after status found (checked plan names before after status found end is);
   refused = λ files names told is five. refused-cause names before after status files (read-by plan names before after status found end is) told five;
@@ -558,7 +696,9 @@ promises-of plan before after status found end = record {
   missing = λ files names input told is steady absent. missing-one names before after status files input (read-by plan names before after status found end is) told steady absent;
   unfit = λ files names told is six. run-unfit names before after status found files (ran plan names before after status found end is) told six;
   unfits = λ files names inputs told is held unfit. run-unfits names before after status found files inputs (ran plan names before after status found end is) told held unfit;
-  run_only = λ names is six. off (0 ∷ 3 ∷ 4 ∷ 5 ∷ 8 ∷ []) status 6 (check-statuses names before after status found (checked plan names before after status found end is)) six refl;
+  left_open = λ files names told is seven. run-open names before after status found files (ran plan names before after status found end is) told seven;
+  nobody = λ files names inputs told is held none. run-nobody names before after status found files inputs (ran plan names before after status found end is) told held none;
+  run_only = λ names is. not-in (0 ∷ 3 ∷ 4 ∷ 5 ∷ 8 ∷ []) (1 ∷ 6 ∷ 7 ∷ []) status refl (check-statuses names before after status found (checked plan names before after status found end is));
   unwritten = all-unwritten plan before after status found end;
   stored = λ files names told is four. run-stored names before after status found files (ran plan names before after status found end is) told four;
   cut = λ files names told is four. check-cut names before after status found files (checked plan names before after status found end is) told four;
@@ -566,7 +706,7 @@ promises-of plan before after status found end = record {
   surely_counted = λ files names told is room. check-surely names before after status found files (checked plan names before after status found end is) told room;
   others = λ files names told is. run-others names before after status found files (ran plan names before after status found end is) told;
   untouched = all-untouched plan before after status found end;
-  unfit_untouched = all-six plan before after status found end;
+  unfit_untouched = all-ended plan before after status found end;
   complete = λ files names inputs told is held fit. run-complete names before after status found files inputs (ran plan names before after status found end is) told held fit;
   counts = λ files names inputs told is held. check-complete names before after status found files inputs (checked plan names before after status found end is) told held;
   memory = all-memory plan before after status found end;

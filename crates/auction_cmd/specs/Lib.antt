@@ -2,7 +2,6 @@ pub mod Counts
 pub mod Ends
 pub mod Inputs
 pub mod Outside
-pub mod PlainRule
 pub mod Plan
 pub mod Promises
 pub mod Refusals

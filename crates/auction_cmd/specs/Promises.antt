@@ -1,26 +1,28 @@
 -- What may be relied on of the program, a clause each: by what the words ask for, what the folder and the sink tell
 -- before and after, the status and the record.
-use Rattle.std.specs.Prelude.{◌≡◌, ◌≢◌, ◌⊎◌, ◌≤◌, ℕ, List, [], ◌∷◌, length, Option, Some, None, Ok, Err, IsSome, IsTrue, MatchOption, true, ⊤}
+use Rattle.std.specs.Prelude.{◌≡◌, ◌≢◌, ◌⊎◌, ◌<◌, ◌≤◌, ℕ, List, [], ◌∷◌, length, Option, Some, None, Ok, Err, IsFalse, IsSome, IsTrue, MatchOption, true, ⊤}
 use Rattle.pack_defs.specs.Lists.{is_in}
-use Rattle.pack_defs.specs.ClockRule.{on_air_set}
+use Rattle.pack_defs.specs.ClockRule.{ClockTest, on_air_set}
 use Rattle.pack_defs.specs.Packing.{IsPacking}
+use Rattle.pack_defs.specs.Prices.{start_set}
 use Rattle.outside_io.specs.Faults.{HasRisen}
 use Rattle.outside_io.specs.Files.{OthersStand, Puts, StoredFile, bytes_of}
 use Rattle.outside_io.specs.Loads.{Writes}
 use Rattle.auction_cmd.specs.declared.inputs.Inputs.{Inputs}
 use Rattle.auction_cmd.specs.declared.inputs.Stop.TheVariants.{CannotRead, Refused}
-use Rattle.auction_core.specs.declared.record.Ending.TheVariants.{Done}
+use Rattle.auction_core.specs.declared.record.Ending.{Ending}
+use Rattle.auction_core.specs.declared.record.Ending.TheVariants.{Done, StartRefuted, StartUndecided}
 use Rattle.auction_core.specs.declared.record.Record.{Record}
 use Rattle.auction_cmd.specs.declared.refusal.Input.{Input}
 use Rattle.auction_cmd.specs.declared.refusal.Refusal.{Refusal}
-use Rattle.auction_core.specs.Backed.{IsBacked}
+use Rattle.auction_core.specs.Backed.{IsBacked, undecided_of}
 use Rattle.auction_cmd.specs.Counts.{counts_text}
-use Rattle.auction_cmd.specs.Ends.{IsRecordOf, StartFits, StartUnfit, outcome, result_of, summary_of}
+use Rattle.auction_cmd.specs.Ends.{AreHeld, IsOpenRecordOf, IsRecordBy, IsRecordOf, StartFits, StartUnfit, done_status, outcome, result_of, summary_of}
 use Rattle.auction_cmd.specs.Inputs.{inputs_of}
 use Rattle.auction_cmd.specs.Outside.{Outside, IsSaid}
 use Rattle.auction_cmd.specs.Plan.{Plan, no_command, repeats, runs, checks}
 use Rattle.auction_cmd.specs.Refusals.{line_of, name_of}
-use Rattle.auction_cmd.specs.Says.{memory_line, twice_line, unfit_line, unread_line, unwritten_line}
+use Rattle.auction_cmd.specs.Says.{memory_line, open_line, twice_line, unfit_line, unread_line, unwritten_line}
 use Rattle.auction_cmd.specs.Words.{InputNames, RunNames}
 
 -- the inputs that a plan reads, if it reads any
@@ -36,30 +38,70 @@ pub record AreThere (files : List StoredFile) (names : InputNames) : Type 0 wher
   pub rows : IsSome (bytes_of files names.rows)
   pub scenario : IsSome (bytes_of files names.scenario)
 
--- The auction of these inputs was carried out: RESULT holds the text of the clock rule's result and every other file
--- stands, the sink grew by the summary, and the record is the auction's.
-pub record IsDone (files : List StoredFile) (names : RunNames) (before after : Outside) (found : Option Record) : Type 0 where
+-- The auction of these inputs was carried out: the record is the auction's, RESULT holds the text of the clock rule's result
+-- with the tests left open that the record shows undecided, every other file stands, and the sink grew by the summary. The
+-- status is 0 exactly where no test was left open.
+pub record IsDone (files : List StoredFile) (names : RunNames) (before after : Outside) (status : ℕ) (found : Option Record) : Type 0 where
   pub inputs : Inputs
   pub accepted : inputs_of files names.inputs ≡ Ok inputs
-  pub result : MatchOption after.files ⊥ (λ new. Puts files new names.result (result_of inputs))
-  pub summary : Writes before.held after.held (summary_of inputs) (Ok tt)
-  pub recorded : MatchOption found ⊥ (IsRecordOf inputs)
+  pub rec : Record
+  pub recorded : found ≡ Some rec
+  pub auction : IsRecordOf inputs rec
+  pub result : MatchOption after.files ⊥ (λ new. Puts files new names.result (result_of inputs (undecided_of rec.steps)))
+  pub summary : Writes before.held after.held (summary_of inputs (undecided_of rec.steps)) (Ok tt)
+  pub status_is : status ≡ done_status (undecided_of rec.steps)
 
--- Something could not be written: the store failed, of a folder that isn't steady, and the line names RESULT; or RESULT
--- holds the text of the result of the inputs that the files hold, and of the summary no more than some was written.
-abbrev pub IsUnwritten : List StoredFile → RunNames → Outside → Outside → Type 0
-IsUnwritten files names before after =
+-- The auction of these inputs was carried out with every test decided: what RESULT holds and what the summary says hang on
+-- the three input files alone.
+pub record IsDecided (files : List StoredFile) (names : RunNames) (before after : Outside) : Type 0 where
+  pub inputs : Inputs
+  pub accepted : inputs_of files names.inputs ≡ Ok inputs
+  pub result : MatchOption after.files ⊥ (λ new. Puts files new names.result (result_of inputs []))
+  pub summary : Writes before.held after.held (summary_of inputs []) (Ok tt)
+
+-- What was written of an auction that was carried out, where the summary failed: RESULT holds its text, the sink was not
+-- sure of the summary, and of that some was written, from the first byte on.
+pub record IsCutShort (files : List StoredFile) (names : RunNames) (before after : Outside) (found : Option Record) : Type 0 where
+  pub inputs : Inputs
+  pub accepted : inputs_of files names.inputs ≡ Ok inputs
+  pub rec : Record
+  pub recorded : found ≡ Some rec
+  pub auction : IsRecordOf inputs rec
+  pub result : MatchOption after.files ⊥ (λ new. Puts files new names.result (result_of inputs (undecided_of rec.steps)))
+  pub failed : HasRisen before.cuts after.cuts
+  pub unsure : before.sure < length (summary_of inputs (undecided_of rec.steps))
+  pub summary : IsSaid before after (summary_of inputs (undecided_of rec.steps))
+
+-- Something could not be written: the store failed, of a folder that isn't steady, and the line names RESULT; or the summary
+-- did.
+abbrev pub IsUnwritten : List StoredFile → RunNames → Outside → Outside → Option Record → Type 0
+IsUnwritten files names before after found =
     (HasRisen before.faults after.faults × (before.steady ≢ true) × IsSaid before after (unwritten_line names.result))
-    ⊎ ((inputs : Inputs) × (inputs_of files names.inputs ≡ Ok inputs)
-    × MatchOption after.files ⊥ (λ new. Puts files new names.result (result_of inputs))
-    × HasRisen before.cuts after.cuts × IsSaid before after (summary_of inputs))
+    ⊎ IsCutShort files names before after found
+
+-- The record is that of the auction of the inputs that the files hold, where the folder tells them, and it ended so.
+pub record IsRecordAt (names : RunNames) (before : Outside) (ending : Ending) (found : Option Record) : Type 0 where
+  pub inputs : Inputs
+  pub held : AreHeld names.inputs before inputs
+  pub rec : Record
+  pub recorded : found ≡ Some rec
+  pub auction : IsRecordBy inputs rec ending
 
 -- A record is backed, by the inputs of some auction; where that was carried through, its map is clean and of exactly the
 -- stations on air at the end.
 pub record IsSomeRecord (rec : Record) : Type 0 where
   pub inputs : Inputs
   pub backed : IsBacked inputs.scenario inputs.book rec
-  pub packing : rec.ending ≡ Done → IsPacking inputs.book (on_air_set inputs.scenario (outcome inputs)) rec.map
+  pub packing : rec.ending ≡ Done → IsPacking inputs.book (on_air_set inputs.scenario (outcome inputs (undecided_of rec.steps))) rec.map
+
+-- The test of the start set of these inputs was left open: the record has a receipt of every worker, and the line says so.
+pub record IsLeftOpen (files : List StoredFile) (names : RunNames) (before after : Outside) (found : Option Record) : Type 0 where
+  pub inputs : Inputs
+  pub accepted : inputs_of files names.inputs ≡ Ok inputs
+  pub rec : Record
+  pub recorded : found ≡ Some rec
+  pub auction : IsOpenRecordOf inputs rec
+  pub line : IsSaid before after open_line
 
 -- where an input is not accepted, or a start set is not as asked, the status is another one only for want of memory or by
 -- a fault of a folder that isn't steady
@@ -67,7 +109,7 @@ abbrev pub IsOr : ℕ → Outside → ℕ → Type 0
 IsOr wanted before status = (status ≡ wanted) ⊎ ((status ≡ 8) ⊎ ((status ≡ 3) × (before.steady ≢ true)))
 
 pub record Promises (plan : Plan) (before after : Outside) (status : ℕ) (found : Option Record) : Type 0 where
-  pub statuses : IsTrue (is_in (0 ∷ 2 ∷ 3 ∷ 4 ∷ 5 ∷ 6 ∷ 8 ∷ []) status)
+  pub statuses : IsTrue (is_in (0 ∷ 1 ∷ 2 ∷ 3 ∷ 4 ∷ 5 ∷ 6 ∷ 7 ∷ 8 ∷ []) status)
   -- Status 2 comes exactly where the words are no command, but for want of memory.
   pub usage : plan ≡ no_command → (status ≡ 2) ⊎ (status ≡ 8)
   pub usage_only : status ≡ 2 → plan ≡ no_command
@@ -76,17 +118,29 @@ pub record Promises (plan : Plan) (before after : Outside) (status : ℕ) (found
   pub twice : (name : List ℕ) → plan ≡ repeats name →
       ((status ≡ 5) × IsSaid before after (twice_line name)) ⊎ (status ≡ 8)
   pub asked_nothing : inputs_read plan ≡ None → after.faults ≡ before.faults
-  -- At status 0 `run` has carried out the auction of the inputs that the files hold, and `check` has counted them.
+  -- At status 0 and 1 `run` has carried out the auction of the inputs that the files hold, at 0 with every test decided; at
+  -- 0 `check` has counted them.
   pub done : (files : List StoredFile) (names : RunNames) →
-      before.files ≡ Some files → plan ≡ runs names → status ≡ 0 → IsDone files names before after found
+      before.files ≡ Some files → plan ≡ runs names → IsTrue (is_in (0 ∷ 1 ∷ []) status) →
+      IsDone files names before after status found
+  pub decided : (files : List StoredFile) (names : RunNames) →
+      before.files ≡ Some files → plan ≡ runs names → status ≡ 0 → IsDecided files names before after
+  -- Also where the folder tells nothing, the sink grew at 0 and 1 by the summary of the record, and the status is 0 exactly
+  -- where no test was left open.
+  pub summed : (names : RunNames) → plan ≡ runs names → IsTrue (is_in (0 ∷ 1 ∷ []) status) →
+      (inputs : Inputs) × (rec : Record) × (found ≡ Some rec) × IsRecordOf inputs rec
+      × (status ≡ done_status (undecided_of rec.steps))
+      × Writes before.held after.held (summary_of inputs (undecided_of rec.steps)) (Ok tt)
   pub counted : (files : List StoredFile) (names : InputNames) →
       before.files ≡ Some files → plan ≡ checks names → status ≡ 0 →
       (inputs : Inputs) × (inputs_of files names ≡ Ok inputs)
       × Writes before.held after.held (counts_text inputs) (Ok tt)
-  -- The record: backed, also where the folder tells nothing. It is there for `run` at 0, 4 and 6, and never at 2, 3 and 5,
-  -- nor for `check`.
+  -- The record: backed, also where the folder tells nothing. `run` has that of its inputs: of an auction that was carried
+  -- through at 0, 1 and 4, of a refuted start at 6 and of one left open at 7. None has one at 2, 3 and 5, nor has `check`.
   pub backed : MatchOption found ⊤ IsSomeRecord
-  pub recorded : (names : RunNames) → plan ≡ runs names → IsTrue (is_in (0 ∷ 4 ∷ 6 ∷ []) status) → IsSome found
+  pub recorded : (names : RunNames) → plan ≡ runs names → IsTrue (is_in (0 ∷ 1 ∷ 4 ∷ []) status) → IsRecordAt names before Done found
+  pub refuted_recorded : (names : RunNames) → plan ≡ runs names → status ≡ 6 → IsRecordAt names before StartRefuted found
+  pub open_recorded : (names : RunNames) → plan ≡ runs names → status ≡ 7 → IsRecordAt names before StartUndecided found
   pub unrecorded : IsTrue (is_in (2 ∷ 3 ∷ 5 ∷ []) status) → found ≡ None
   pub no_record : (names : InputNames) → plan ≡ checks names → found ≡ None
   -- Status 5, beside a name given twice, comes exactly where an input is too long or refused, and the line names the file
@@ -97,37 +151,47 @@ pub record Promises (plan : Plan) (before after : Outside) (status : ℕ) (found
   pub refuses : (files : List StoredFile) (names : InputNames) (why : Refusal) →
       before.files ≡ Some files → inputs_read plan ≡ Some names → inputs_of files names ≡ Err (Refused why) →
       IsOr 5 before status
-  -- Status 3 comes only where the folder's count of faults rose, and never over a steady folder that has the inputs. Over a
-  -- steady folder that lacks one, the line names the first that is missing.
+  -- Status 3 comes only where the folder's count of faults rose, and the line names an input; it never comes over a steady
+  -- folder that has the inputs. Where a missing file is the first thing that stops the reading of a steady folder, the line
+  -- names it.
   pub unread : status ≡ 3 → HasRisen before.faults after.faults
+  pub unread_says : (names : InputNames) → inputs_read plan ≡ Some names → status ≡ 3 →
+      (input : Input) × IsSaid before after (unread_line (name_of names input))
   pub surely_read : (files : List StoredFile) (names : InputNames) →
       before.files ≡ Some files → inputs_read plan ≡ Some names → before.steady ≡ true → AreThere files names → status ≢ 3
   pub missing : (files : List StoredFile) (names : InputNames) (input : Input) →
       before.files ≡ Some files → inputs_read plan ≡ Some names → before.steady ≡ true →
       inputs_of files names ≡ Err (CannotRead input) →
       (status ≡ 8) ⊎ ((status ≡ 3) × IsSaid before after (unread_line (name_of names input)))
-  -- Status 6 comes exactly where the start set of accepted inputs doesn't fit, but for want of memory and a folder that
-  -- isn't steady.
+  -- Status 6 comes only where the start set of accepted inputs doesn't fit, and 7 only where the record has a receipt of
+  -- every worker that its budget was spent on that set. Where it doesn't fit one of them comes, but for want of memory and a
+  -- folder that isn't steady; where nobody starts on air neither does.
   pub unfit : (files : List StoredFile) (names : RunNames) →
       before.files ≡ Some files → plan ≡ runs names → status ≡ 6 →
       (inputs : Inputs) × (inputs_of files names.inputs ≡ Ok inputs) × StartUnfit inputs × IsSaid before after unfit_line
   pub unfits : (files : List StoredFile) (names : RunNames) (inputs : Inputs) →
       before.files ≡ Some files → plan ≡ runs names → inputs_of files names.inputs ≡ Ok inputs → StartUnfit inputs →
-      IsOr 6 before status
-  pub run_only : (names : InputNames) → plan ≡ checks names → status ≢ 6
-  -- Status 4 comes only where a count of faults rose: for `run`, the store failed, or RESULT holds its text and no more than
-  -- some of the summary was written; for `check`, no more than some of the counts was. It never comes over a steady folder and a sink that surely takes the summary, or the
-  -- counts.
+      IsOr 6 before status ⊎ (status ≡ 7)
+  pub left_open : (files : List StoredFile) (names : RunNames) →
+      before.files ≡ Some files → plan ≡ runs names → status ≡ 7 → IsLeftOpen files names before after found
+  pub nobody : (files : List StoredFile) (names : RunNames) (inputs : Inputs) →
+      before.files ≡ Some files → plan ≡ runs names → inputs_of files names.inputs ≡ Ok inputs →
+      start_set inputs.scenario ≡ [] → IsFalse (is_in (6 ∷ 7 ∷ []) status)
+  pub run_only : (names : InputNames) → plan ≡ checks names → IsFalse (is_in (1 ∷ 6 ∷ 7 ∷ []) status)
+  -- Status 4 comes only where a count of faults rose: for `run`, the store failed, or RESULT holds its text and the
+  -- summary was written, or some of it from the first byte on; for `check` so were the counts. It never comes over a steady folder
+  -- and a sink that surely takes the summary, whatever is undecided, or the counts.
   pub unwritten : status ≡ 4 → HasRisen before.faults after.faults ⊎ HasRisen before.cuts after.cuts
   pub stored : (files : List StoredFile) (names : RunNames) →
-      before.files ≡ Some files → plan ≡ runs names → status ≡ 4 → IsUnwritten files names before after
+      before.files ≡ Some files → plan ≡ runs names → status ≡ 4 → IsUnwritten files names before after found
   pub cut : (files : List StoredFile) (names : InputNames) →
       before.files ≡ Some files → plan ≡ checks names → status ≡ 4 →
       (inputs : Inputs) × (inputs_of files names ≡ Ok inputs)
       × HasRisen before.cuts after.cuts × IsSaid before after (counts_text inputs)
   pub surely_written : (files : List StoredFile) (names : RunNames) →
       before.files ≡ Some files → plan ≡ runs names → before.steady ≡ true →
-      ((inputs : Inputs) → inputs_of files names.inputs ≡ Ok inputs → length (summary_of inputs) ≤ before.sure) → status ≢ 4
+      ((inputs : Inputs) (undecided : List ClockTest) → inputs_of files names.inputs ≡ Ok inputs → length (summary_of inputs undecided) ≤ before.sure) →
+      status ≢ 4
   pub surely_counted : (files : List StoredFile) (names : InputNames) →
       before.files ≡ Some files → plan ≡ checks names →
       ((inputs : Inputs) → inputs_of files names ≡ Ok inputs → length (counts_text inputs) ≤ before.sure) → status ≢ 4
@@ -135,12 +199,12 @@ pub record Promises (plan : Plan) (before after : Outside) (status : ℕ) (found
   pub others : (files : List StoredFile) (names : RunNames) →
       before.files ≡ Some files → plan ≡ runs names → MatchOption after.files ⊥ (λ new. OthersStand files new names.result)
   pub untouched : found ≡ None → after.files ≡ before.files
-  pub unfit_untouched : status ≡ 6 → after.files ≡ before.files
-  -- Accepted inputs are carried through, where the start set fits, and counted, but for want of memory and faults of the
-  -- outside.
+  pub unfit_untouched : IsTrue (is_in (6 ∷ 7 ∷ []) status) → after.files ≡ before.files
+  -- Accepted inputs are carried through, where the start set fits and its test isn't left open, and counted, but for want of
+  -- memory and faults of the outside.
   pub complete : (files : List StoredFile) (names : RunNames) (inputs : Inputs) →
       before.files ≡ Some files → plan ≡ runs names → inputs_of files names.inputs ≡ Ok inputs → StartFits inputs →
-      IsOr 0 before status ⊎ (status ≡ 4)
+      IsOr 0 before status ⊎ IsTrue (is_in (1 ∷ 4 ∷ 7 ∷ []) status)
   pub counts : (files : List StoredFile) (names : InputNames) (inputs : Inputs) →
       before.files ≡ Some files → plan ≡ checks names → inputs_of files names ≡ Ok inputs →
       IsOr 0 before status ⊎ (status ≡ 4)

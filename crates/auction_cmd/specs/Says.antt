@@ -27,6 +27,10 @@ twice_line name = name ++ codes ": given twice\n"
 abbrev pub unfit_line : List ℕ
 unfit_line = codes "the start set does not fit\n"
 
+-- the line of a start set whose test is left open
+abbrev pub open_line : List ℕ
+open_line = codes "the start set is undecided\n"
+
 -- the line for want of memory
 abbrev pub memory_line : List ℕ
 memory_line = codes "out of memory\n"

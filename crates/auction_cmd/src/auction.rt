@@ -49,13 +49,15 @@ fn carry_out<F: Folder, K: Sink>(
 /// Runs the program on these words, the first of which is its name.
 ///
 /// - `run DOMAINS ROWS SCENARIO RESULT CHANNELS TRANSCRIPT` reads the three inputs, carries the auction out by the clock
-///   rule, stores the result under RESULT and writes the summary.
+///   rule, each of its queries answered by the solvers of the scenario's workers, stores the result under RESULT and writes
+///   the summary.
 /// - `check DOMAINS ROWS SCENARIO` reads the three inputs and writes how many stations and pairs they have.
 ///
-/// The status is 0 where all is done; 2 where the words are no command, help and version included; 3 where an input
-/// can't be read; 4 where the result, the summary or the counts can't be written; 5 where an output name is given
-/// twice, or an input is too long or refused; 6 where the start set doesn't fit; 8 for want of memory. At each but 0 a
-/// line says so; where the sink fails at the summary or the counts there is none.
+/// The status is 0 where all is done and every test was decided; 1 where all is done and some test was not; 2 where the
+/// words are no command, help and version included; 3 where an input can't be read; 4 where the result, the summary or the
+/// counts can't be written; 5 where an output name is given twice, or an input is too long or refused; 6 where the start
+/// set doesn't fit; 7 where no worker decides whether it does; 8 for want of memory. At each but 0 and 1 a line says so;
+/// where the sink fails at the summary or the counts there is none.
 pub fn auction_main<F: Folder, K: Sink>(
     alloc: Global,
     words: &[String],

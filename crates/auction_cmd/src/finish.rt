@@ -7,7 +7,8 @@ use auction_core::record::Record;
 pub struct Finish {
     /// The exit status.
     pub status: u8,
-    /// The record of the auction, where there was one.
+    /// The record of the auction, where it comes back: of `run` at the statuses 0, 1, 4, 6 and 7, and at 8 where memory ran
+    /// out at the store.
     pub result: Option<Record>,
 }
 

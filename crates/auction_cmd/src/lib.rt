@@ -6,7 +6,6 @@ mod check;
 mod explain;
 pub mod finish;
 pub mod inputs;
-pub mod plain_rule;
 pub mod refusal;
 mod run;
 mod says;

@@ -7,6 +7,7 @@ mod checked;
 mod refused;
 mod settled;
 mod stopped;
+mod undecided;
 mod words;
 
 use crate::auction::auction_main;

@@ -45,8 +45,8 @@ pub enum Order<'a> {
     Check(InputArgs<'a>),
 }
 
-/// Why words are not read as a command. `Refused`: they are none. It has the text of `clap` for the user, which is the
-/// help or the version where they ask for one, and ends in a line end. `NoMemory`: memory ran out.
+/// Why words are not read as a command. `Refused`: they are none. It has the text that `clap` gives for the user, which is
+/// the help or the version where they ask for one; no clause speaks of the text. `NoMemory`: memory ran out.
 #[derive(Debug, Drop)]
 pub enum WordsFault {
     Refused(String),
@@ -140,7 +140,7 @@ fn input_command<'a>(
         .arg(required(
             alloc,
             "SCENARIO",
-            "The auction, as JSON: its top channel, prices and stations",
+            "The auction, as JSON: top channel, prices, stations, workers",
         ))
 }
 

@@ -1,5 +1,5 @@
 -- The standings of a clock, and what a test does to them.
-use Rattle.std.proofs.Common.{◌≡◌, ℕ, zero, suc, ◌+◌, ◌-◌, ◌*◌, ◌<◌, Bool, true, false, ◌||◌, cond, eqb, ltb, inl, inr, List, [], ◌∷◌, ◌++◌, map, take, length, get_or, set, Some, None, refl, sym, ap, ◌∙◌, subst, arith, Contains, add-one}
+use Rattle.std.proofs.Common.{◌≡◌, ℕ, zero, suc, ◌+◌, ◌-◌, ◌*◌, ◌<◌, Bool, true, false, cond, eqb, ltb, inl, inr, List, [], ◌∷◌, ◌++◌, map, take, length, get_or, set, Some, None, refl, sym, ap, ◌∙◌, subst, arith, Contains, add-one}
 use Rattle.std.specs.List.{count_by, find, filter}
 use Rattle.std.specs.Option.{option_map_or}
 use Rattle.std.proofs.lemmas.Bool.{cond-true, cond-false, eqb-true, eq-eqb, ne_eqb, or_cases, true≢false, false≢true}
@@ -11,7 +11,7 @@ use Rattle.pack_defs.specs.declared.scenario.Scenario.{Scenario}
 use Rattle.pack_defs.specs.declared.station.Station.{Station}
 use Rattle.pack_defs.specs.Scenario.{StationsAscend, facilities, volume_of, value_of}
 use Rattle.pack_defs.specs.Prices.{offer, declines, prices}
-use Rattle.pack_defs.specs.ClockRule.{ClockTest, OnAirSince, FrozenAt, ClockState, opening_state, is_active, is_on_air, is_frozen, on_air_set, asked_set, freezes, goes_on_air, exits, after_answer}
+use Rattle.pack_defs.specs.ClockRule.{ClockTest, OnAirSince, FrozenAt, ClockState, opening_state, is_active, is_on_air, is_frozen, on_air_set, freezes, goes_on_air, exits, after_answer}
 use Rattle.pack_defs.specs.Standing.{entries_of}
 use Rattle.pack_defs.proofs.Members.{Contains-here, Contains-there, Contains-map, is_in-from, is_in-gives}
 use Rattle.pack_defs.proofs.PriceLaws.{volume_own, value_own}
@@ -19,7 +19,7 @@ use Rattle.pack_defs.proofs.Rounds.{apart_from_increasing, first_price}
 use Rattle.pack_defs.proofs.Standings.{each_once}
 use Rattle.auction_core.specs.declared.clock.Standing.{Standing}
 use Rattle.auction_core.specs.declared.clock.Standing.TheVariants.{Active, OnAir, Frozen}
-use Rattle.auction_core.specs.Clock.{AreStandings, standing_from, standing_of, answered_standing, stands_active, stands_on_air, declines_offer, opening_standing, stations_by, on_air_by, asked_by}
+use Rattle.auction_core.specs.Clock.{AreStandings, standing_from, standing_of, answered_standing, stands_active, stands_on_air, declines_offer, opening_standing, stations_by, on_air_by}
 use Rattle.auction_core.proofs.Finds.{find_cases, find-push_new, find-push_other, count-without, is_in-here, is_in-later, set-map}
 
 -- the one standing that is active
@@ -195,13 +195,6 @@ on_air_by-is {sc} {st} {v} are =
     ap (on_air_by (facilities sc)) are.each
     ∙ stations_by-map (λ f x. stands_on_air x) (is_on_air st) (standing_of st) (facilities sc) (λ s there.
     standing_by st s (are.once s (is_in-gives (facilities sc) s there)) (λ x a o f. o ≡ stands_on_air x) refl (λ _. refl) (λ _ _. refl))
-
--- what a test of s asks about, by the standings
-pub asked_by-is : {sc : Scenario} {st : ClockState} {v : List Standing} (s : ℕ) → AreStandings sc st v → asked_by s (facilities sc) v ≡ asked_set sc st s
-asked_by-is {sc} {st} {v} s are =
-    ap (asked_by s (facilities sc)) are.each
-    ∙ stations_by-map (λ f x. stands_on_air x || (eqb f s)) (λ f. is_on_air st f || (eqb f s)) (standing_of st) (facilities sc) (λ f there.
-    standing_by st f (are.once f (is_in-gives (facilities sc) f there)) (λ x a o z. (o || eqb f s) ≡ (stands_on_air x || eqb f s)) refl (λ _. refl) (λ _ _. refl))
 
 -- one station more
 pub stations_by_more : (p : ℕ → Standing → Bool) (fs : List ℕ) (xs : List Standing) (i : ℕ) (d : Standing) → i < length fs → i < length xs →

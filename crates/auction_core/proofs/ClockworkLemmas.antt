@@ -1,5 +1,5 @@
 -- An auction between two queries, as the program keeps it.
-use Rattle.std.proofs.Common.{◌≡◌, ◌≢◌, ◌∙◌, ℕ, zero, suc, ◌+◌, ◌-◌, ◌*◌, ◌<◌, ◌≤◌, ◌^◌, Bool, true, false, not, cond, ◌||◌, ◌==◌, eqb, inl, inr, List, [], ◌∷◌, ◌++◌, length, map, filter, find, drop, get_or, Option, Some, None, is_none, is_some, option_map, refl, sym, ap, ap₂, subst, arith, nat_lt, unwrap_or, MatchBool, MatchOption, Contains, length-append}
+use Rattle.std.proofs.Common.{◌≡◌, ◌≢◌, ◌∙◌, ℕ, zero, suc, ◌+◌, ◌*◌, ◌<◌, ◌≤◌, ◌^◌, Bool, true, false, not, cond, ◌||◌, ◌==◌, eqb, inl, inr, List, [], ◌∷◌, length, map, filter, find, Option, Some, None, is_none, is_some, option_map, refl, sym, ap, ap₂, subst, arith, nat_lt, MatchBool, MatchOption, length-append}
 use Rattle.std.specs.Option.{option_map_or}
 use Rattle.std.proofs.lemmas.Bool.{cases_Bool, cond-true, cond-false, false≢true, true≢false, or_cases, or_left, or_right, both_ways, eq-eqb, eqb-true}
 use Rattle.std.proofs.lemmas.List.{length-map}
@@ -7,7 +7,7 @@ use Rattle.pack_defs.specs.declared.scenario.Scenario.{Scenario}
 use Rattle.pack_defs.specs.declared.station.Station.{Station}
 use Rattle.pack_defs.specs.Book.{BookView, IsInOrder, domain_of}
 use Rattle.pack_defs.specs.ChannelMap.{overlaid, put}
-use Rattle.pack_defs.specs.Lists.{has_entry, has_station, is_ascending, is_in, is_empty}
+use Rattle.pack_defs.specs.Lists.{has_station, is_ascending, is_in, is_empty}
 use Rattle.pack_defs.specs.Components.{component}
 use Rattle.pack_defs.specs.Packing.{IsPacking}
 use Rattle.assign_check.specs.Fault.{IsCleanOn}
@@ -21,12 +21,12 @@ use Rattle.packing_graph.specs.Sets.{with_station}
 use Rattle.packing_graph.proofs.SetLemmas.{with_station-ascending, with_station-gives, with_station-has, with_station-keeps}
 use Rattle.cert_types.specs.declared.task.Task.{Task}
 use Rattle.auction_core.specs.declared.record.Shown.{Shown}
-use Rattle.auction_core.specs.declared.record.Shown.TheVariants.{Empty, Fits, NoChannel, Unfit, Refuted, Undecided}
+use Rattle.auction_core.specs.declared.record.Shown.TheVariants.{Empty, Fits, NoChannel, Refuted, Undecided}
 use Rattle.auction_core.specs.Backed.{IsSettledBy, after_start, after_steps, shown_start}
 use Rattle.auction_core.specs.Clockwork.{IsClockwork, IsOfAuction}
-use Rattle.auction_core.specs.Course.{CourseView, GivesWithin, IsAtRest, IsCourse, IsDue, IsOver, IsSettled, NeedsQuery, clock_of, core_state, has_room, left_of, test_at, tests_left}
+use Rattle.auction_core.specs.Course.{CourseView, GivesWithin, IsAtRest, IsCourse, IsDue, IsSettled, clock_of, core_state, left_of, test_at, tests_left}
 use Rattle.auction_core.specs.Rule.{IsAuction, KeepsTheRule, SettlesQuery, is_running}
-use Rattle.auction_core.specs.State.{CoreState, answered, before_start, delta_of, first_task, go_on, has_ended, opening, past_first, past_test, restricted, settled, settled_unasked, shows_room, start_task, start_unasked, started, task_of, test_task}
+use Rattle.auction_core.specs.State.{CoreState, answered, before_start, delta_of, first_task, go_on, has_ended, opening, past_first, restricted, settled, settled_unasked, shows_room, start_fits, start_task, start_unasked, started, task_of, test_task}
 use Rattle.auction_core.proofs.Answers.{component-ascending, filter-ascending, filter-in, in-filter}
 use Rattle.auction_core.proofs.CourseLemmas.{due-left, go_on-left, left-all, over-empty}
 use Rattle.auction_core.proofs.Keeps.{answered-keeps, go-on-start, opening-keeps, task-is}
@@ -115,7 +115,6 @@ settled-within sc book task (Fits delta) h s there =
     let all : List (ℕ × ℕ) = overlaid task.last delta in
     h.only _ (its-channel all s (list_any-map (λ z. z == s) (λ (y : ℕ × ℕ). y.0) all ∙ overlaid-has task.last delta s there))
 settled-within sc book task (NoChannel f) h s there = absurd h
-settled-within sc book task Unfit h s there = absurd (false≢true there)
 settled-within sc book task (Refuted w how) h s there = absurd (false≢true there)
 settled-within sc book task (Undecided xs) h s there = absurd (false≢true there)
 
@@ -154,7 +153,7 @@ pub begun-state : (sc : Scenario) (book : BookView) (old : CourseView) (shown : 
     go_on sc book (left_of sc mid) (core_state sc mid n) ≡ started sc book (core_state sc old n) shown
 begun-state sc book old shown n fresh h room =
     let mid : CourseView = record old { start = Some shown; map = record { stations = old.map.stations; entries = overlaid old.map.entries (delta_of shown) } } in
-    let idle = h.idle (ap has_room fresh) in
+    let idle = h.idle (ap start_fits fresh) in
     let all : left_of sc mid ≡ clock_tests sc = cond-true (shows_room shown) _ _ room ∙ (ap₂ (tests_left sc) idle.1.0 idle.1.1 ∙ left-all sc) in
     let on : CoreState = record (core_state sc old n) { start = Some shown; map = overlaid old.map.entries (delta_of shown) } in
     let clock : clock_of sc mid ≡ clock_of sc old = ap (λ xs. (after_steps sc (after_start sc shown) xs).clock) idle.0 ∙ sym (ap (λ xs. (after_steps sc (after_start sc (shown_start old.start)) xs).clock) idle.0) in
@@ -221,10 +220,10 @@ keeps sc book state new shown a k on s e = subst (KeepsTheRule sc book) (sym e) 
 
 pub clockwork-start : (sc : Scenario) (book : BookView) (schedule : List ℕ) (old new : CourseView) (number : ℕ) (shown : Shown) → IsClockwork sc book schedule old number → old.start ≡ None →
     has_ended (core_state sc old number) ≡ false → SettlesQuery sc book (core_state sc old number) shown →
-    IsCourse sc new → (has_room new.start ≡ true → IsAtRest sc book new) → ((n : ℕ) → core_state sc new n ≡ started sc book (core_state sc old n) shown) → IsClockwork sc book schedule new (number + 1)
+    IsCourse sc new → (start_fits new.start ≡ true → IsAtRest sc book new) → ((n : ℕ) → core_state sc new n ≡ started sc book (core_state sc old n) shown) → IsClockwork sc book schedule new (number + 1)
 clockwork-start sc book schedule old new number shown h fresh on s holds rest state =
     let left : left_of sc new ≡ (started sc book (core_state sc old 0) shown).left = ap (λ (z : CoreState). z.left) (state 0) in
-    let none : left_of sc old ≡ [] = ap (λ o. cond (has_room o) (tests_left sc old.round old.place) []) fresh in
+    let none : left_of sc old ≡ [] = ap (λ o. cond (start_fits o) (tests_left sc old.round old.place) []) fresh in
     let few = started-fewer sc book (core_state sc old 0) shown none in
     let same : length (left_of sc new) ≡ length (started sc book (core_state sc old 0) shown).left = ap length left in
     let first = h.first fresh in
@@ -275,7 +274,7 @@ opening-fewer sc book = elim (start_unasked sc book) as (λ o. length (option_ma
   | Some shown ↦ started-fewer sc book (before_start sc) shown refl
 ]
 
-pub clockwork-opening : (sc : Scenario) (book : BookView) (schedule : List ℕ) (c : CourseView) → IsOfAuction sc book → IsInOrder book → schedule ≡ prices sc → IsCourse sc c → (has_room c.start ≡ true → IsAtRest sc book c) → core_state sc c 1 ≡ opening sc book → IsClockwork sc book schedule c 1
+pub clockwork-opening : (sc : Scenario) (book : BookView) (schedule : List ℕ) (c : CourseView) → IsOfAuction sc book → IsInOrder book → schedule ≡ prices sc → IsCourse sc c → (start_fits c.start ≡ true → IsAtRest sc book c) → core_state sc c 1 ≡ opening sc book → IsClockwork sc book schedule c 1
 clockwork-opening sc book schedule c a o p holds rest e =
     let same : length (left_of sc c) ≡ length (opening sc book).left = ap (λ (z : CoreState). length z.left) e in
     let few = opening-fewer sc book in
@@ -334,19 +333,19 @@ task-ended sc book state e =
     go state.start state.left e ∙ sym (task-is sc book state state.start state.left refl refl)
 
 -- where a query stands once the start was settled, the clock runs, and the next test is due
-pub next-query : (sc : Scenario) (book : BookView) (c : CourseView) (number : ℕ) → (has_room c.start ≡ true → IsAtRest sc book c) → c.start ≢ None → has_ended (core_state sc c number) ≡ false → (has_room c.start ≡ true) × IsDue sc c
+pub next-query : (sc : Scenario) (book : BookView) (c : CourseView) (number : ℕ) → (start_fits c.start ≡ true → IsAtRest sc book c) → c.start ≢ None → has_ended (core_state sc c number) ≡ false → (start_fits c.start ≡ true) × IsDue sc c
 next-query sc book c number rest begun on =
     let some : is_none c.start ≡ false = elim c.start as (λ o. o ≢ None → is_none o ≡ false) [ None ↦ λ h. absurd (h refl) | Some shown ↦ λ h. refl ] begun in
     let left : is_empty (left_of sc c) ≡ false = sym (cond-false (is_none c.start) false (is_empty (left_of sc c)) some) ∙ on in
-    elim (cases_Bool (has_room c.start)) [
-      | inr idle ↦ absurd (both_ways (is_empty (left_of sc c)) left (ap is_empty (cond-false (has_room c.start) (tests_left sc c.round c.place) [] idle)))
+    elim (cases_Bool (start_fits c.start)) [
+      | inr idle ↦ absurd (both_ways (is_empty (left_of sc c)) left (ap is_empty (cond-false (start_fits c.start) (tests_left sc c.round c.place) [] idle)))
       | inl running ↦ elim (rest running) [
         | inl over ↦ absurd (both_ways (is_empty (left_of sc c)) left (over-empty sc c running over))
         | inr query ↦ (running, query.due)
       ]
     ]
 
-pub task-test : (sc : Scenario) (book : BookView) (c : CourseView) (number : ℕ) → IsCourse sc c → c.start ≢ None → has_room c.start ≡ true → IsDue sc c → Some (test_task sc book (core_state sc c number) (test_at sc c.round c.place)) ≡ task_of sc book (core_state sc c number)
+pub task-test : (sc : Scenario) (book : BookView) (c : CourseView) (number : ℕ) → IsCourse sc c → c.start ≢ None → start_fits c.start ≡ true → IsDue sc c → Some (test_task sc book (core_state sc c number) (test_at sc c.round c.place)) ≡ task_of sc book (core_state sc c number)
 task-test sc book c number h begun running due =
     let some : is_none c.start ≡ false = elim c.start as (λ o. o ≢ None → is_none o ≡ false) [ None ↦ λ h. absurd (h refl) | Some shown ↦ λ h. refl ] begun in
     sym (task-is sc book (core_state sc c number) c.start (test_at sc c.round c.place ∷ tests_left sc c.round (c.place + 1)) refl (due-left sc c running h due)

@@ -1,8 +1,8 @@
 -- How a settled test moves what the program keeps of the clock.
-use Rattle.std.proofs.Common.{◌≡◌, ◌∙◌, ℕ, zero, suc, ◌+◌, ◌-◌, ◌*◌, ◌<◌, ◌≤◌, ◌^◌, Bool, true, false, not, cond, ◌||◌, eqb, inl, inr, List, [], ◌∷◌, ◌++◌, length, map, filter, drop, set, get_or, get_or-set_same, sum_by, All, Option, Some, None, refl, sym, ap, ap₂, subst, arith, Contains}
-use Rattle.std.specs.Prelude.{option_map, unwrap_or}
+use Rattle.std.proofs.Common.{◌≡◌, ◌∙◌, ℕ, zero, suc, ◌+◌, ◌-◌, ◌*◌, ◌<◌, ◌≤◌, ◌^◌, Bool, true, false, not, cond, ◌||◌, eqb, inl, inr, List, [], ◌∷◌, ◌++◌, length, map, filter, drop, set, get_or, get_or-set_same, sum_by, All, Option, Some, None, refl, sym, ap, ap₂, subst, arith}
+use Rattle.std.specs.Prelude.{option_map}
 use Rattle.std.specs.Option.{option_map_or}
-use Rattle.std.proofs.lemmas.Bool.{cases_Bool, cond-true, cond-false, false≢true, true≢false, not-true, or_cases, or_right, both_ways}
+use Rattle.std.proofs.lemmas.Bool.{cond-true, false≢true, not-true, or_cases, or_right, both_ways}
 use Rattle.std.proofs.Math.Nat.{mul-le-mul}
 use Rattle.std.proofs.lemmas.List.{drop_more, drop_all, length-append, length-map}
 use Rattle.std.proofs.lemmas.List.Sums.{sum_by-append}
@@ -11,21 +11,20 @@ use Rattle.pack_defs.specs.declared.station.Station.{Station}
 use Rattle.pack_defs.specs.Book.{BookView, domain_of}
 use Rattle.pack_defs.specs.ChannelMap.{overlaid}
 use Rattle.pack_defs.specs.Lists.{is_in, is_empty, without}
-use Rattle.pack_defs.specs.Scenario.{IsStationWithinLimits, IsWithinLimits, StationsAscend, facilities, volume_in}
+use Rattle.pack_defs.specs.Scenario.{IsStationWithinLimits, IsWithinLimits, facilities, volume_in}
 use Rattle.pack_defs.specs.Prices.{bidders, declines, last_round, offer, prices, prices_from}
-use Rattle.pack_defs.specs.ClockRule.{ClockTest, ClockState, FrozenAt, OnAirSince, after_answer, exits, freezes, goes_on_air, is_active, is_on_air, opening_state, tests_of, clock_tests}
-use Rattle.pack_defs.proofs.ClockSteps.{is_in-without}
+use Rattle.pack_defs.specs.ClockRule.{ClockTest, ClockState, FrozenAt, after_answer, exits, goes_on_air, is_active, is_on_air, opening_state, tests_of, clock_tests}
 use Rattle.pack_defs.proofs.Members.{Contains-from_filter, is_in-gives}
 use Rattle.auction_core.specs.declared.clock.Standing.{Standing}
-use Rattle.auction_core.specs.declared.clock.Standing.TheVariants.{Active, OnAir, Frozen}
+use Rattle.auction_core.specs.declared.clock.Standing.TheVariants.{Active, OnAir}
 use Rattle.auction_core.specs.declared.record.Shown.{Shown}
-use Rattle.auction_core.specs.declared.record.Shown.TheVariants.{Empty, NoChannel}
+use Rattle.auction_core.specs.declared.record.Shown.TheVariants.{NoChannel}
 use Rattle.auction_core.specs.declared.record.Step.{Step}
-use Rattle.auction_core.specs.Backed.{after_start, after_steps, shown_start}
+use Rattle.auction_core.specs.Backed.{after_start, shown_start}
 use Rattle.auction_core.specs.Clock.{AreStandings, answered_standing, stands_active, stands_on_air}
-use Rattle.auction_core.specs.Course.{CourseView, IsAtRest, IsCourse, IsDue, IsOver, IsSettled, NeedsQuery, clock_of, core_state, has_room, left_of, map_after, most_paid, paid, test_at, tests_left}
-use Rattle.auction_core.specs.State.{CoreState, delta_of, go_on, past_test, settled, settled_unasked, shows_room}
-use Rattle.auction_core.proofs.ClockLemmas.{answer-standings, facility_at, is_active_at, is_on_air_at, length-standings}
+use Rattle.auction_core.specs.Course.{CourseView, IsAtRest, IsCourse, IsDue, IsOver, IsSettled, clock_of, core_state, left_of, map_after, most_paid, paid, test_at, tests_left}
+use Rattle.auction_core.specs.State.{CoreState, delta_of, go_on, settled, settled_unasked, shows_room, start_fits}
+use Rattle.auction_core.proofs.ClockLemmas.{answer-standings, is_active_at, is_on_air_at, length-standings}
 use Rattle.auction_core.proofs.Steps.{after_steps-push}
 
 -- ---- the bounds
@@ -168,7 +167,7 @@ next-clock sc c shown room = ap (λ s. s.clock) (after_steps-push sc (after_star
 pub due-active : (sc : Scenario) (c : CourseView) → IsCourse sc c → IsDue sc c → is_active (clock_of sc c) (test_at sc c.round c.place).station ≡ true
 due-active sc c h due = is_active_at c.place (test_at sc c.round c.place).station (OnAir 0) h.standings due.place refl ∙ due.active
 
-next-holds : (sc : Scenario) (c : CourseView) (shown : Shown) (room : ℕ) → IsWithinLimits sc → has_room c.start ≡ true → IsCourse sc c → IsDue sc c → IsCourse sc (next_course sc c shown room)
+next-holds : (sc : Scenario) (c : CourseView) (shown : Shown) (room : ℕ) → IsWithinLimits sc → start_fits c.start ≡ true → IsCourse sc c → IsDue sc c → IsCourse sc (next_course sc c shown room)
 next-holds sc c shown room l running h due =
     let t = test_at sc c.round c.place in
     let fits = shows_room shown in
@@ -186,7 +185,7 @@ next-holds sc c shown room l running h due =
       round = h.round;
       place = omega (arith, inside);
       bid = λ s k. h.bid s (moved.kept s (subst (λ (z : ClockState). is_active z s ≡ true) (sym is) k));
-      idle = λ idle. absurd (both_ways (has_room c.start) idle running);
+      idle = λ idle. absurd (both_ways (start_fits c.start) idle running);
       sum = subst (λ (z : ClockState). c.total + paid (answered_standing sc t fits) ≡ sum_by (λ x. x.price) z.frozen) is (ap (λ n. n + paid (answered_standing sc t fits)) sum ∙ sym moved.sum);
       bound = subst (λ (z : ClockState). c.total + paid (answered_standing sc t fits) ≤ most_paid * length z.frozen) is (omega (arith, bound, moved.bound));
       each = subst (λ (z : ClockState). length z.frozen + length z.active ≤ length sc.stations) is (omega (arith, each, moved.each));
@@ -196,7 +195,7 @@ next-holds sc c shown room l running h due =
 abbrev made : (start : Option Shown) (steps : List Step) (number : ℕ) (left : List ClockTest) (clock : ClockState) (entries : List (ℕ × ℕ)) → CoreState
 made start steps number left clock entries = record { start = start; clock = clock; left = left; map = entries; steps = steps; noted = []; number = number }
 
-next-state : (sc : Scenario) (c : CourseView) (shown : Shown) (room n : ℕ) → IsWithinLimits sc → has_room c.start ≡ true → IsCourse sc c → IsDue sc c →
+next-state : (sc : Scenario) (c : CourseView) (shown : Shown) (room n : ℕ) → IsWithinLimits sc → start_fits c.start ≡ true → IsCourse sc c → IsDue sc c →
     core_state sc (next_course sc c shown room) n ≡ record (settled sc (core_state sc c n) (test_at sc c.round c.place) shown) { left = left_of sc (next_course sc c shown room) }
 next-state sc c shown room n l running h due =
     let t = test_at sc c.round c.place in
@@ -252,18 +251,18 @@ left-all sc =
     ∙ ap (tests_of (bidders sc) 1) (sym rounds)
 
 -- where the next test's station is active, its test is the first that is left
-pub due-left : (sc : Scenario) (c : CourseView) → has_room c.start ≡ true → IsCourse sc c → IsDue sc c → left_of sc c ≡ test_at sc c.round c.place ∷ tests_left sc c.round (c.place + 1)
+pub due-left : (sc : Scenario) (c : CourseView) → start_fits c.start ≡ true → IsCourse sc c → IsDue sc c → left_of sc c ≡ test_at sc c.round c.place ∷ tests_left sc c.round (c.place + 1)
 due-left sc c running h due =
     let s = get_or (facilities sc) c.place 0 in
     let bids : not (declines sc s 0) ≡ true = ap not (h.bid s (due-active sc c h due)) in
-    cond-true (has_room c.start) _ _ running ∙ (left-here sc c.round c.place due.place ∙ cond-true _ _ _ bids)
+    cond-true (start_fits c.start) _ _ running ∙ (left-here sc c.round c.place due.place ∙ cond-true _ _ _ bids)
 
 -- and the tests behind it are left once it is settled
-next-left : (sc : Scenario) (c : CourseView) (shown : Shown) (room : ℕ) → has_room c.start ≡ true → IsCourse sc c → IsDue sc c → left_of sc c ≡ test_at sc c.round c.place ∷ left_of sc (next_course sc c shown room)
-next-left sc c shown room running h due = due-left sc c running h due ∙ ap (λ z. test_at sc c.round c.place ∷ z) (sym (cond-true (has_room c.start) (tests_left sc c.round (c.place + 1)) [] running))
+next-left : (sc : Scenario) (c : CourseView) (shown : Shown) (room : ℕ) → start_fits c.start ≡ true → IsCourse sc c → IsDue sc c → left_of sc c ≡ test_at sc c.round c.place ∷ left_of sc (next_course sc c shown room)
+next-left sc c shown room running h due = due-left sc c running h due ∙ ap (λ z. test_at sc c.round c.place ∷ z) (sym (cond-true (start_fits c.start) (tests_left sc c.round (c.place + 1)) [] running))
 
 -- one that is equal to the course once its next test is settled so was settled so
-pub is-settled : (sc : Scenario) (old new : CourseView) (shown : Shown) (room : ℕ) → IsWithinLimits sc → has_room old.start ≡ true → IsCourse sc old → IsDue sc old → new ≡ next_course sc old shown room → IsSettled sc shown old new
+pub is-settled : (sc : Scenario) (old new : CourseView) (shown : Shown) (room : ℕ) → IsWithinLimits sc → start_fits old.start ≡ true → IsCourse sc old → IsDue sc old → new ≡ next_course sc old shown room → IsSettled sc shown old new
 is-settled sc old new shown room l running h due same = subst (IsSettled sc shown old) (sym same) (record {
   holds = next-holds sc old shown room l running h due;
   state = λ n. next-state sc old shown room n l running h due;
@@ -271,9 +270,9 @@ is-settled sc old new shown room l running h due same = subst (IsSettled sc show
 })
 
 -- none is left where the clock is over
-pub over-left : (sc : Scenario) (c : CourseView) → has_room c.start ≡ true → IsOver sc c → left_of sc c ≡ []
+pub over-left : (sc : Scenario) (c : CourseView) → start_fits c.start ≡ true → IsOver sc c → left_of sc c ≡ []
 over-left sc c running over =
-    cond-true (has_room c.start) _ _ running ∙ (ap₂ (tests_left sc) over.1 over.0 ∙ left-over sc)
+    cond-true (start_fits c.start) _ _ running ∙ (ap₂ (tests_left sc) over.1 over.0 ∙ left-over sc)
 
 -- ---- going on
 
@@ -312,13 +311,13 @@ abbrev pub Leads : Scenario → BookView → CourseView → CourseView → Type 
 Leads sc book old new = (n : ℕ) → go_on sc book (left_of sc new) (core_state sc new n) ≡ go_on sc book (left_of sc old) (core_state sc old n)
 
 -- past the place of a station that isn't active
-pub leads-idle : (sc : Scenario) (book : BookView) (c : CourseView) (d : Standing) → has_room c.start ≡ true → IsCourse sc c → c.place < length sc.stations → stands_active (get_or c.standings c.place d) ≡ false → Leads sc book c (record c { place = c.place + 1 })
+pub leads-idle : (sc : Scenario) (book : BookView) (c : CourseView) (d : Standing) → start_fits c.start ≡ true → IsCourse sc c → c.place < length sc.stations → stands_active (get_or c.standings c.place d) ≡ false → Leads sc book c (record c { place = c.place + 1 })
 leads-idle sc book c d running h inside idle n =
     let new : CourseView = record c { place = c.place + 1 } in
     let t = test_at sc c.round c.place in
     let off : is_active (clock_of sc c) t.station ≡ false = is_active_at c.place t.station d h.standings inside refl ∙ idle in
-    let rest : left_of sc new ≡ tests_left sc c.round (c.place + 1) = cond-true (has_room c.start) _ _ running in
-    let whole : left_of sc c ≡ tests_left sc c.round c.place = cond-true (has_room c.start) _ _ running in
+    let rest : left_of sc new ≡ tests_left sc c.round (c.place + 1) = cond-true (start_fits c.start) _ _ running in
+    let whole : left_of sc c ≡ tests_left sc c.round c.place = cond-true (start_fits c.start) _ _ running in
     let at : Bool → List ClockTest = λ b. cond b (t ∷ tests_left sc c.round (c.place + 1)) (tests_left sc c.round (c.place + 1)) in
     let past : go_on sc book (at (not (declines sc t.station 0))) (core_state sc c n) ≡ go_on sc book (tests_left sc c.round (c.place + 1)) (core_state sc c n) = elim (not (declines sc t.station 0)) as (λ b. go_on sc book (at b) (core_state sc c n) ≡ go_on sc book (tests_left sc c.round (c.place + 1)) (core_state sc c n)) [
       | true ↦ go_on-idle sc book t (tests_left sc c.round (c.place + 1)) (core_state sc c n) off
@@ -334,11 +333,11 @@ pub leads-round : (sc : Scenario) (book : BookView) (c : CourseView) → c.place
 leads-round sc book c end less n =
     let new : CourseView = record c { round = c.round + 1; place = 0 } in
     let more : last_round sc - c.round ≡ suc (last_round sc - c.round - 1) = omega arith in
-    let same : left_of sc new ≡ left_of sc c = ap (λ l. cond (has_room c.start) l []) (sym (ap (tests_left sc c.round) end ∙ left-round sc c.round (last_round sc - c.round - 1) more)) in
+    let same : left_of sc new ≡ left_of sc c = ap (λ l. cond (start_fits c.start) l []) (sym (ap (tests_left sc c.round) end ∙ left-round sc c.round (last_round sc - c.round - 1) more)) in
     go_on-left sc book (left_of sc new) (left_of sc new) (core_state sc c n) ∙ ap (λ l. go_on sc book l (core_state sc c n)) same
 
 -- past a station without a channel, whose test is settled so
-pub leads-bare : (sc : Scenario) (book : BookView) (old new : CourseView) (n : ℕ) → has_room old.start ≡ true → IsCourse sc old → IsDue sc old →
+pub leads-bare : (sc : Scenario) (book : BookView) (old new : CourseView) (n : ℕ) → start_fits old.start ≡ true → IsCourse sc old → IsDue sc old →
     is_empty (domain_of book (test_at sc old.round old.place).station) ≡ true →
     left_of sc old ≡ test_at sc old.round old.place ∷ left_of sc new →
     core_state sc new n ≡ record (settled sc (core_state sc old n) (test_at sc old.round old.place) (NoChannel (test_at sc old.round old.place).station)) { left = left_of sc new } →
@@ -351,7 +350,7 @@ leads-bare sc book old new n running h due bare left state =
     ∙ ap (λ l. go_on sc book l (core_state sc old n)) (sym left)))
 
 -- at rest there is nothing to go past
-pub at-rest : (sc : Scenario) (book : BookView) (c : CourseView) (n : ℕ) → has_room c.start ≡ true → IsCourse sc c → IsAtRest sc book c → go_on sc book (left_of sc c) (core_state sc c n) ≡ core_state sc c n
+pub at-rest : (sc : Scenario) (book : BookView) (c : CourseView) (n : ℕ) → start_fits c.start ≡ true → IsCourse sc c → IsAtRest sc book c → go_on sc book (left_of sc c) (core_state sc c n) ≡ core_state sc c n
 at-rest sc book c n running h (inl over) =
     let none = over-left sc c running over in
     let made_of : List ClockTest → CoreState = λ l. record (core_state sc c n) { left = l } in
@@ -365,10 +364,10 @@ at-rest sc book c n running h (inr query) =
     ∙ ap made_of (sym first))
 
 -- whether no test is left
-pub over-empty : (sc : Scenario) (c : CourseView) → has_room c.start ≡ true → IsOver sc c → is_empty (left_of sc c) ≡ true
+pub over-empty : (sc : Scenario) (c : CourseView) → start_fits c.start ≡ true → IsOver sc c → is_empty (left_of sc c) ≡ true
 over-empty sc c running over = ap is_empty (over-left sc c running over)
 
-pub due-some : (sc : Scenario) (c : CourseView) → has_room c.start ≡ true → IsCourse sc c → IsDue sc c → is_empty (left_of sc c) ≡ false
+pub due-some : (sc : Scenario) (c : CourseView) → start_fits c.start ≡ true → IsCourse sc c → IsDue sc c → is_empty (left_of sc c) ≡ false
 due-some sc c running h due = ap is_empty (due-left sc c running h due)
 
 -- ---- the beginning

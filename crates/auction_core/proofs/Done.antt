@@ -11,7 +11,7 @@ use Rattle.pack_defs.proofs.ClockSteps.{test_idle}
 use Rattle.pack_defs.proofs.TestOrder.{in_turn, TestsApart, clock_apart}
 use Rattle.auction_core.specs.declared.record.Shown.{Shown}
 use Rattle.auction_core.specs.declared.record.Record.{Record}
-use Rattle.auction_core.specs.declared.record.Shown.TheVariants.{Empty, Fits, NoChannel, Unfit, Refuted, Undecided}
+use Rattle.auction_core.specs.declared.record.Shown.TheVariants.{Empty, Fits, NoChannel, Refuted, Undecided}
 use Rattle.auction_core.specs.declared.record.Step.{Step}
 use Rattle.auction_core.specs.declared.record.Ending.TheVariants.{Done}
 use Rattle.auction_core.specs.State.{CoreState, shows_room, settled}
@@ -133,7 +133,6 @@ done-room Empty e = refl
 done-room (Fits delta) e = refl
 done-room (NoChannel s) e = cc
 done-room (Refuted w how) e = cc
-done-room Unfit e = cc
 done-room (Undecided receipts) e = cc
 
 -- the map of a record that is backed and Done

@@ -1,12 +1,12 @@
 -- The record of a state that keeps the rule and has ended is backed.
-use Rattle.std.proofs.Common.{◌≡◌, true, false, if◌then◌else◌, List, [], ◌∷◌, ◌++◌, Option, Some, None, is_none, sum_by, unwrap_or, refl, sym, ap, ◌∙◌, append-nil}
+use Rattle.std.proofs.Common.{◌≡◌, true, false, if◌then◌else◌, List, [], ◌∷◌, ◌++◌, Option, Some, None, is_none, sum_by, refl, sym, ap, ◌∙◌, append-nil}
 use Rattle.pack_defs.specs.Book.{BookView}
 use Rattle.pack_defs.specs.Lists.{is_empty}
 use Rattle.pack_defs.specs.declared.scenario.Scenario.{Scenario}
 use Rattle.pack_defs.specs.ClockRule.{ClockTest, FrozenAt, clock_tests, opening_state, after_tests, asked_from, clock_rule, asked_tests}
 use Rattle.auction_core.specs.declared.record.Shown.{Shown}
 use Rattle.auction_core.specs.declared.record.Record.{Record}
-use Rattle.auction_core.specs.declared.record.Shown.TheVariants.{Empty, Fits, NoChannel, Unfit, Refuted, Undecided}
+use Rattle.auction_core.specs.declared.record.Shown.TheVariants.{Empty, Fits, NoChannel, Refuted, Undecided}
 use Rattle.auction_core.specs.State.{CoreState, has_ended, shows_room}
 use Rattle.auction_core.specs.Backed.{undecided_of, ending_of, IsCarriedThrough, IsStopped, IsEnded, IsBacked, record_of, shown_start}
 use Rattle.auction_core.specs.Rule.{IsStartKept}
@@ -18,7 +18,6 @@ done sc book rec Empty f g = f refl
 done sc book rec (Fits delta) f g = f refl
 done sc book rec (NoChannel s) f g = g refl
 done sc book rec (Refuted w how) f g = g refl
-done sc book rec Unfit f g = g refl
 done sc book rec (Undecided xs) f g = g refl
 
 -- what is left once the start was shown so

@@ -20,7 +20,7 @@ use Rattle.pack_defs.specs.declared.worker.Worker.{Worker}
 use Rattle.cert_types.specs.Valid.{answer_fault, IsValid}
 use Rattle.cert_types.proofs.Meaning.{fit-means}
 use Rattle.auction_core.specs.declared.record.Shown.{Shown}
-use Rattle.auction_core.specs.declared.record.Shown.TheVariants.{Empty, Fits, NoChannel, Unfit, Refuted, Undecided}
+use Rattle.auction_core.specs.declared.record.Shown.TheVariants.{Empty, Fits, NoChannel, Refuted, Undecided}
 use Rattle.auction_core.specs.declared.posting.Reply.TheVariants.{Ended, WrongQuery, Stranger}
 use Rattle.auction_core.specs.State.{CoreState, NotedSpent, shows_room, delta_of, settled, settled_unasked, go_on, started, before_start, start_unasked, opening, has_ended, test_task, start_task, first_task, task_of, past_first, answered}
 use Rattle.auction_core.specs.Take.{PostingView, fault_of, turned_away, take, after_postings}
@@ -88,7 +88,6 @@ start-fit sc book (Fits delta) a e r =
     (e.clean, f ∙ is-start sc rises)
 start-fit sc book (NoChannel s) a e r = cc
 start-fit sc book (Refuted w how) a e r = cc
-start-fit sc book Unfit a e r = cc
 start-fit sc book (Undecided xs) a e r = cc
 
 unasked-room : (sc : Scenario) (book : BookView) (shown : Shown) → start_unasked sc book ≡ Some shown → shows_room shown ≡ true → (shown ≡ Empty) × (is_empty (start_set sc) ≡ true)

@@ -1,5 +1,5 @@
 -- The rule's four points by how the start was shown, which is how the induction goes, and that the two say the same.
-use Rattle.std.proofs.Common.{◌≡◌, ℕ, ◌-◌, Bool, true, false, List, [], ◌∷◌, ◌++◌, map, length, take, Option, Some, None, unwrap_or, refl, sym, ap, ◌∙◌, subst, arith, MatchBool, MatchOption, length-append}
+use Rattle.std.proofs.Common.{◌≡◌, ℕ, ◌-◌, Bool, true, false, List, [], ◌∷◌, ◌++◌, map, length, take, Option, Some, None, refl, sym, ap, ◌∙◌, subst, arith, MatchBool, MatchOption, length-append}
 use Rattle.std.proofs.Math.Seq.{take-append_seam}
 use Rattle.std.specs.Option.{option_map_or}
 use Rattle.std.proofs.lemmas.Bool.{both_ways, cond-true, cond-false}
@@ -9,7 +9,7 @@ use Rattle.pack_defs.specs.Packing.{IsClean, IsPacking}
 use Rattle.pack_defs.specs.declared.scenario.Scenario.{Scenario}
 use Rattle.pack_defs.specs.ClockRule.{ClockTest, clock_tests, opening_state, on_air_set, after_tests, asked_from}
 use Rattle.auction_core.specs.declared.record.Shown.{Shown}
-use Rattle.auction_core.specs.declared.record.Shown.TheVariants.{Empty, Fits, NoChannel, Unfit, Refuted, Undecided}
+use Rattle.auction_core.specs.declared.record.Shown.TheVariants.{Empty, Fits, NoChannel, Refuted, Undecided}
 use Rattle.auction_core.specs.declared.record.Step.{Step}
 use Rattle.auction_core.specs.State.{CoreState, shows_room, delta_of, start_unasked}
 use Rattle.auction_core.specs.Backed.{test_of, undecided_of, AreShown, after_steps, after_start, shown_start}
@@ -89,7 +89,6 @@ no-delta (Some Empty) e = refl
 no-delta (Some (Fits delta)) e = cc
 no-delta (Some (NoChannel s)) e = refl
 no-delta (Some (Refuted w how)) e = refl
-no-delta (Some Unfit) e = refl
 no-delta (Some (Undecided xs)) e = refl
 
 -- ---- from the invariant to the four points

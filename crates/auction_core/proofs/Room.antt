@@ -26,7 +26,7 @@ use Rattle.assign_check.specs.Fault.{IsCleanOn}
 use Rattle.cert_types.proofs.Refuting.{refuted-unfit}
 use Rattle.cert_types.proofs.Validity.{valid-refutes}
 use Rattle.auction_core.specs.declared.record.Shown.{Shown}
-use Rattle.auction_core.specs.declared.record.Shown.TheVariants.{Empty, Fits, NoChannel, Unfit, Refuted, Undecided}
+use Rattle.auction_core.specs.declared.record.Shown.TheVariants.{Empty, Fits, NoChannel, Refuted, Undecided}
 use Rattle.auction_core.specs.State.{CoreState, restricted, test_task, shows_room, settled}
 use Rattle.auction_core.specs.Backed.{is_undecided, IsValidOf, IsSettledBy, IsStepShown}
 use Rattle.auction_core.specs.Rule.{IsAuction}
@@ -119,7 +119,6 @@ shown-room sc book state t Empty r e u = absurd e
 shown-room sc book state t (Fits delta) r e u = fit-room sc book state t delta r e
 shown-room sc book state t (NoChannel s) r e u = absurd e
 shown-room sc book state t (Refuted w how) r e u = refuted-room sc book state t.station r (by-worker sc book (test_task sc book state t) w how e)
-shown-room sc book state t Unfit r e u = by-component sc book state t.station r ∙ e
 shown-room sc book state t (Undecided receipts) r e u = cc
 
 pub no-element : (xs : List ℕ) → is_empty xs ≡ true → xs ≡ []
@@ -184,7 +183,6 @@ shown-map sc book state t Empty r e = absurd e
 shown-map sc book state t (Fits delta) r e = map-fit sc book state t delta r e
 shown-map sc book state t (NoChannel s) r e = absurd e
 shown-map sc book state t (Refuted w how) r e = map-frozen sc book state t (overlaid state.map []) r
-shown-map sc book state t Unfit r e = map-frozen sc book state t (overlaid state.map []) r
 shown-map sc book state t (Undecided receipts) r e = map-frozen sc book state t (overlaid state.map []) r
 
 -- the map after a settled test is a clean one of the stations on air

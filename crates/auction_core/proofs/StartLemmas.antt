@@ -1,5 +1,5 @@
 -- The stations that start on air, one more.
-use Rattle.std.proofs.Common.{◌≡◌, ◌∙◌, ◌+◌, ◌<◌, ◌*◌, ℕ, true, false, cond, List, [], ◌∷◌, ◌++◌, filter, length, take, get_or, ap}
+use Rattle.std.proofs.Common.{◌≡◌, ◌∙◌, ◌+◌, ◌<◌, ◌*◌, ℕ, true, false, cond, [], ◌∷◌, ◌++◌, filter, length, take, get_or, ap}
 use Rattle.std.proofs.lemmas.Bool.{cond-true, cond-false}
 use Rattle.std.proofs.lemmas.List.{append-nil, length-map, take_more}
 use Rattle.std.proofs.lemmas.List.Elements.{filter-append}

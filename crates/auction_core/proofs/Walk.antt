@@ -20,7 +20,7 @@ use Rattle.cert_types.specs.declared.answer.Receipt.{Receipt}
 use Rattle.pack_defs.specs.declared.worker.Worker.{Worker}
 use Rattle.cert_types.specs.Valid.{IsValid}
 use Rattle.auction_core.specs.declared.record.Shown.{Shown}
-use Rattle.auction_core.specs.declared.record.Shown.TheVariants.{Empty, Fits, NoChannel, Unfit, Refuted, Undecided}
+use Rattle.auction_core.specs.declared.record.Shown.TheVariants.{Empty, Fits, NoChannel, Refuted, Undecided}
 use Rattle.auction_core.specs.declared.record.Step.{Step}
 use Rattle.auction_core.specs.State.{CoreState, restricted, test_task, shows_room, delta_of, settled, settled_unasked, go_on}
 use Rattle.auction_core.specs.Backed.{test_of, is_undecided, undecided_of, IsValidOf, AreReceipts, IsSettledBy, IsStepShown, after_steps, after_start}
@@ -51,7 +51,6 @@ shown-number sc book task n Empty h = h
 shown-number sc book task n (Fits delta) h = h
 shown-number sc book task n (NoChannel s) h = h
 shown-number sc book task n (Refuted w how) h = valid-number sc book task n w (Refutes' how) h
-shown-number sc book task n Unfit h = h
 shown-number sc book task n (Undecided xs) h = receipts-number book task n sc.workers xs h
 
 -- the query of a test, by the clock and the map alone
@@ -78,7 +77,6 @@ no-room Empty e = cc
 no-room (Fits delta) e = cc
 no-room (NoChannel s) e = refl
 no-room (Refuted w how) e = refl
-no-room Unfit e = refl
 no-room (Undecided xs) e = refl
 
 -- ---- one test more

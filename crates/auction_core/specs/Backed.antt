@@ -1,12 +1,11 @@
 -- When a finished record is backed: its steps are the tests of the clock rule, which is that of Milgrom and Segal (2020),
 -- and each is shown. What the record holds, and that it is checked against the rule, is this project's own.
-use Rattle.std.specs.Prelude.{ℕ, Bool, true, false, slice_get, ◌≡◌, if◌then◌else◌, List, [], ◌∷◌, map, filter_map, sum_by, Option, Some, None, IsFalse, MatchOption, MatchBool}
+use Rattle.std.specs.Prelude.{ℕ, Bool, true, false, slice_get, ◌≡◌, if◌then◌else◌, List, [], ◌∷◌, map, filter_map, sum_by, Option, Some, None, MatchOption, MatchBool}
 use Rattle.pack_defs.specs.declared.worker.Worker.{Worker}
 use Rattle.pack_defs.specs.Book.{BookView, domain_of}
 use Rattle.assign_check.specs.Fault.{IsCleanOn}
 use Rattle.pack_defs.specs.ChannelMap.{overlaid}
 use Rattle.pack_defs.specs.Lists.{is_empty}
-use Rattle.pack_defs.specs.Packing.{fits}
 use Rattle.pack_defs.specs.declared.scenario.Scenario.{Scenario}
 use Rattle.pack_defs.specs.ClockRule.{ClockTest, asked_tests, clock_rule}
 use Rattle.cert_types.specs.declared.task.Task.{Task}
@@ -15,7 +14,7 @@ use Rattle.cert_types.specs.declared.answer.Answer.TheVariants.{Refuted as Refut
 use Rattle.cert_types.specs.declared.answer.Receipt.{Receipt}
 use Rattle.cert_types.specs.Valid.{IsValid}
 use Rattle.auction_core.specs.declared.record.Shown.{Shown}
-use Rattle.auction_core.specs.declared.record.Shown.TheVariants.{Empty, Fits, NoChannel, Unfit, Refuted, Undecided}
+use Rattle.auction_core.specs.declared.record.Shown.TheVariants.{Empty, Fits, NoChannel, Refuted, Undecided}
 use Rattle.auction_core.specs.declared.record.Step.{Step}
 use Rattle.auction_core.specs.declared.record.Ending.{Ending}
 use Rattle.auction_core.specs.declared.record.Record.{Record}
@@ -31,7 +30,6 @@ abbrev pub is_undecided : Shown → Bool
 is_undecided Empty = false
 is_undecided (Fits delta) = false
 is_undecided (NoChannel s) = false
-is_undecided Unfit = false
 is_undecided (Refuted worker how) = false
 is_undecided (Undecided receipts) = true
 
@@ -49,14 +47,13 @@ AreReceipts book task [] (x ∷ xs) = ⊥
 AreReceipts book task (w ∷ ws) [] = ⊥
 AreReceipts book task (w ∷ ws) (x ∷ xs) = IsValid book task w (Spent x) × AreReceipts book task ws xs
 
--- What settles a query: entries that make the last map a clean one of exactly its set, a search that finds no clean one, a
--- worker's refutation, or a receipt of every worker. (Each is checked as the SATFC papers and LRAT have it; that only these settle a query is this
--- project's own.)
+-- What settles a query: entries that make the last map a clean one of exactly its set, a worker's refutation, or a receipt
+-- of every worker. (Each is checked as the SATFC papers and LRAT have it; that only these settle a query is this project's
+-- own.)
 abbrev pub IsSettledBy : Scenario → BookView → Task → Shown → Type 0
 IsSettledBy sc book task Empty = ⊥
 IsSettledBy sc book task (Fits delta) = IsCleanOn book task.set (overlaid task.last delta)
 IsSettledBy sc book task (NoChannel s) = ⊥
-IsSettledBy sc book task Unfit = IsFalse (fits book task.set)
 IsSettledBy sc book task (Refuted worker how) = IsValidOf sc book task worker (Refutes how)
 IsSettledBy sc book task (Undecided receipts) = AreReceipts book task sc.workers receipts
 
@@ -94,7 +91,6 @@ abbrev pub ending_of : Shown → Ending
 ending_of Empty = Done
 ending_of (Fits delta) = Done
 ending_of (NoChannel s) = StartRefuted
-ending_of Unfit = StartRefuted
 ending_of (Refuted worker how) = StartRefuted
 ending_of (Undecided receipts) = StartUndecided
 

@@ -1,5 +1,5 @@
 -- Where each station stands, in a state of the clock.
-use Rattle.std.specs.Prelude.{◌≡◌, ℕ, ◌-◌, ◌*◌, Bool, true, false, ◌==◌, ◌||◌, nat_lt, if◌then◌else◌, List, [], ◌∷◌, Option, Some, None, find, map, Contains}
+use Rattle.std.specs.Prelude.{◌≡◌, ℕ, ◌-◌, ◌*◌, Bool, true, false, ◌==◌, nat_lt, if◌then◌else◌, List, [], ◌∷◌, Option, Some, None, find, map, Contains}
 use Rattle.std.specs.Option.{option_map_or}
 use Rattle.pack_defs.specs.declared.scenario.Scenario.{Scenario}
 use Rattle.pack_defs.specs.declared.station.Station.{Station}
@@ -69,7 +69,3 @@ stations_by p (f ∷ fs) (x ∷ xs) = if p f x then f ∷ stations_by p fs xs el
 -- those of these stations that are on air, by their standings
 abbrev pub on_air_by : List ℕ → List Standing → List ℕ
 on_air_by = stations_by (λ f x. stands_on_air x)
-
--- those of these stations that are on air, by their standings, and s
-abbrev pub asked_by : ℕ → List ℕ → List Standing → List ℕ
-asked_by s = stations_by (λ f x. stands_on_air x || (f == s))

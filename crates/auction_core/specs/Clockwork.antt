@@ -5,9 +5,9 @@ use Rattle.pack_defs.specs.declared.scenario.Scenario.{Scenario}
 use Rattle.pack_defs.specs.Scenario.{IsWithinLimits, facilities}
 use Rattle.pack_defs.specs.Prices.{prices}
 use Rattle.pack_defs.specs.ClockRule.{clock_tests}
-use Rattle.auction_core.specs.Course.{CourseView, IsAtRest, IsCourse, core_state, has_room, left_of}
+use Rattle.auction_core.specs.Course.{CourseView, IsAtRest, IsCourse, core_state, left_of}
 use Rattle.auction_core.specs.Rule.{KeepsTheRule}
-use Rattle.auction_core.specs.State.{CoreState}
+use Rattle.auction_core.specs.State.{CoreState, start_fits}
 
 -- the auction's scenario and book, its state, and for how many steps more there is room
 pub record ClockworkView : Type 0 where
@@ -27,7 +27,7 @@ pub record IsClockwork (sc : Scenario) (book : BookView) (schedule : List ℕ) (
   pub in_order : IsInOrder book
   pub offers : schedule ≡ prices sc
   pub course : IsCourse sc c
-  pub rest : has_room c.start ≡ true → IsAtRest sc book c
+  pub rest : start_fits c.start ≡ true → IsAtRest sc book c
   pub rule : KeepsTheRule sc book (core_state sc c number)
   pub first : c.start ≡ None → number ≡ 1
   pub tests : number + length (left_of sc c) ≤ length (clock_tests sc) + 2

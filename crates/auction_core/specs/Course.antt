@@ -1,8 +1,7 @@
 -- Where the clock stands between two tests, as the program keeps it: a standing for each station, and the place of the next
 -- test. That it is so kept is this project's own.
-use Rattle.std.specs.Prelude.{ℕ, Bool, false, not, ◌+◌, ◌-◌, ◌*◌, ◌<◌, ◌≤◌, ◌≡◌, ◌⊎◌, if◌then◌else◌, true, List, [], ◌∷◌, ◌++◌, map, filter, drop, length, sum_by, slice_index, slice_index_or, Option, Some, None, MatchBool}
-use Rattle.std.specs.Option.{option_map_or}
-use Rattle.pack_defs.specs.Book.{BookView, domain_of, stations_of}
+use Rattle.std.specs.Prelude.{ℕ, false, not, ◌+◌, ◌-◌, ◌*◌, ◌<◌, ◌≤◌, ◌≡◌, ◌⊎◌, if◌then◌else◌, true, List, [], ◌∷◌, ◌++◌, map, filter, drop, length, sum_by, slice_index, slice_index_or, Option}
+use Rattle.pack_defs.specs.Book.{BookView, domain_of}
 use Rattle.pack_defs.specs.Lists.{is_empty, has_station, is_in}
 use Rattle.pack_defs.specs.ChannelMap.{overlaid}
 use Rattle.pack_defs.specs.declared.scenario.Scenario.{Scenario}
@@ -10,14 +9,13 @@ use Rattle.pack_defs.specs.Scenario.{facilities}
 use Rattle.pack_defs.specs.Prices.{bidders, declines, last_round}
 use Rattle.pack_defs.specs.ClockRule.{ClockTest, ClockState, is_active, tests_of}
 use Rattle.auction_core.specs.declared.record.Shown.{Shown}
-use Rattle.auction_core.specs.declared.record.Shown.TheVariants.{Empty}
 use Rattle.auction_core.specs.declared.record.Step.{Step}
 use Rattle.auction_core.specs.declared.clock.Standing.{Standing}
 use Rattle.auction_core.specs.declared.clock.Standing.TheVariants.{Active, OnAir, Frozen}
 use Rattle.auction_core.specs.AirMap.{AirMapView}
 use Rattle.auction_core.specs.Backed.{after_start, after_steps, shown_start}
 use Rattle.auction_core.specs.Clock.{AreStandings, stands_active, stands_on_air}
-use Rattle.auction_core.specs.State.{CoreState, delta_of, settled, shows_room}
+use Rattle.auction_core.specs.State.{CoreState, delta_of, settled, start_fits}
 
 -- How the start was shown, if it was; where each station stands; the map of those on air; the steps so far; what the frozen
 -- ones are paid together, in cents; the round and the place of the next test's station; and for how many steps more there is
@@ -42,17 +40,13 @@ tests_left sc round i =
     map (λ s. record { round = round; station = s }) (filter (λ s. not (declines sc s 0)) (drop i (facilities sc)))
     ++ tests_of (bidders sc) (round + 1) (last_round sc - round)
 
--- the start set was shown to fit
-abbrev pub has_room : Option Shown → Bool
-has_room start = option_map_or shows_room start false
-
 -- the clock that the steps leave
 abbrev pub clock_of : Scenario → CourseView → ClockState
 clock_of sc c = (after_steps sc (after_start sc (shown_start c.start)) c.steps).clock
 
 -- the tests that are left; none before the start set was shown to fit
 abbrev pub left_of : Scenario → CourseView → List ClockTest
-left_of sc c = if has_room c.start then tests_left sc c.round c.place else []
+left_of sc c = if start_fits c.start then tests_left sc c.round c.place else []
 
 -- the state of the auction at the query of this number, with no receipt noted
 abbrev pub core_state : Scenario → CourseView → ℕ → CoreState
@@ -92,7 +86,7 @@ pub record IsCourse (sc : Scenario) (c : CourseView) : Type 0 where
   pub round : c.round ≤ last_round sc
   pub place : c.place ≤ length sc.stations
   pub bid : (s : ℕ) → is_active (clock_of sc c) s ≡ true → declines sc s 0 ≡ false
-  pub idle : has_room c.start ≡ false → (c.steps ≡ []) × ((c.round ≡ 1) × (c.place ≡ 0))
+  pub idle : start_fits c.start ≡ false → (c.steps ≡ []) × ((c.round ≡ 1) × (c.place ≡ 0))
   pub sum : c.total ≡ sum_by (λ x. x.price) (clock_of sc c).frozen
   pub bound : c.total ≤ most_paid * length (clock_of sc c).frozen
   pub each : length (clock_of sc c).frozen + length (clock_of sc c).active ≤ length sc.stations

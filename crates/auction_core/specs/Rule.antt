@@ -1,6 +1,5 @@
 -- What every list of postings keeps: the state is one that the clock rule comes to.
 use Rattle.std.specs.Prelude.{ℕ, Bool, true, false, ◌<◌, ◌-◌, ◌≡◌, if◌then◌else◌, List, [], ◌∷◌, ◌++◌, length, map, take, Option, Some, None, MatchOption, MatchBool}
-use Rattle.std.specs.Option.{option_map_or}
 use Rattle.pack_defs.specs.Book.{BookView, IsInOrder, domain_of}
 use Rattle.pack_defs.specs.Lists.{is_empty, is_ascending}
 use Rattle.pack_defs.specs.Packing.{IsPacking}
@@ -10,8 +9,7 @@ use Rattle.pack_defs.specs.ClockRule.{ClockTest, clock_tests, opening_state, on_
 use Rattle.cert_types.specs.declared.answer.Answer.{Answer}
 use Rattle.cert_types.specs.declared.answer.Answer.TheVariants.{Spent}
 use Rattle.auction_core.specs.declared.record.Shown.{Shown}
-use Rattle.auction_core.specs.declared.record.Shown.TheVariants.{Empty}
-use Rattle.auction_core.specs.State.{CoreState, NotedSpent, shows_room, start_unasked, task_of}
+use Rattle.auction_core.specs.State.{CoreState, NotedSpent, start_fits, start_unasked, task_of}
 use Rattle.auction_core.specs.Backed.{test_of, undecided_of, IsValidOf, IsSettledBy, IsStartShown, AreShown, after_steps, after_start, shown_start}
 
 -- there is a standing query, and a worker's answer to it is valid
@@ -46,7 +44,7 @@ IsStartKept sc book (Some shown) = IsStartShown sc book shown
 
 -- the start set was shown to fit, so the clock runs
 abbrev pub is_running : CoreState → Bool
-is_running state = option_map_or shows_room state.start false
+is_running state = start_fits state.start
 
 -- the tests to go through: the clock's once it runs, and none before
 abbrev pub tests_due : Scenario → CoreState → List ClockTest

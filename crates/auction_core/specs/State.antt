@@ -12,7 +12,7 @@ use Rattle.pack_defs.specs.ClockRule.{ClockTest, ClockState, clock_tests, openin
 use Rattle.cert_types.specs.declared.task.Task.{Task}
 use Rattle.cert_types.specs.declared.answer.Receipt.{Receipt}
 use Rattle.auction_core.specs.declared.record.Shown.{Shown}
-use Rattle.auction_core.specs.declared.record.Shown.TheVariants.{Empty, Fits, NoChannel, Unfit, Refuted, Undecided}
+use Rattle.auction_core.specs.declared.record.Shown.TheVariants.{Empty, Fits, NoChannel, Refuted, Undecided}
 use Rattle.auction_core.specs.declared.record.Step.{Step}
 use Rattle.pack_defs.specs.Components.{component}
 
@@ -37,16 +37,18 @@ abbrev pub shows_room : Shown → Bool
 shows_room Empty = true
 shows_room (Fits delta) = true
 shows_room (NoChannel s) = false
-shows_room Unfit = false
 shows_room (Refuted worker how) = false
 shows_room (Undecided receipts) = false
+
+-- the start set was shown to fit
+abbrev pub start_fits : Option Shown → Bool
+start_fits start = option_map_or shows_room start false
 
 -- the entries that a test gives the map where its station goes on air
 abbrev pub delta_of : Shown → List (ℕ × ℕ)
 delta_of Empty = []
 delta_of (Fits delta) = delta
 delta_of (NoChannel s) = []
-delta_of Unfit = []
 delta_of (Refuted worker how) = []
 delta_of (Undecided receipts) = []
 

@@ -6,9 +6,9 @@ ghost use Rattle.pack_defs.specs.Prices.{prices};
 ghost use Rattle.pack_defs.specs.Scenario.{IsWithinLimits};
 ghost use Rattle.auction_core.specs.Backed.{IsBacked, record_of};
 ghost use Rattle.auction_core.specs.Clockwork.{IsOfAuction};
-ghost use Rattle.auction_core.specs.Course.{GivesWithin, IsAtRest, IsCourse, core_state, has_room};
+ghost use Rattle.auction_core.specs.Course.{GivesWithin, IsAtRest, IsCourse, core_state};
 ghost use Rattle.auction_core.specs.Rule.{KeepsTheRule, SettlesQuery};
-ghost use Rattle.auction_core.specs.State.{answered, has_ended, opening, start_task, started, task_of};
+ghost use Rattle.auction_core.specs.State.{answered, has_ended, opening, start_fits, start_task, started, task_of};
 
 use crate::course::Course;
 use crate::on_air::OnAir;
@@ -220,7 +220,7 @@ fn first_course(
     requires auction { IsOfAuction sc.now book.now }
     requires schedule { schedule.now ≡ prices sc.now }
     ensures holds { IfOk result (IsCourse sc.now) }
-    ensures rest { IfOk result (λ c. has_room c.start ≡ true → IsAtRest sc.now book.now c) }
+    ensures rest { IfOk result (λ c. start_fits c.start ≡ true → IsAtRest sc.now book.now c) }
     ensures state { IfOk result (λ c. core_state sc.now c 1 ≡ opening sc.now book.now) }
 {
     let mut course = Course::open(alloc, sc)?;
@@ -240,7 +240,7 @@ fn begin(course: &mut Course, sc: &Scenario, book: &Book, schedule: &[u32], show
     requires within { GivesWithin sc.now shown }
     requires room { length sc.now.stations ≤ course.old.room }
     ensures holds { IsCourse sc.now course.new }
-    ensures rest { has_room course.new.start ≡ true → IsAtRest sc.now book.now course.new }
+    ensures rest { start_fits course.new.start ≡ true → IsAtRest sc.now book.now course.new }
     ensures state { (n : ℕ) → core_state sc.now course.new n ≡ started sc.now book.now (core_state sc.now course.old n) shown }
 {
     course.begin(shown);

@@ -7,8 +7,8 @@ ghost use Rattle.pack_defs.specs.Scenario.{IsWithinLimits, facilities};
 ghost use Rattle.pack_defs.specs.Prices.{last_round, prices};
 ghost use Rattle.auction_core.specs.Backed.{record_of};
 ghost use Rattle.auction_core.specs.Clock.{stands_active};
-ghost use Rattle.auction_core.specs.Course.{GivesWithin, IsAtRest, IsCourse, IsDue, IsOver, IsSettled, clock_of, core_state, has_room, left_of, map_after, paid, places_left, test_at};
-ghost use Rattle.auction_core.specs.State.{before_start, delta_of, go_on};
+ghost use Rattle.auction_core.specs.Course.{GivesWithin, IsAtRest, IsCourse, IsDue, IsOver, IsSettled, clock_of, core_state, left_of, map_after, paid, places_left, test_at};
+ghost use Rattle.auction_core.specs.State.{before_start, delta_of, go_on, start_fits};
 
 use crate::air_map::AirMap;
 use crate::clock::{Clock, Standing};
@@ -101,7 +101,7 @@ impl Course {
 
     /// Whether the clock runs: the start set was shown to fit.
     pub fn is_running(&self) -> bool
-        ensures { result ≡ has_room self.now.start }
+        ensures { result ≡ start_fits self.now.start }
     {
         match &self.start {
             Some(shown) => shown.shows_room(),
@@ -113,7 +113,7 @@ impl Course {
     pub fn is_over(&self, sc: &Scenario) -> bool
         requires holds { IsCourse sc.now self.now }
         requires limits { IsWithinLimits sc.now }
-        requires rest { has_room self.now.start ≡ true → IsOver sc.now self.now ⊎ IsDue sc.now self.now }
+        requires rest { start_fits self.now.start ≡ true → IsOver sc.now self.now ⊎ IsDue sc.now self.now }
         ensures { result ≡ is_empty (left_of sc.now self.now) }
     {
         !self.is_running() || self.place == sc.stations.as_slice().len()
@@ -180,7 +180,7 @@ impl Course {
         requires due { IsDue sc.now self.old }
         requires within { GivesWithin sc.now shown }
         requires room { 1 ≤ self.old.room }
-        requires running { has_room self.old.start ≡ true }
+        requires running { start_fits self.old.start ≡ true }
         ensures settled { IsSettled sc.now shown self.old self.new }
         ensures running { self.new.start ≡ self.old.start }
         ensures room { self.old.room ≤ self.new.room + 1 }
@@ -209,7 +209,7 @@ impl Course {
         requires limits { IsWithinLimits sc.now }
         requires schedule { schedule.now ≡ prices sc.now }
         requires holds { IsCourse sc.now self.old }
-        requires running { has_room self.old.start ≡ true }
+        requires running { start_fits self.old.start ≡ true }
         requires room { length (clock_of sc.now self.old).active ≤ self.old.room }
         ensures holds { IsCourse sc.now self.new }
         ensures running { self.new.start ≡ self.old.start }
@@ -255,7 +255,7 @@ impl Course {
         requires limits { IsWithinLimits sc.now }
         requires schedule { schedule.now ≡ prices sc.now }
         requires holds { IsCourse sc.now self.old }
-        requires running { has_room self.old.start ≡ true }
+        requires running { start_fits self.old.start ≡ true }
         requires room { length (clock_of sc.now self.old).active ≤ self.old.room }
         ensures holds { IsCourse sc.now self.new }
         ensures rest { IsAtRest sc.now book.now self.new }

@@ -16,9 +16,8 @@ pub enum Shown {
     Fits(ChannelMap),
     /// By a station without a channel.
     NoChannel(u32),
-    /// By a search through every channel map of the test's set, none of which is clean.
-    Unfit,
-    /// By a worker's proof that the test's set does not fit.
+    /// By a worker's refutation: a proof that the test's set does not fit, or a pair of two of its stations, with one channel
+    /// each, that interfere.
     Refuted { worker: u32, how: Refutation },
     /// By a receipt of every worker, in order of worker, that it has spent its budget on the test.
     Undecided(Items<Receipt>),
@@ -31,7 +30,7 @@ impl Shown {
     {
         match self {
             Shown::Empty | Shown::Fits(_) => true,
-            Shown::NoChannel(_) | Shown::Unfit | Shown::Refuted { .. } => false,
+            Shown::NoChannel(_) | Shown::Refuted { .. } => false,
             Shown::Undecided(_) => false,
         }
     }
@@ -42,7 +41,7 @@ impl Shown {
     {
         match self {
             Shown::Empty | Shown::Fits(_) => Ending::Done,
-            Shown::NoChannel(_) | Shown::Unfit | Shown::Refuted { .. } => Ending::StartRefuted,
+            Shown::NoChannel(_) | Shown::Refuted { .. } => Ending::StartRefuted,
             Shown::Undecided(_) => Ending::StartUndecided,
         }
     }
@@ -76,7 +75,7 @@ pub struct Record {
     pub ending: Ending,
     /// How the test of the start set was settled.
     pub start: Shown,
-    /// The clock's tests in order.
+    /// The tests that the rule asked, in order.
     pub steps: Items<Step>,
     /// A channel for each station on air.
     pub map: ChannelMap,

@@ -23,8 +23,12 @@ pub(crate) enum Given {
     Fit(u32, u8),
     // That stations 1 to 3 do not fit, by a log of two lines.
     Refuted,
+    // A pair that is said to be dead.
+    Dead(Pair),
     // One line was derived.
     Spent,
+    // A station was moved to a channel.
+    Moved(u32, u8),
 }
 
 // 13 -1 0 7 2 8 3 12 0
@@ -72,7 +76,12 @@ pub(crate) fn answer(alloc: Global, given: Given) -> Result<Answer, NoMemory> {
             let log = two_lines(alloc)?;
             Ok(Answer::Refuted(Refutation::Proof { subset, log }))
         }
+        Given::Dead(pair) => Ok(Answer::Refuted(Refutation::Dead(pair))),
         Given::Spent => Ok(Answer::Spent(Receipt::Lines(one_line(alloc)?))),
+        Given::Moved(station, channel) => {
+            let moves = Items::from_vec(vec![in alloc; (station, channel)]?);
+            Ok(Answer::Spent(Receipt::Moves(moves)))
+        }
     }
 }
 
@@ -84,7 +93,8 @@ pub(crate) fn on(alloc: Global, station: u32, channels: &[u8]) -> Result<Domain,
     Ok(Domain { station, channels })
 }
 
-fn on_one(f: u32, g: u32, c: u8) -> Pair
+// A pair of two stations on one channel.
+pub(crate) fn on_one(f: u32, g: u32, c: u8) -> Pair
     ensures { result ≡ record { f = f; a = c; g = g; b = c } }
 {
     Pair { f, a: c, g, b: c }
@@ -141,6 +151,16 @@ pub(crate) fn learner(budget: u32) -> Worker
 {
     Worker {
         kind: Kind::Cdcl,
+        budget,
+        seed: 0,
+    }
+}
+
+pub(crate) fn walker(budget: u32) -> Worker
+    ensures { result ≡ record { kind = Kind.Walk; budget = budget; seed = 0 } }
+{
+    Worker {
+        kind: Kind::Walk,
         budget,
         seed: 0,
     }

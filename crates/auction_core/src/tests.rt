@@ -5,9 +5,10 @@ ghost use Rattle.auction_core.specs.Said.{AnswersIfGood};
 
 use crate::auction::Auction;
 use crate::posting::{Posting, Reply, Said};
-use crate::record::Ending;
+use crate::record::{Ending, Record, Shown};
 use crate::samples::{
-    Given, all_on_air, answer, bid, book, learner, on, one_round, three_bids, three_stations,
+    Given, all_on_air, answer, bid, book, learner, on, on_one, one_round, three_bids,
+    three_stations, walker,
 };
 use cert_types::answer::{Answer, CertifyWhy, Place};
 use cert_types::certify::certify;
@@ -78,8 +79,14 @@ fn are_told(alloc: Global, auction: &mut Auction, cases: &[Case]) -> Result<bool
 // An auction's end: how it ended, the number past its last query's, how many steps it took, and its total in cents.
 type End = (Ending, u64, usize, u64);
 
-// How the auction ends with these postings; nothing where one is told otherwise, or where it does not end.
-fn end(alloc: Global, sc: Scenario, book: &Book, cases: &[Case]) -> Result<Option<End>, NoMemory>
+// The auction's record and its last number, once it ended with these postings; nothing where one is told otherwise, or
+// where it does not end.
+fn record(
+    alloc: Global,
+    sc: Scenario,
+    book: &Book,
+    cases: &[Case],
+) -> Result<Option<(Record, u64)>, NoMemory>
     requires { IsOfAuction sc book.now }
 {
     let mut auction = Auction::start(alloc, &sc, book)?;
@@ -87,13 +94,26 @@ fn end(alloc: Global, sc: Scenario, book: &Book, cases: &[Case]) -> Result<Optio
         return Ok(None);
     }
     let number = auction.number();
-    let record = auction.into_result(alloc, sc)?;
+    Ok(Some((auction.into_result(alloc, sc)?, number)))
+}
+
+// How the auction ends with these postings.
+fn end(alloc: Global, sc: Scenario, book: &Book, cases: &[Case]) -> Result<Option<End>, NoMemory>
+    requires { IsOfAuction sc book.now }
+{
+    let Some((record, number)) = record(alloc, sc, book, cases)? else {
+        return Ok(None);
+    };
     let steps = record.steps.as_slice().len();
     Ok(Some((record.ending, number, steps, record.total)))
 }
 
 fn next(number: u64) -> Reply {
     Reply::Advanced { next: Some(number) }
+}
+
+fn rejected(place: Place) -> Reply {
+    Reply::Rejected { place }
 }
 
 // The queries are of stations 1, 2 and 3 in round 1, and of 1 and 3 in round 2, where 3 is frozen at 60 cents.
@@ -123,14 +143,7 @@ fn each_reply(rt: HostRuntime) -> Result<(), Fail> {
     let cases = [
         (0, 9, Given::Fit(1, 14), Reply::WrongQuery { now: 1 }),
         (2, 1, Given::Fit(1, 14), Reply::Stranger),
-        (
-            0,
-            1,
-            Given::Fit(2, 14),
-            Reply::Rejected {
-                place: Place::Station(1),
-            },
-        ),
+        (0, 1, Given::Fit(2, 14), rejected(Place::Station(1))),
         (0, 1, Given::Fit(1, 14), next(2)),
         (1, 2, Given::Fit(2, 14), next(3)),
         (0, 3, Given::Fit(3, 15), next(4)),
@@ -144,6 +157,49 @@ fn each_reply(rt: HostRuntime) -> Result<(), Fail> {
     let sc = three_bids(alloc, vec![in alloc; learner(1), learner(1)]?)?;
     let end = end(alloc, sc, &three_stations(alloc)?, &cases)?;
     assert_eq!(rt; end, Some((Ending::Done, 6, 5, 60)));
+    Ok(())
+}
+
+// The number past the last query's once the auction ended with these postings, and whether its last test was shown
+// undecided.
+fn last_undecided(
+    alloc: Global,
+    sc: Scenario,
+    book: &Book,
+    cases: &[Case],
+) -> Result<Option<(u64, bool)>, NoMemory>
+    requires { IsOfAuction sc book.now }
+{
+    let Some((record, number)) = record(alloc, sc, book, cases)? else {
+        return Ok(None);
+    };
+    let undecided = match record.steps.as_slice().last() {
+        Some(step) => matches!(step.shown, Shown::Undecided(_)),
+        None => false,
+    };
+    Ok(Some((number, undecided)))
+}
+
+// A worker that learns lines and one that walks, both of budget 1: neither may spend it as the other does. In round 2, with
+// 1 on 15 and 2 on 14, a walk starts with 3 on 14, and is none the better off with 3 on 15.
+#[test]
+fn two_kinds(rt: HostRuntime) -> Result<(), Fail> {
+    let alloc = rt.alloc();
+    let stray = on_one(1, 4, 14);
+    let cases = [
+        (0, 1, Given::Moved(3, 15), rejected(Place::Kind)),
+        (1, 1, Given::Spent, rejected(Place::Kind)),
+        (0, 1, Given::Fit(1, 14), next(2)),
+        (1, 2, Given::Fit(2, 14), next(3)),
+        (0, 3, Given::Fit(3, 15), next(4)),
+        (1, 4, Given::Fit(1, 15), next(5)),
+        (1, 5, Given::Dead(stray), rejected(Place::PairOf(stray))),
+        (1, 5, Given::Moved(3, 15), Reply::Noted),
+        (0, 5, Given::Spent, Reply::Advanced { next: None }),
+    ];
+    let sc = three_bids(alloc, vec![in alloc; learner(1), walker(1)]?)?;
+    let last = last_undecided(alloc, sc, &three_stations(alloc)?, &cases)?;
+    assert_eq!(rt; last, Some((6, true)));
     Ok(())
 }
 
@@ -168,6 +224,20 @@ fn refuted_start(rt: HostRuntime) -> Result<(), Fail> {
 fn undecided_start(rt: HostRuntime) -> Result<(), Fail> {
     let spent = start_end(rt.alloc(), 1, Given::Spent)?;
     assert_eq!(rt; spent, Some((Ending::StartUndecided, 2, 0, 0)));
+    Ok(())
+}
+
+// Two stations that start on air on one channel.
+#[test]
+fn dead_start(rt: HostRuntime) -> Result<(), Fail> {
+    let alloc = rt.alloc();
+    let pair = on_one(1, 2, 14);
+    let domains = [on(alloc, 1, &[14])?, on(alloc, 2, &[14])?];
+    let two = book(alloc, &[1, 2], &domains, &[pair])?;
+    let sc = one_round(alloc, vec![in alloc; bid(1, None), bid(2, None)]?)?;
+    let last = Reply::Advanced { next: None };
+    let end = end(alloc, sc, &two, &[(0, 1, Given::Dead(pair), last)])?;
+    assert_eq!(rt; end, Some((Ending::StartRefuted, 2, 0, 0)));
     Ok(())
 }
 

@@ -25,7 +25,7 @@ use Rattle.cert_types.specs.declared.answer.Refutation.TheVariants.{Proof}
 use Rattle.cert_types.specs.declared.answer.Receipt.TheVariants.{Lines}
 use Rattle.cert_types.specs.Refutes.{is_subset}
 use Rattle.cert_types.specs.Spent.{AreSpentLines}
-use Rattle.cert_types.specs.Valid.{IsValid}
+use Rattle.cert_types.specs.Valid.{IsValid, learns}
 use Rattle.cert_types.proofs.Meaning.{means-fit, means-proof, means-lines}
 use Rattle.cdcl_prove.specs.Formulas.{IsFormulaOf}
 use Rattle.cdcl_prove.proofs.Following.{append-nil}
@@ -75,13 +75,14 @@ lines-end vars clauses (x ∷ xs) line a e = step xs (lines-end vars (clauses ++
     step [] h = cond-false (is_empty_clause x.lits) false (ends_empty (line ∷ [])) a.0.some_lit ∙ h
     step (y ∷ ys) h = cond-false (is_empty_clause x.lits) false (ends_empty (y ∷ (ys ++ line ∷ []))) a.0.some_lit ∙ h
 
-pub proof-valid : (book : BookView) (task : Task) (worker : Worker) (subset : List ℕ) (formula : Clauses) (lines : List Line) (line : Line) (log : Log) → IsFormulaOf book subset formula → is_subset subset task.set ≡ true → AreSpentLines formula.vars formula.list lines → line_fault formula.vars (clauses_before formula.list lines) line ≡ None → is_empty_clause line.lits ≡ true → length lines < worker.budget → log.lines ≡ lines ++ line ∷ [] → IsValid book task worker (Refuted (Proof subset log))
-proof-valid book task worker subset formula lines line log of sub a f e few is =
+pub proof-valid : (book : BookView) (task : Task) (worker : Worker) (subset : List ℕ) (formula : Clauses) (lines : List Line) (line : Line) (log : Log) → learns worker.kind ≡ true → IsFormulaOf book subset formula → is_subset subset task.set ≡ true → AreSpentLines formula.vars formula.list lines → line_fault formula.vars (clauses_before formula.list lines) line ≡ None → is_empty_clause line.lits ≡ true → length lines < worker.budget → log.lines ≡ lines ++ line ∷ [] → IsValid book task worker (Refuted (Proof subset log))
+proof-valid book task worker subset formula lines line log learner of sub a f e few is =
     let n = length-append lines (line ∷ []) in
     let m = ap (λ (z : List Line). length z) is in
     let whole : Follows formula.vars formula.list (lines ++ line ∷ []) = lines-follow formula.vars formula.list 1 lines line a f in
     let whole2 : Follows (variables_in book subset) (packing_formula book subset) (lines ++ line ∷ []) = subst (λ v. Follows v (packing_formula book subset) (lines ++ line ∷ [])) of.vars (subst (λ (z : List (List Lit)). Follows formula.vars z (lines ++ line ∷ [])) of.list whole) in
     means-proof book task worker subset log (record {
+      by_learner = learner;
       some_line = omega arith;
       within_budget = omega arith;
       of_subset = sub;
@@ -112,10 +113,11 @@ some-subset p set part a e =
 
 -- ---- a receipt
 
-pub receipt-valid : (book : BookView) (task : Task) (worker : Worker) (formula : Clauses) (lines : List Line) (log : Log) → IsFormulaOf book task.set formula → AreSpentLines formula.vars formula.list lines → length lines ≡ worker.budget → log.lines ≡ lines → IsValid book task worker (Spent (Lines log))
-receipt-valid book task worker formula lines log of a n is =
+pub receipt-valid : (book : BookView) (task : Task) (worker : Worker) (formula : Clauses) (lines : List Line) (log : Log) → learns worker.kind ≡ true → IsFormulaOf book task.set formula → AreSpentLines formula.vars formula.list lines → length lines ≡ worker.budget → log.lines ≡ lines → IsValid book task worker (Spent (Lines log))
+receipt-valid book task worker formula lines log learner of a n is =
     let over : AreSpentLines (variables_in book task.set) (packing_formula book task.set) lines = subst (λ v. AreSpentLines v (packing_formula book task.set) lines) of.vars (subst (λ (z : List (List Lit)). AreSpentLines formula.vars z lines) of.list a) in
     means-lines book task worker log (record {
+      by_learner = learner;
       whole_budget = ap (λ (z : List Line). length z) is ∙ n;
       spent = subst (λ (z : List Line). AreSpentLines (variables_in book task.set) (packing_formula book task.set) z) (sym is) over;
     })

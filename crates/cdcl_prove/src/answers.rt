@@ -5,7 +5,7 @@ ghost use Rattle.pack_defs.specs.declared.worker.Worker.{Worker};
 ghost use Rattle.cert_types.specs.declared.task.Task.{Task};
 ghost use Rattle.cert_types.specs.Query.{IsQuery};
 ghost use Rattle.cert_types.specs.Refutes.{is_subset};
-ghost use Rattle.cert_types.specs.Valid.{IsValid};
+ghost use Rattle.cert_types.specs.Valid.{IsValid, learns};
 ghost use Rattle.cnf_encode.specs.Decode.{listed};
 ghost use Rattle.trail_prop.specs.Entries.{lits_of};
 ghost use Rattle.cdcl_prove.specs.Formulas.{IsFormulaOf};
@@ -51,7 +51,8 @@ fn values(alloc: Global, trail: &Trail) -> Result<Vec<bool>, NoMemory>
     Ok(values)
 }
 
-/// The refutation of a subset by the derivation from its formula and the last line, which is empty.
+/// The refutation of a subset by the derivation from its formula and the last line, which is empty, for a worker that
+/// learns.
 pub(crate) fn refutation(
     alloc: Global,
     subset: &[u32],
@@ -59,7 +60,7 @@ pub(crate) fn refutation(
     last: Line,
 ) -> Result<Answer, NoMemory>
     requires { IsLast derivation last }
-    ensures { (book : BookView) (task : Task) (worker : Worker) →
+    ensures { (book : BookView) (task : Task) (worker : Worker) → learns worker.kind ≡ true →
         IsFormulaOf book subset.now derivation.formula → is_subset subset.now task.set ≡ true →
         length derivation.lines < worker.budget → IfOk result (λ answer. IsValid book task worker answer) }
 {
@@ -73,9 +74,9 @@ pub(crate) fn refutation(
     }))
 }
 
-/// The receipt of a derivation from the set's formula that has as many lines as the budget.
+/// The receipt of a derivation from the set's formula that has as many lines as the budget, for a worker that learns.
 pub(crate) fn receipt(derivation: Derivation) -> Answer
-    ensures { (book : BookView) (task : Task) (worker : Worker) →
+    ensures { (book : BookView) (task : Task) (worker : Worker) → learns worker.kind ≡ true →
         IsFormulaOf book task.set derivation.formula → length derivation.lines ≡ worker.budget →
         IsValid book task worker result }
 {

@@ -2,6 +2,7 @@ ghost use Rattle.std.specs.Prelude.{◌≡◌, IfOk, IfSome, IsTrue, length, tru
 ghost use Rattle.pack_defs.specs.Lists.{is_ascending};
 ghost use Rattle.cert_types.specs.Query.{AttemptIs, IsQuery};
 ghost use Rattle.cert_types.specs.Refutes.{is_subset};
+ghost use Rattle.cert_types.specs.Valid.{learns};
 ghost use Rattle.cdcl_prove.specs.Formulas.{IsFormulaOf};
 
 use crate::answers::{fit, receipt, refutation};
@@ -13,28 +14,33 @@ use cert_types::poll::{Attempt, Poll};
 use cert_types::task::Task;
 use cnf_encode::encode::encode;
 use pack_defs::book::Book;
-use pack_defs::worker::Worker;
+use pack_defs::worker::{Kind, Worker};
 use std::alloc::{AllocError as NoMemory, Global};
 use std::marker::Model;
 
 /// A solver that decides and propagates over the packing formula, and learns a line of a proof from each conflict.
-/// Contracts see it as its worker.
+/// Contracts see it as its worker, which is one that learns.
 #[derive(Drop)]
 pub struct Cdcl {
     worker: Worker,
 }
 
 impl Model for Cdcl {
+    ghost use Rattle.std.specs.Prelude.{◌≡◌, true};
     ghost use Rattle.pack_defs.specs.declared.worker.Worker.{Worker};
+    ghost use Rattle.cert_types.specs.Valid.{learns};
 
     ghost Value = { Worker };
 
     ghost view = { λ c. c.worker };
+
+    ghost invariant = { λ c. learns c.worker.kind ≡ true };
 }
 
 impl Cdcl {
-    /// The solver of a worker, which spends the worker's budget in lines. The only error is want of memory.
+    /// The solver of a worker that learns, which spends the worker's budget in lines. The only error is want of memory.
     pub fn new(_alloc: Global, worker: &Worker) -> Result<Cdcl, NoMemory>
+        requires { worker.now.kind ≡ Kind.Cdcl }
         ensures { IfOk result (λ solver. solver ≡ worker.now) }
     {
         Ok(Cdcl { worker: *worker })
@@ -76,7 +82,8 @@ fn attempt_part<P: Poll>(
     worker: Worker,
     poll: &mut P,
 ) -> Result<Option<Attempt>, NoMemory>
-    requires { IsQuery book.now task.now }
+    requires query { IsQuery book.now task.now }
+    requires learner { learns worker.kind ≡ true }
     ensures said { IfOk result (λ r. IfSome r (λ attempt. AttemptIs book.now task.now worker (P.last poll.new) attempt)) }
     ensures goes { P.goes poll.old poll.new }
 {
@@ -96,7 +103,8 @@ fn attempt_within<P: Poll>(
     worker: Worker,
     poll: &mut P,
 ) -> Result<Option<Attempt>, NoMemory>
-    requires { is_subset part.now task.now.set ≡ true }
+    requires subset { is_subset part.now task.now.set ≡ true }
+    requires learner { learns worker.kind ≡ true }
     ensures said { IfOk result (λ r. IfSome r (λ attempt. AttemptIs book.now task.now worker (P.last poll.new) attempt)) }
     ensures goes { P.goes poll.old poll.new }
 {
@@ -120,7 +128,8 @@ fn attempt_whole<P: Poll>(
     worker: Worker,
     poll: &mut P,
 ) -> Result<Attempt, NoMemory>
-    requires { IsQuery book.now task.now }
+    requires query { IsQuery book.now task.now }
+    requires learner { learns worker.kind ≡ true }
     ensures said { IfOk result (λ attempt. AttemptIs book.now task.now worker (P.last poll.new) attempt) }
     ensures goes { P.goes poll.old poll.new }
 {

@@ -1,11 +1,11 @@
-ghost use Rattle.std.specs.Prelude.{ℕ, ◌≡◌, ◌+◌, ◌≤◌, ◌++◌, ◌∷◌, [], IfNone, IfOk, IfSome, None, OnOk, false, length, true};
+ghost use Rattle.std.specs.Prelude.{ℕ, ◌≡◌, ◌+◌, ◌≤◌, ◌++◌, ◌∷◌, [], IfNone, IfOk, IfSome, None, OnOk, false, filter, length, true};
 ghost use Rattle.clause_db.specs.Clause.{clause_at, is_empty_clause};
 ghost use Rattle.clause_db.specs.Clauses.{ClausesWithin, LitWithin};
 ghost use Rattle.rup_check.specs.Follows.{line_fault};
 ghost use Rattle.cert_types.specs.Spent.{AreSpentLines};
 ghost use Rattle.trail_prop.specs.Entries.{level_of, lits_of};
 ghost use Rattle.trail_prop.specs.Open.{IsComplete, value_of};
-ghost use Rattle.trail_prop.specs.Trails.{IsFalseAt};
+ghost use Rattle.trail_prop.specs.Trails.{Grows, IsFalseAt, is_up_to};
 ghost use Rattle.cdcl_prove.specs.Derivation.{clauses_of};
 
 use clause_db::list::ClauseList;
@@ -78,6 +78,7 @@ impl Derivation {
         ensures formula { self.new.formula ≡ self.old.formula }
         ensures lines { self.new.lines ≡ self.old.lines }
         ensures grows { length self.old.entries ≤ length self.new.entries }
+        ensures forced { Grows self.old.entries self.new.entries }
         ensures conflict { IfOk result (λ r. IfSome r (λ c. IsFalseAt (lits_of self.new.entries) (clause_at (clauses_of self.new).list c.clause))) }
         ensures complete { IfOk result (λ r. IfNone r (IsComplete (clauses_of self.new).list (lits_of self.new.entries))) }
     {
@@ -100,6 +101,7 @@ impl Derivation {
         requires { level ≤ level_of self.old.entries }
         ensures formula { self.new.formula ≡ self.old.formula }
         ensures lines { self.new.lines ≡ self.old.lines }
+        ensures entries { self.new.entries ≡ filter (is_up_to level) self.old.entries }
     {
         self.trail.backjump(level);
     }

@@ -42,8 +42,8 @@ impl Poll for Steady {
     }
 }
 
-// What an attempt came to, with the number of lines. `Wrong`: its answer was not let through, the task is no query, or
-// memory ran out.
+// What an attempt came to, with the number of lines. `Wrong`: its answer was not let through or is one of a walk, the task
+// is no query, or memory ran out.
 #[derive(Clone, Copy, Debug, PartialEq, Eq)]
 pub(crate) enum Said {
     Fit,
@@ -89,10 +89,13 @@ fn kind_of(answer: &Answer) -> Said {
             Said::Refuted(log.lines.as_slice().len())
         }
         Answer::Spent(Receipt::Lines(log)) => Said::Spent(log.lines.as_slice().len()),
+        _ => Said::Wrong,
     }
 }
 
-pub(crate) fn learner(budget: u32) -> Worker {
+pub(crate) fn learner(budget: u32) -> Worker
+    ensures { result.kind ≡ Kind.Cdcl }
+{
     Worker {
         kind: Kind::Cdcl,
         budget,

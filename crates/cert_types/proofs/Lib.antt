@@ -5,4 +5,5 @@ pub mod Refuting
 pub mod SpentLaws
 pub mod SubsetLemmas
 pub mod Validity
+pub mod WalkLemmas
 pub mod DeltaLemmas

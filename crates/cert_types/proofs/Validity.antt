@@ -16,12 +16,12 @@ use Rattle.rup_check.proofs.Reading.{line-passed, no-lines}
 use Rattle.cert_types.specs.declared.task.Task.{Task}
 use Rattle.cert_types.specs.declared.answer.Answer.TheVariants.{Refuted}
 use Rattle.cert_types.specs.declared.answer.Refutation.{Refutation}
-use Rattle.cert_types.specs.declared.answer.Refutation.TheVariants.{Proof}
+use Rattle.cert_types.specs.declared.answer.Refutation.TheVariants.{Proof, Dead}
 use Rattle.cert_types.specs.declared.answer.Place.{Place}
-use Rattle.cert_types.specs.declared.answer.Place.TheVariants.{Count, Subset, LineAt}
+use Rattle.cert_types.specs.declared.answer.Place.TheVariants.{Kind, Count, Subset, PairOf, LineAt}
 use Rattle.cert_types.specs.FirstLine.{first_line}
-use Rattle.cert_types.specs.Refutes.{Refutes, ByLog, is_subset, is_proof_line}
-use Rattle.cert_types.specs.Valid.{answer_fault, fit_fault, place_of, unless}
+use Rattle.cert_types.specs.Refutes.{Refutes, ByLog, ByPair, is_dead, is_subset, is_proof_line}
+use Rattle.cert_types.specs.Valid.{answer_fault, fit_fault, learns, place_of, unless}
 
 pub unless-parts : (b : Bool) (place : Place) (rest : Option Place) → unless b place rest ≡ None → (b ≡ true) × (rest ≡ None)
 unless-parts true place rest e = (refl, e)
@@ -67,11 +67,13 @@ pub valid-refutes : (book : BookView) (task : Task) (worker : Worker) (how : Ref
 unfolding answer_fault
 valid-refutes book task worker (Proof subset log) e =
     let counted : Bool = nat_lt 0 (length log.lines) && nat_le (length log.lines) worker.budget in
-    let count = unless-parts counted Count (unless (is_subset subset task.set) Subset (option_map LineAt (proof_line book subset log.lines))) e in
+    let kind = unless-parts (learns worker.kind) Kind (unless counted Count (unless (is_subset subset task.set) Subset (option_map LineAt (proof_line book subset log.lines)))) e in
+    let count = unless-parts counted Count (unless (is_subset subset task.set) Subset (option_map LineAt (proof_line book subset log.lines))) kind.1 in
     let sub = unless-parts (is_subset subset task.set) Subset (option_map LineAt (proof_line book subset log.lines)) count.1 in
     let some = and_parts (nat_lt 0 (length log.lines)) (nat_le (length log.lines) worker.budget) count.0 in
     let both = proof-follows (variables_in book subset) (packing_formula book subset) 1 log.lines (some_line log.lines some.0) (no_map LineAt (proof_line book subset log.lines) sub.1) in
     ByLog subset log.lines sub.0 both.0 both.1
+valid-refutes book task worker (Dead p) e = ByPair p (unless-parts (is_dead book task.set p) (PairOf p) None e).0
 
 -- a fit without fault leaves a clean map of exactly the task's set
 pub fit-clean : (book : BookView) (task : Task) (delta : List (ℕ × ℕ)) → fit_fault book task delta ≡ None → IsCleanOn book task.set (overlaid task.last delta)

@@ -5,3 +5,4 @@ pub mod Query
 pub mod Refutes
 pub mod Spent
 pub mod Valid
+pub mod Walks

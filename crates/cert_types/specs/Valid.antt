@@ -1,7 +1,10 @@
 -- The first place at which an answer to a query is at fault; none where it is valid. What answers a query and in which
 -- order its faults come is this project's own; a proof is one of LRAT over the clause form of the SATFC papers.
-use Rattle.std.specs.Prelude.{ℕ, Bool, true, false, ◌&&◌, ◌==◌, ◌≡◌, nat_lt, nat_le, List, length, Option, Some, None, option_map, ◌<◌, ◌≤◌}
+use Rattle.std.specs.Prelude.{ℕ, Bool, true, false, not, ◌&&◌, ◌==◌, ◌≡◌, nat_lt, nat_le, List, length, Option, Some, None, option_map, ◌<◌, ◌≤◌}
+use Rattle.pack_defs.specs.declared.pair.Pair.{Pair}
 use Rattle.pack_defs.specs.declared.worker.Worker.{Worker}
+use Rattle.pack_defs.specs.declared.worker.Kind.{Kind as WorkerKind}
+use Rattle.pack_defs.specs.declared.worker.Kind.TheVariants.{Cdcl, Walk}
 use Rattle.pack_defs.specs.Book.{BookView}
 use Rattle.pack_defs.specs.ChannelMap.{overlaid}
 use Rattle.assign_check.specs.declared.fault.MapFault.{MapFault}
@@ -13,13 +16,19 @@ use Rattle.rup_check.specs.Follows.{Follows, ends_empty}
 use Rattle.cert_types.specs.declared.task.Task.{Task}
 use Rattle.cert_types.specs.declared.answer.Answer.{Answer}
 use Rattle.cert_types.specs.declared.answer.Answer.TheVariants.{Fit, Refuted, Spent}
-use Rattle.cert_types.specs.declared.answer.Refutation.TheVariants.{Proof}
-use Rattle.cert_types.specs.declared.answer.Receipt.TheVariants.{Lines}
+use Rattle.cert_types.specs.declared.answer.Refutation.TheVariants.{Proof, Dead}
+use Rattle.cert_types.specs.declared.answer.Receipt.TheVariants.{Lines, Moves}
 use Rattle.cert_types.specs.declared.answer.Place.{Place}
-use Rattle.cert_types.specs.declared.answer.Place.TheVariants.{Count, Subset, Station, PairOf, LineAt}
+use Rattle.cert_types.specs.declared.answer.Place.TheVariants.{Kind, Count, Subset, Station, PairOf, LineAt, MoveAt}
 use Rattle.cert_types.specs.FirstLine.{first_line}
 use Rattle.cert_types.specs.Spent.{is_spent_line, AreSpentLines}
-use Rattle.cert_types.specs.Refutes.{is_subset, is_proof_line}
+use Rattle.cert_types.specs.Refutes.{is_dead, is_subset, is_proof_line}
+use Rattle.cert_types.specs.Walks.{AreSpentMoves, first_move, start_map}
+
+-- the worker learns clauses; else it walks over maps
+abbrev pub learns : WorkerKind → Bool
+learns Cdcl = true
+learns Walk = false
 
 -- the place of a map's fault
 abbrev pub place_of : MapFault → Place
@@ -37,24 +46,39 @@ unless false place rest = Some place
 abbrev pub fit_fault : BookView → Task → List (ℕ × ℕ) → Option Place
 fit_fault book task delta = option_map place_of (first_fault book task.set (overlaid task.last delta))
 
--- the fault of a log over the clauses of a subset: its number of lines, the subset, the first line that is no proof's
+-- the fault of a log over the clauses of a subset: whose it is, its number of lines, the subset, the first line that is no proof's
 abbrev pub proof_fault : BookView → Task → Worker → List ℕ → List Line → Option Place
 proof_fault book task worker subset lines =
-    unless (nat_lt 0 (length lines) && nat_le (length lines) worker.budget) Count
+    unless (learns worker.kind) Kind
+    (unless (nat_lt 0 (length lines) && nat_le (length lines) worker.budget) Count
     (unless (is_subset subset task.set) Subset
-    (option_map LineAt (first_line (is_proof_line (variables_in book subset)) (packing_formula book subset) 1 lines)))
+    (option_map LineAt (first_line (is_proof_line (variables_in book subset)) (packing_formula book subset) 1 lines))))
 
--- the fault of a receipt of lines: their number, the first line that is no receipt's
+-- the fault of a pair that is said to be dead
+abbrev pub dead_fault : BookView → Task → Pair → Option Place
+dead_fault book task p = unless (is_dead book task.set p) (PairOf p) None
+
+-- the fault of a receipt of lines: whose it is, their number, the first line that is no receipt's
 abbrev pub spent_lines_fault : BookView → Task → Worker → List Line → Option Place
 spent_lines_fault book task worker lines =
-    unless (length lines == worker.budget) Count
-    (option_map LineAt (first_line (is_spent_line (variables_in book task.set)) (packing_formula book task.set) 1 lines))
+    unless (learns worker.kind) Kind
+    (unless (length lines == worker.budget) Count
+    (option_map LineAt (first_line (is_spent_line (variables_in book task.set)) (packing_formula book task.set) 1 lines)))
+
+-- the fault of a receipt of moves: whose it is, their number, the first move that is no receipt's
+abbrev pub spent_moves_fault : BookView → Task → Worker → List (ℕ × ℕ) → Option Place
+spent_moves_fault book task worker moves =
+    unless (not (learns worker.kind)) Kind
+    (unless (length moves == worker.budget) Count
+    (option_map MoveAt (first_move book (start_map book task.last task.set) 1 moves)))
 
 -- the answer's first fault, in the order of the places
 unfoldable pub answer_fault : BookView → Task → Worker → Answer → Option Place
 answer_fault book task worker (Fit delta) = fit_fault book task delta
 answer_fault book task worker (Refuted (Proof subset log)) = proof_fault book task worker subset log.lines
+answer_fault book task worker (Refuted (Dead p)) = dead_fault book task p
 answer_fault book task worker (Spent (Lines log)) = spent_lines_fault book task worker log.lines
+answer_fault book task worker (Spent (Moves moves)) = spent_moves_fault book task worker moves
 
 -- the answer has no fault
 abbrev pub IsValid : BookView → Task → Worker → Answer → Type 0
@@ -62,15 +86,23 @@ IsValid book task worker answer = answer_fault book task worker answer ≡ None
 
 -- ---- the same in plain statements
 
--- a proof: of at most the worker's budget of lines and not none, over a subset of the query's set
+-- a proof: by a learner, of at most the worker's budget of lines and not none, over a subset of the query's set
 pub record IsProof (book : BookView) (task : Task) (worker : Worker) (subset : List ℕ) (lines : List Line) : Type 0 where
+  pub by_learner : learns worker.kind ≡ true
   pub some_line : 0 < length lines
   pub within_budget : length lines ≤ worker.budget
   pub of_subset : is_subset subset task.set ≡ true
   pub follows : Follows (variables_in book subset) (packing_formula book subset) lines
   pub ends : ends_empty lines ≡ true
 
--- a receipt of lines: of the worker's whole budget, over the query's set
+-- a receipt of lines: by a learner, of the worker's whole budget, over the query's set
 pub record IsSpentLog (book : BookView) (task : Task) (worker : Worker) (lines : List Line) : Type 0 where
+  pub by_learner : learns worker.kind ≡ true
   pub whole_budget : length lines ≡ worker.budget
   pub spent : AreSpentLines (variables_in book task.set) (packing_formula book task.set) lines
+
+-- a receipt of moves: by a walker, of the worker's whole budget, from the start map
+pub record IsSpentWalk (book : BookView) (task : Task) (worker : Worker) (moves : List (ℕ × ℕ)) : Type 0 where
+  pub by_walker : learns worker.kind ≡ false
+  pub whole_budget : length moves ≡ worker.budget
+  pub spent : AreSpentMoves book (start_map book task.last task.set) moves

@@ -4,13 +4,16 @@
 pub mod answer;
 pub mod certified;
 pub mod certify;
+mod dead;
 pub mod delta;
 mod first_line;
 pub mod laws;
+mod moves;
 pub mod poll;
 pub mod query;
 #[cfg(test)]
 mod samples;
+pub mod start;
 mod subset;
 pub mod task;
 #[cfg(test)]

@@ -5,7 +5,7 @@ ghost use Rattle.pack_defs.specs.Lists.{is_ascending, is_in};
 ghost use Rattle.cert_types.specs.Certificate.{IsTaskOf};
 ghost use Rattle.cert_types.specs.Query.{IsQuery, has_channels, is_on_domains, is_query};
 
-use crate::subset::ascends;
+use crate::subset::{ascends, is_in};
 use crate::task::Task;
 use pack_defs::book::Book;
 
@@ -53,12 +53,4 @@ fn is_on_domain(book: &Book, set: &[u32], x: (u32, u8)) -> bool
     ensures { result ≡ (is_in set.now x.0 && is_in (domain_of book.now x.0) x.1) }
 {
     is_in(set, x.0) && book.domain(x.0).contains(&x.1)
-}
-
-// Whether the ascending set has the station, by halves.
-fn is_in(set: &[u32], s: u32) -> bool
-    requires { IsTrue (is_ascending set.now) }
-    ensures { result ≡ is_in set.now s }
-{
-    set.binary_search(&s).is_ok()
 }

@@ -80,6 +80,11 @@ pub(crate) fn receipt(alloc: Global, texts: &[Text]) -> Result<Answer, NoMemory>
     Ok(Answer::Spent(Receipt::Lines(log(alloc, texts)?)))
 }
 
+pub(crate) fn walk(alloc: Global, moves: &[(u32, u8)]) -> Result<Answer, NoMemory> {
+    let moves = Items::from_vec(Vec::from_slice(alloc, moves)?);
+    Ok(Answer::Spent(Receipt::Moves(moves)))
+}
+
 pub(crate) fn fit(alloc: Global, delta: &[(u32, u8)]) -> Result<Answer, NoMemory>
     requires { IsAscending delta.now }
 {
@@ -119,6 +124,26 @@ pub(crate) fn four_stations(alloc: Global) -> Result<Book, NoMemory> {
     Book::build(alloc, 15, &[1, 2, 3, 4], &domains, &pairs)
 }
 
+// A station that may use channel 14 alone.
+fn on_first(alloc: Global, station: u32) -> Result<Domain, NoMemory>
+    ensures { IfOk result (λ d. (d.station ≡ station) × IsTrue (is_ascending d.channels)) }
+{
+    let channels = Items::from_vec(Vec::from_slice(alloc, &[14])?);
+    Ok(Domain { station, channels })
+}
+
+// Stations 1, 2 and 4 on channel 14, and 3 on two channels. Stations 1, 2 and 3 may not share channel 14.
+pub(crate) fn crowded_stations(alloc: Global) -> Result<Book, NoMemory> {
+    let domains = [
+        on_first(alloc, 1)?,
+        on_first(alloc, 2)?,
+        on_both(alloc, 3)?,
+        on_first(alloc, 4)?,
+    ];
+    let pairs = [on_one(1, 2, 14), on_one(1, 3, 14), on_one(2, 3, 14)];
+    Book::build(alloc, 15, &[1, 2, 3, 4], &domains, &pairs)
+}
+
 // The test of the last station of a set, while these channels stand.
 pub(crate) fn task(alloc: Global, set: &[u32], last: &[(u32, u8)]) -> Result<Task, NoMemory>
     requires set { IsTrue (is_ascending set.now) }
@@ -137,6 +162,14 @@ pub(crate) fn task(alloc: Global, set: &[u32], last: &[(u32, u8)]) -> Result<Tas
 pub(crate) fn learner(budget: u32) -> Worker {
     Worker {
         kind: Kind::Cdcl,
+        budget,
+        seed: 0,
+    }
+}
+
+pub(crate) fn walker(budget: u32) -> Worker {
+    Worker {
+        kind: Kind::Walk,
         budget,
         seed: 0,
     }

@@ -23,13 +23,21 @@ pub(crate) fn ascends(numbers: &[u32]) -> bool
     true
 }
 
-// Whether each number is in the ascending set, by halves.
+/// Whether the ascending set has the number, by halves.
+pub(crate) fn is_in(set: &[u32], number: u32) -> bool
+    requires { IsTrue (is_ascending set.now) }
+    ensures { result ≡ is_in set.now number }
+{
+    set.binary_search(&number).is_ok()
+}
+
+// Whether each number is in the ascending set.
 fn are_in(numbers: &[u32], set: &[u32]) -> bool
     requires { IsTrue (is_ascending set.now) }
     ensures { result ≡ list_all (is_in set.now) numbers.now }
 {
     for number in numbers {
-        if set.binary_search(number).is_err() {
+        if !is_in(set, *number) {
             return false;
         }
     }

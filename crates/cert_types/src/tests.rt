@@ -1,10 +1,16 @@
+ghost use Rattle.std.specs.Prelude.{IsTrue};
+ghost use Rattle.pack_defs.specs.ChannelMap.{IsAscending};
+ghost use Rattle.pack_defs.specs.Lists.{is_ascending};
+
 use crate::answer::{Answer, CertifyFault, CertifyWhy, Place, Receipt, Refutation};
 use crate::certified::Certified;
 use crate::certify::certify;
 use crate::samples::{
-    EMPTY_AGAIN, NOT_ONE, OUT_OF_TURN, THE_END, Text, fit, four_stations, learner, on_one, proof,
-    receipt, task,
+    EMPTY_AGAIN, NOT_ONE, OUT_OF_TURN, THE_END, Text, crowded_stations, fit, four_stations,
+    learner, on_one, proof, receipt, task, walk, walker,
 };
+use crate::start::start_map;
+use pack_defs::pair::Pair;
 use rup_check::line::Line;
 use std::alloc::{AllocError as NoMemory, Global};
 use std::test::Fail;
@@ -22,7 +28,12 @@ fn checked(
 
 // Where the answer is at fault.
 fn fault(alloc: Global, budget: u32, answer: Answer) -> Result<Option<Place>, NoMemory> {
-    match checked(alloc, budget, answer)? {
+    place(checked(alloc, budget, answer)?)
+}
+
+// The place of a refusal.
+fn place(checked: Result<Certified, CertifyFault>) -> Result<Option<Place>, NoMemory> {
+    match checked {
         Ok(_) => Ok(None),
         Err(fault) => match fault.why {
             CertifyWhy::Rejected(place) => Ok(Some(place)),
@@ -142,6 +153,150 @@ fn first_of_two_faults_of_receipts(rt: HostRuntime) -> Result<(), Fail> {
     Ok(())
 }
 
+// Where an answer of a walker to the test of the first three stations, while none has a channel, is at fault.
+fn walkers_fault(alloc: Global, budget: u32, answer: Answer) -> Result<Option<Place>, NoMemory> {
+    let book = four_stations(alloc)?;
+    let task = task(alloc, &[1, 2, 3], &[])?;
+    place(certify(alloc, &book, &task, &walker(budget), answer))
+}
+
+// The first of these walks that is not at fault where it should be, by its place from 0.
+fn wrong_walk(
+    alloc: Global,
+    cases: &[(u32, &[(u32, u8)], Option<Place>)],
+) -> Result<Option<usize>, NoMemory> {
+    for (i, (budget, moves, want)) in cases.iter().enumerate() {
+        if walkers_fault(alloc, *budget, walk(alloc, moves)?)? != *want {
+            return Ok(Some(i));
+        }
+    }
+    Ok(None)
+}
+
+#[test]
+fn faults_of_walks(rt: HostRuntime) -> Result<(), Fail> {
+    let count = Some(Place::Count);
+    let cases: [(u32, &[(u32, u8)], Option<Place>); 12] = [
+        // From 1, 2 and 3 on 14: 2 and 3 stay on one channel, and then 1 and 2.
+        (1, &[(1, 15)], None),
+        (2, &[(1, 15), (2, 15)], None),
+        // The number of moves.
+        (1, &[], count),
+        (2, &[(1, 15)], count),
+        (1, &[(1, 15), (2, 15)], count),
+        // A move onto its own channel, off the domain, and of stations in no violated pair.
+        (1, &[(1, 14)], Some(Place::MoveAt(1))),
+        (1, &[(1, 16)], Some(Place::MoveAt(1))),
+        (1, &[(4, 15)], Some(Place::MoveAt(1))),
+        (1, &[(9, 15)], Some(Place::MoveAt(1))),
+        (2, &[(1, 15), (1, 14)], Some(Place::MoveAt(2))),
+        (3, &[(1, 15), (2, 15), (3, 15)], Some(Place::MoveAt(3))),
+        // The first of two.
+        (2, &[(1, 16), (2, 14)], Some(Place::MoveAt(1))),
+    ];
+    assert_eq!(rt; wrong_walk(rt.alloc(), &cases)?, None);
+    Ok(())
+}
+
+// Where one move of two stations from these channels is at fault.
+fn move_fault(alloc: Global, last: &[(u32, u8)], x: (u32, u8)) -> Result<Option<Place>, NoMemory>
+    requires { IsAscending last.now }
+{
+    let book = four_stations(alloc)?;
+    let task = task(alloc, &[1, 2], last)?;
+    let answer = walk(alloc, &[x])?;
+    place(certify(alloc, &book, &task, &walker(1), answer))
+}
+
+#[test]
+fn last_map_without_violations(rt: HostRuntime) -> Result<(), Fail> {
+    let first = Some(Place::MoveAt(1));
+    // From 1 and 2 on 14, 1 moves away; and it is away at the start.
+    assert_eq!(rt; move_fault(rt.alloc(), &[], (1, 15))?, first);
+    assert_eq!(rt;
+        move_fault(rt.alloc(), &[(1, 15), (2, 14)], (1, 14))?,
+        first
+    );
+    Ok(())
+}
+
+// Whether a walk over stations 1, 2 and 9, which has no channel, starts from these entries.
+fn starts_from(alloc: Global, last: &[(u32, u8)], entries: &[(u32, u8)]) -> Result<bool, NoMemory>
+    requires { IsAscending last.now }
+{
+    let book = four_stations(alloc)?;
+    let task = task(alloc, &[1, 2, 9], last)?;
+    Ok(start_map(alloc, &book, &task)?.as_slice() == entries)
+}
+
+#[test]
+fn start_map_of_a_task(rt: HostRuntime) -> Result<(), Fail> {
+    assert!(rt; starts_from(rt.alloc(), &[], &[(1, 14), (2, 14), (9, 0)])?);
+    assert!(rt; starts_from(rt.alloc(), &[(2, 15)], &[(1, 14), (2, 15), (9, 0)])?);
+    Ok(())
+}
+
+// Whether moves of a learner, and a receipt of lines and a proof of a walker, are of the other kind.
+fn are_of_other_kind(alloc: Global, budget: u32) -> Result<bool, NoMemory> {
+    let kind = Some(Place::Kind);
+    let moves = fault(alloc, budget, walk(alloc, &[(3, 15)])?)?;
+    let spent = walkers_fault(alloc, budget, receipt(alloc, &[NOT_ONE])?)?;
+    let proved = walkers_fault(
+        alloc,
+        budget,
+        proof(alloc, &[1, 2, 3], &[NOT_ONE, THE_END])?,
+    )?;
+    Ok(moves == kind && spent == kind && proved == kind)
+}
+
+#[test]
+fn answers_of_the_other_kind(rt: HostRuntime) -> Result<(), Fail> {
+    // 1 is the number of the moves and of the receipt's lines, 2 that of the proof's, and 3 of none.
+    assert!(rt; are_of_other_kind(rt.alloc(), 1)?);
+    assert!(rt; are_of_other_kind(rt.alloc(), 2)?);
+    assert!(rt; are_of_other_kind(rt.alloc(), 3)?);
+    Ok(())
+}
+
+// Where a pair that is said to be dead, of the test of some of the crowded stations, is at fault.
+fn dead_fault(alloc: Global, set: &[u32], pair: Pair) -> Result<Option<Place>, NoMemory>
+    requires { IsTrue (is_ascending set.now) }
+{
+    let book = crowded_stations(alloc)?;
+    let task = task(alloc, set, &[])?;
+    let answer = Answer::Refuted(Refutation::Dead(pair));
+    place(certify(alloc, &book, &task, &walker(1), answer))
+}
+
+#[test]
+fn faults_of_dead_pairs(rt: HostRuntime) -> Result<(), Fail> {
+    let alloc = rt.alloc();
+    let dead = on_one(1, 2, 14);
+    assert_eq!(rt; dead_fault(alloc, &[1, 2], dead)?, None);
+    assert_eq!(rt; dead_fault(alloc, &[1, 2, 3, 4], dead)?, None);
+    assert_eq!(rt;
+        dead_fault(alloc, &[1, 3], dead)?,
+        Some(Place::PairOf(dead))
+    );
+    assert_eq!(rt;
+        dead_fault(alloc, &[2, 3], dead)?,
+        Some(Place::PairOf(dead))
+    );
+    // The first two are not the book's; a station of the last two has two channels.
+    for pair in [
+        on_one(1, 4, 14),
+        on_one(2, 1, 14),
+        on_one(1, 3, 14),
+        on_one(2, 3, 14),
+    ] {
+        assert_eq!(rt;
+            dead_fault(alloc, &[1, 2, 3, 4], pair)?,
+            Some(Place::PairOf(pair))
+        );
+    }
+    Ok(())
+}
+
 fn same_lines(one: &[Line], other: &[Line]) -> bool {
     one.len() == other.len()
         && one.iter().zip(other).all(|(a, b)| {
@@ -156,6 +311,10 @@ fn same(one: &Answer, other: &Answer) -> bool {
             Answer::Refuted(Refutation::Proof { subset: a, log: c }),
             Answer::Refuted(Refutation::Proof { subset: b, log: d }),
         ) => a.as_slice() == b.as_slice() && same_lines(c.lines.as_slice(), d.lines.as_slice()),
+        (Answer::Refuted(Refutation::Dead(a)), Answer::Refuted(Refutation::Dead(b))) => a == b,
+        (Answer::Spent(Receipt::Moves(a)), Answer::Spent(Receipt::Moves(b))) => {
+            a.as_slice() == b.as_slice()
+        }
         (Answer::Spent(Receipt::Lines(a)), Answer::Spent(Receipt::Lines(b))) => {
             same_lines(a.lines.as_slice(), b.lines.as_slice())
         }
@@ -217,5 +376,7 @@ fn refused_answers_come_back(rt: HostRuntime) -> Result<(), Fail> {
     assert!(rt; hands_back(spent, &receipt(alloc, &lines)?));
     let fitted = checked(alloc, 1, fit(alloc, &[(3, 15)])?)?;
     assert!(rt; hands_back(fitted, &fit(alloc, &[(3, 15)])?));
+    let walked = checked(alloc, 1, walk(alloc, &[(3, 15)])?)?;
+    assert!(rt; hands_back(walked, &walk(alloc, &[(3, 15)])?));
     Ok(())
 }

@@ -13,7 +13,7 @@ use Rattle.auction_core.specs.declared.clock.Standing.{Standing}
 use Rattle.auction_core.specs.declared.clock.Standing.TheVariants.{Active, OnAir}
 use Rattle.auction_core.specs.declared.record.Record.{Record}
 use Rattle.auction_core.specs.declared.record.Shown.{Shown}
-use Rattle.auction_core.specs.declared.record.Shown.TheVariants.{Empty, Fits, NoChannel, Unfit, Refuted, Undecided}
+use Rattle.auction_core.specs.declared.record.Shown.TheVariants.{Empty, Fits, NoChannel, Refuted, Undecided}
 use Rattle.auction_core.specs.declared.record.Step.{Step}
 use Rattle.auction_core.specs.declared.record.Ending.TheVariants.{Done}
 use Rattle.auction_core.specs.State.{shows_room}
@@ -81,7 +81,6 @@ answered-frozen : (sc : Scenario) (tests : List ClockTest) (t : ClockTest) (show
 answered-frozen sc tests t Empty h = fits-unfrozen sc tests t
 answered-frozen sc tests t (Fits delta) h = fits-unfrozen sc tests t
 answered-frozen sc tests t (NoChannel s) h = h
-answered-frozen sc tests t Unfit h = h
 answered-frozen sc tests t (Refuted worker how) h = h
 answered-frozen sc tests t (Undecided receipts) h = h
 

@@ -169,17 +169,18 @@ pub record AreWorkers (ws : List Worker) : Type 0 where
   pub some : 1 ≤ length ws
   pub many : length ws ≤ 16
   pub each : All IsWorkerWithinLimits ws
+  pub proves : list_any is_prover ws ≡ true
 
-prover-gives : (P : List Worker → Type 0) (ws : List Worker) → P ws → Gives P (with_prover ws)
+prover-gives : (P : List Worker → Type 0) (ws : List Worker) → (list_any is_prover ws ≡ true → P ws) → Gives P (with_prover ws)
 prover-gives P ws holds =
-    elim (cases_Bool (list_any is_prover ws)) [ inl t ↦ rw t holds | inr f ↦ rw f (λ e. cc) ]
+    elim (cases_Bool (list_any is_prover ws)) [ inl t ↦ rw t (holds t) | inr f ↦ rw f (λ e. cc) ]
 
 workers-give : (d : Data) → Gives AreWorkers (workers_in d)
 unfolding workers_in
 workers-give d =
     then-gives AreWorkers (list names.Workers 1 16 d) _ (list-gives names.Workers 1 16 d) (λ items few.
     then-gives AreWorkers (each_from worker_in 1 items) _ (each-gives IsWorkerWithinLimits worker_in worker-gives 1 items) (λ ws each.
-    prover-gives AreWorkers ws (record { some = omega (arith, each.1, few.0); many = omega (arith, each.1, few.1); each = each.0 })))
+    prover-gives AreWorkers ws (λ proves. record { some = omega (arith, each.1, few.0); many = omega (arith, each.1, few.1); each = each.0; proves = proves })))
 
 -- ---- stations
 
@@ -246,17 +247,25 @@ stations-give d =
 
 -- ---- the whole
 
-scenario_in-gives : (d : Data) → Gives IsWithinLimits (scenario_in d)
+-- one of the workers proves
+abbrev HasProver : Scenario → Type 0
+HasProver sc = list_any is_prover sc.workers ≡ true
+
+-- what holds of a scenario that is read
+abbrev pub IsAccepted : Scenario → Type 0
+IsAccepted sc = IsWithinLimits sc × HasProver sc
+
+scenario_in-gives : (d : Data) → Gives IsAccepted (scenario_in d)
 unfolding scenario_in
 scenario_in-gives d =
-    then-gives IsWithinLimits (object_in names.Scenario 0 d) _ (object-gives names.Scenario 0 d) (λ o _.
-    then-gives IsWithinLimits (number names.Version 0 1 1 o) _ (number-gives names.Version 0 1 1 o) (λ version _.
-    then-gives IsWithinLimits (number names.Top 0 14 51 o) _ (number-gives names.Top 0 14 51 o) (λ top high.
-    then-gives IsWithinLimits (number names.Opening 0 1 1000000 o) _ (number-gives names.Opening 0 1 1000000 o) (λ opening price.
-    then-gives IsWithinLimits (decrements_in opening o) _ (decrements-give opening o) (λ decrements falling.
-    then-gives IsWithinLimits (stations_in o) _ (stations-give o) (λ stations all.
-    then-gives IsWithinLimits (workers_in o) _ (workers-give o) (λ workers some.
-    record {
+    then-gives IsAccepted (object_in names.Scenario 0 d) _ (object-gives names.Scenario 0 d) (λ o _.
+    then-gives IsAccepted (number names.Version 0 1 1 o) _ (number-gives names.Version 0 1 1 o) (λ version _.
+    then-gives IsAccepted (number names.Top 0 14 51 o) _ (number-gives names.Top 0 14 51 o) (λ top high.
+    then-gives IsAccepted (number names.Opening 0 1 1000000 o) _ (number-gives names.Opening 0 1 1000000 o) (λ opening price.
+    then-gives IsAccepted (decrements_in opening o) _ (decrements-give opening o) (λ decrements falling.
+    then-gives IsAccepted (stations_in o) _ (stations-give o) (λ stations all.
+    then-gives IsAccepted (workers_in o) _ (workers-give o) (λ workers some.
+    let limits : IsWithinLimits (record { version = version; top = top; opening = opening; decrements = decrements; stations = stations; workers = workers }) = record {
       least_top = high.0;
       top = high.1;
       some_opening = price.0;
@@ -270,23 +279,27 @@ scenario_in-gives d =
       some_worker = some.some;
       workers = some.many;
       each_worker = some.each;
-    })))))))
+    } in
+    (limits, some.proves))))))))
 
-pub scenario-gives : (bytes : List ℕ) → Gives IsWithinLimits (scenario_of bytes)
+pub scenario-gives : (bytes : List ℕ) → Gives IsAccepted (scenario_of bytes)
 unfolding scenario_of
 scenario-gives bytes =
-    then-gives IsWithinLimits (json_in bytes) _ (option-gives (cond (is_utf8 bytes) (read bytes) None) Syntax (λ e. cc)) (λ d _. scenario_in-gives d)
+    then-gives IsAccepted (json_in bytes) _ (option-gives (cond (is_utf8 bytes) (read bytes) None) Syntax (λ e. cc)) (λ d _. scenario_in-gives d)
 
 -- an answer of such a reading is of such a value
 pub limits-read : (d : Data) (answer : Result Scenario ScenarioErr) → Reads (scenario_in d) answer → IfOk answer IsWithinLimits
 limits-read d answer reads = elim reads [
-  | inl same ↦ rw same (MatchResult-weaker (scenario_in d) (scenario_in-gives d) (λ sc h. h) (λ why other. tt))
+  | inl same ↦ rw same (MatchResult-weaker (scenario_in d) (scenario_in-gives d) (λ sc h. h.0) (λ why other. tt))
   | inr memory ↦ rw memory tt
 ]
 
 pub read-limits : (bytes : List ℕ) → IfOk (scenario_of bytes) IsWithinLimits
-read-limits bytes = MatchResult-weaker (scenario_of bytes) (scenario-gives bytes) (λ sc h. h) (λ why other. tt)
+read-limits bytes = MatchResult-weaker (scenario_of bytes) (scenario-gives bytes) (λ sc h. h.0) (λ why other. tt)
+
+pub read-prover : (bytes : List ℕ) → IfOk (scenario_of bytes) HasProver
+read-prover bytes = MatchResult-weaker (scenario_of bytes) (scenario-gives bytes) (λ sc h. h.1) (λ why other. tt)
 
 -- want of memory is no refusal of a text
 pub no-memory : (bytes : List ℕ) → scenario_of bytes ≢ Err NoMemory
-no-memory bytes e = MatchResult-at_err IsWithinLimits (λ why. why ≢ NoMemory) NoMemory e (scenario-gives bytes) refl
+no-memory bytes e = MatchResult-at_err IsAccepted (λ why. why ≢ NoMemory) NoMemory e (scenario-gives bytes) refl

@@ -97,7 +97,7 @@ stations_in d = do
 
 -- the kind of that name
 abbrev pub kind_named : List ℕ → Option Kind
-kind_named text = if bytes_eq text (codes "cdcl") then Some Cdcl else None
+kind_named text = if bytes_eq text (codes "cdcl") then Some Cdcl else if bytes_eq text (codes "walk") then Some Walk else None
 
 -- the kind of the worker that an object is
 abbrev pub kind_in : ℕ → Data → Result Kind ScenarioErr

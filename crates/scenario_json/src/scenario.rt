@@ -25,16 +25,15 @@ use std::alloc::Global;
 /// - `decrements`: a list of at most 1,000 numbers, each 1 to 1,000,000, together at most the opening price.
 /// - `stations`: a list of at most 4,096 objects, in any order. `id`: 0 to 4,294,967,295, each once. `volume`: 1 to
 ///   1,000,000. `value`: 0 to 10^15 cents; null or absent for a station without a value.
-/// - `workers`: a list of 1 to 16 objects. `kind`: "cdcl". `budget`: 1 to 100,000 proof lines. `seed`: a number; 0 where
-///   it is absent.
-///
-/// Kind "walk", with a budget of 1 to 1,000,000 moves, is not taken yet. One worker at least has to be of kind "cdcl".
+/// - `workers`: a list of 1 to 16 objects, one at least of kind "cdcl". `kind`: "cdcl" or "walk". `budget`, of a query: 1
+///   to 100,000 proof lines for "cdcl", 1 to 1,000,000 moves for "walk". `seed`: a number; 0 where it is absent.
 ///
 /// # Errors
 ///
 /// The first refusal in the order of this list: `Syntax` for the bytes as a whole; then for each member `MissingField`,
 /// `WrongKind` and `OutOfLimit`, in this order. A list's length is looked at before its items, and the items in their
-/// order, each with its members in the order above. `SumOverOpening` comes after the last decrement, `RepeatedStation`
+/// order, each with its members in the order above, so that a worker's budget is judged by its kind. Another text for a
+/// kind is `OutOfLimit`. `SumOverOpening` comes after the last decrement, `RepeatedStation`
 /// after an id's limits, and `NoProver` after the last worker. A decrement that is no number, and a station or a worker
 /// that is no object, has its list's name and its place. `NoMemory` comes for want of memory alone.
 #[tactic(auto, unfolding(crate::specs::ScenarioOf::scenario_of))]

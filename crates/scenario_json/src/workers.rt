@@ -13,7 +13,7 @@ use pack_defs::worker::{Kind, Worker};
 use serde_json::Value;
 use std::alloc::Global;
 
-/// The workers of the object, of which one at least proves.
+/// The workers of the object, of which one at least is of kind "cdcl".
 #[tactic(auto, unfolding(crate::specs::ScenarioOf::workers_in))]
 pub(crate) fn workers_in(alloc: Global, object: &Value) -> Result<Items<Worker>, ScenarioErr>
     ensures { Reads (workers_in (view object.now)) result }
@@ -43,7 +43,7 @@ fn one_proves(workers: &[Worker]) -> bool
     workers.iter().any(is_prover)
 }
 
-// Whether the worker searches and proves.
+// Whether the worker is of kind "cdcl", whose solvers prove.
 fn is_prover(worker: &Worker) -> bool
     ensures { result ≡ is_prover worker.now }
 {
@@ -82,12 +82,13 @@ fn kind_in(object: &Value, at: u64) -> Result<Kind, ScenarioErr>
     Ok(kind)
 }
 
-// The kind of this name. Workers of kind "walk" are not taken yet.
+// The kind of this name.
 fn kind_named(text: &str) -> Option<Kind>
     ensures { result ≡ kind_named text.now }
 {
     match text {
         "cdcl" => Some(Kind::Cdcl),
+        "walk" => Some(Kind::Walk),
         _ => None,
     }
 }

@@ -144,7 +144,8 @@ fn a_scenario_is_refused(rt: HostRuntime) -> Result<(), Fail> {
             "[60,41]",
             "s.json: decrements exceed the opening\n",
         ),
-        ("\"cdcl\"", "\"walk\"", "s.json: out of limit kind at 1\n"),
+        ("\"cdcl\"", "\"walker\"", "s.json: out of limit kind at 1\n"),
+        ("\"cdcl\"", "\"walk\"", "s.json: no cdcl worker\n"),
         (
             "[{\"kind\":\"cdcl\",\"budget\":1000}]",
             "[]",

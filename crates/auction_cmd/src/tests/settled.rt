@@ -236,7 +236,7 @@ fn refuted(record: &Record) -> Option<&Shown> {
     }
 }
 
-// Whether the start set of these stations is refuted by a search (none) or by this station without a channel.
+// Whether the start set of these stations is refuted by a worker (none) or by this station without a channel.
 fn is_refuted(
     alloc: Global,
     domains: &str,
@@ -250,7 +250,7 @@ fn is_refuted(
         return Ok(false);
     };
     let is_shown = match refuted(record) {
-        Some(Shown::Unfit) => bare.is_none(),
+        Some(Shown::Refuted { .. }) => bare.is_none(),
         Some(Shown::NoChannel(station)) => bare == Some(*station),
         _ => false,
     };
@@ -271,4 +271,33 @@ fn a_start_station_without_a_channel(rt: HostRuntime) -> Result<(), Fail> {
     let domains = "DOMAIN,1,14\nDOMAIN,2,16\nDOMAIN,3\n";
     assert!(rt; is_refuted(rt.alloc(), domains, "", THREE_PLAIN, Some(2))?);
     Ok(())
+}
+
+// Two stations on one channel alone, tried by a worker that proves and by one that walks.
+#[test]
+fn a_start_set_refuted_by_either_kind(rt: HostRuntime) -> Result<(), Fail> {
+    let alloc = rt.alloc();
+    let workers = "},{\"kind\":\"walk\",\"budget\":10}]}";
+    assert!(rt; is_refuted_by(alloc, "}]}", workers)?);
+    let walk_first = "\"workers\":[{\"kind\":\"walk\",\"budget\":10},";
+    assert!(rt; is_refuted_by(alloc, "\"workers\":[", walk_first)?);
+    Ok(())
+}
+
+// Whether the start set of two stations on one channel is refuted, with this part of the scenario changed.
+fn is_refuted_by(alloc: Global, part: &str, other: &str) -> Result<bool, NoMemory> {
+    let scenario = changed(alloc, part, other)?;
+    let Some((before, after)) = scenario.split_once(THREE) else {
+        return Ok(false);
+    };
+    let mut text = String::from_str(alloc, before)?;
+    text.push_str(TWO_PLAIN)?;
+    text.push_str(after)?;
+    let files = texts("DOMAIN,1,14\nDOMAIN,2,14\n", "CO,14,14,1,2\n", &text);
+    let ended = run_on(alloc, COMMAND, files)?;
+    let Some(record) = &ended.finish.result else {
+        return Ok(false);
+    };
+    let is_shown = matches!(refuted(record), Some(Shown::Refuted { .. }));
+    Ok(is_shown && has_stopped(&ended, 6, "the start set does not fit\n"))
 }

@@ -1,7 +1,7 @@
 //! What is read of texts that are accepted.
 
 use crate::scenario::read_scenario;
-use crate::tests::{TEXT, changed, refusal};
+use crate::tests::{DECREMENTS, STATIONS, TEXT, changed, refusal, with_lists};
 use pack_defs::worker::Kind;
 use std::test::Fail;
 
@@ -25,17 +25,20 @@ fn reads_three_stations(rt: HostRuntime) -> Result<(), Fail> {
 
 #[test]
 fn reads_workers(rt: HostRuntime) -> Result<(), Fail> {
-    let more = r#""budget":1000},{"seed":18446744073709551615,"budget":7,"kind":"cdcl""#;
-    let text = changed(&rt, r#""budget":1000"#, more)?;
+    let listed =
+        r#"[{"seed":18446744073709551615,"budget":1000000,"kind":"walk"},{"kind":"cdcl","budget":7},{"kind":"walk","budget":1},{"kind":"cdcl","budget":100000,"seed":5}]"#;
+    let text = with_lists(&rt, DECREMENTS, STATIONS, listed)?;
     let scenario = read_scenario(rt.alloc(), text.as_bytes())?;
     let workers = scenario.workers.as_slice();
-    assert_eq!(rt; workers.len(), 2);
-    assert_eq!(rt; workers[0].kind, Kind::Cdcl);
-    assert_eq!(rt; workers[0].budget, 1_000);
-    assert_eq!(rt; workers[0].seed, 0);
-    assert_eq!(rt; workers[1].kind, Kind::Cdcl);
-    assert_eq!(rt; workers[1].budget, 7);
-    assert_eq!(rt; workers[1].seed, 18_446_744_073_709_551_615);
+    assert_eq!(rt; workers.len(), 4);
+    let kinds = [Kind::Walk, Kind::Cdcl, Kind::Walk, Kind::Cdcl];
+    let budgets = [1_000_000, 7, 1, 100_000];
+    let seeds = [18_446_744_073_709_551_615, 0, 0, 5];
+    for i in 0..4 {
+        assert_eq!(rt; workers[i].kind, kinds[i]);
+        assert_eq!(rt; workers[i].budget, budgets[i]);
+        assert_eq!(rt; workers[i].seed, seeds[i]);
+    }
     Ok(())
 }
 
@@ -90,6 +93,14 @@ fn accepts_the_limits_themselves(rt: HostRuntime) -> Result<(), Fail> {
         (r#""budget":1000"#, r#""budget":1"#),
         (r#""budget":1000"#, r#""budget":100000"#),
         (r#""budget":1000"#, r#""budget":1000,"seed":0"#),
+        (
+            r#""workers":["#,
+            r#""workers":[{"kind":"walk","budget":1},"#,
+        ),
+        (
+            r#""workers":["#,
+            r#""workers":[{"kind":"walk","budget":1000000},"#,
+        ),
     ] {
         let text = changed(&rt, part, other)?;
         assert_eq!(rt; refusal(&rt, text.as_str()), None, "{other}");

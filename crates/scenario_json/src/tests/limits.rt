@@ -27,14 +27,49 @@ fn members_out_of_their_limits(rt: HostRuntime) -> Result<(), Fail> {
             Name::Value,
             2,
         ),
-        (r#""cdcl""#, r#""walk""#, Name::Kind, 1),
         (r#""cdcl""#, r#""CDCL""#, Name::Kind, 1),
+        (r#""cdcl""#, r#""Walk""#, Name::Kind, 1),
+        (r#""cdcl""#, r#""WALK""#, Name::Kind, 1),
+        (r#""cdcl""#, r#""walker""#, Name::Kind, 1),
+        (r#""cdcl""#, r#""wal""#, Name::Kind, 1),
         (r#""cdcl""#, r#""""#, Name::Kind, 1),
         (r#""budget":1000"#, r#""budget":0"#, Name::Budget, 1),
         (r#""budget":1000"#, r#""budget":100001"#, Name::Budget, 1),
     ] {
         let text = changed(&rt, part, other)?;
         assert_eq!(rt; refusal(&rt, text.as_str()), outside(name, at), "{text}");
+    }
+    Ok(())
+}
+
+// Lines of a cdcl worker, and moves of a walk.
+#[test]
+fn budgets_out_of_the_limits_of_their_kind(rt: HostRuntime) -> Result<(), Fail> {
+    for (workers, at) in [
+        (r#"[{"kind":"cdcl","budget":0}]"#, 1),
+        (r#"[{"kind":"cdcl","budget":100001}]"#, 1),
+        (r#"[{"kind":"cdcl","budget":1000000}]"#, 1),
+        (r#"[{"kind":"walk","budget":0}]"#, 1),
+        (r#"[{"kind":"walk","budget":1000001}]"#, 1),
+        (
+            r#"[{"kind":"cdcl","budget":100000},{"kind":"walk","budget":0}]"#,
+            2,
+        ),
+        (
+            r#"[{"kind":"cdcl","budget":100000},{"kind":"walk","budget":1000001}]"#,
+            2,
+        ),
+        (
+            r#"[{"kind":"walk","budget":1000000},{"kind":"cdcl","budget":100001}]"#,
+            2,
+        ),
+    ] {
+        let text = with_lists(&rt, DECREMENTS, STATIONS, workers)?;
+        assert_eq!(rt;
+            refusal(&rt, text.as_str()),
+            outside(Name::Budget, at),
+            "{workers}"
+        );
     }
     Ok(())
 }
@@ -94,7 +129,7 @@ fn length_before_items(rt: HostRuntime) -> Result<(), Fail> {
     let stations = repeated(&rt, "null", 4_097)?;
     let text = with_lists(&rt, DECREMENTS, stations.as_str(), WORKERS)?;
     assert_eq!(rt; refusal(&rt, text.as_str()), outside(Name::Stations, 0));
-    let workers = repeated(&rt, r#"{"kind":"walk"}"#, 17)?;
+    let workers = repeated(&rt, "null", 17)?;
     let text = with_lists(&rt, DECREMENTS, STATIONS, workers.as_str())?;
     assert_eq!(rt; refusal(&rt, text.as_str()), outside(Name::Workers, 0));
     Ok(())

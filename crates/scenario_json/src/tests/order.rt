@@ -2,7 +2,7 @@
 
 use crate::error::ScenarioErr;
 use crate::name::Name;
-use crate::tests::{changed, missing, outside, refusal, wrong};
+use crate::tests::{DECREMENTS, STATIONS, changed, missing, outside, refusal, with_lists, wrong};
 use std::test::Fail;
 
 #[test]
@@ -103,12 +103,10 @@ fn members_of_a_station_in_order(rt: HostRuntime) -> Result<(), Fail> {
 #[test]
 fn members_of_a_worker_in_order(rt: HostRuntime) -> Result<(), Fail> {
     for (other, why) in [
-        (r#"{"kind":"walk"}"#, outside(Name::Kind, 1)),
-        (r#"{"kind":"walk","budget":1000}"#, outside(Name::Kind, 1)),
-        (
-            r#"{"kind":"walk","budget":1000001}"#,
-            outside(Name::Kind, 1),
-        ),
+        (r#"{"kind":1,"budget":0}"#, wrong(Name::Kind, 1)),
+        (r#"{"kind":"walker","budget":1}"#, outside(Name::Kind, 1)),
+        (r#"{"kind":"walker","budget":0}"#, outside(Name::Kind, 1)),
+        (r#"{"kind":"walker","budget":"x"}"#, outside(Name::Kind, 1)),
         (r#"{"budget":0}"#, missing(Name::Kind, 1)),
         (r#"{"kind":"cdcl","seed":-1}"#, missing(Name::Budget, 1)),
         (
@@ -120,12 +118,52 @@ fn members_of_a_worker_in_order(rt: HostRuntime) -> Result<(), Fail> {
             wrong(Name::Seed, 1),
         ),
         (
-            r#"{"kind":"cdcl","budget":1},{"kind":"walk"}"#,
+            r#"{"kind":"cdcl","budget":1},{"kind":"walker"}"#,
             outside(Name::Kind, 2),
+        ),
+        (r#"{"kind":"walk","seed":-1}"#, missing(Name::Budget, 1)),
+        (
+            r#"{"kind":"walk","budget":0,"seed":-1}"#,
+            outside(Name::Budget, 1),
+        ),
+        (
+            r#"{"kind":"walk","budget":1,"seed":-1}"#,
+            wrong(Name::Seed, 1),
         ),
     ] {
         let text = changed(&rt, r#"{"kind":"cdcl","budget":1000}"#, other)?;
         assert_eq!(rt; refusal(&rt, text.as_str()), why, "{text}");
+    }
+    Ok(())
+}
+
+// That no worker is of kind "cdcl" is told after the last of them.
+#[test]
+fn workers_without_a_cdcl_worker(rt: HostRuntime) -> Result<(), Fail> {
+    for (workers, why) in [
+        (
+            r#"[{"kind":"walk","budget":1}]"#,
+            Some(ScenarioErr::NoProver),
+        ),
+        (
+            r#"[{"kind":"walk","budget":1000000},{"kind":"walk","budget":7,"seed":3}]"#,
+            Some(ScenarioErr::NoProver),
+        ),
+        (
+            r#"[{"kind":"walk","budget":1},{"kind":"walk"}]"#,
+            missing(Name::Budget, 2),
+        ),
+        (
+            r#"[{"kind":"walk","budget":1},null]"#,
+            wrong(Name::Workers, 2),
+        ),
+        (
+            r#"[{"kind":"walk","budget":1},{"kind":"cdcl","budget":1}]"#,
+            None,
+        ),
+    ] {
+        let text = with_lists(&rt, DECREMENTS, STATIONS, workers)?;
+        assert_eq!(rt; refusal(&rt, text.as_str()), why, "{workers}");
     }
     Ok(())
 }

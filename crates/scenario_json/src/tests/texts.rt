@@ -103,7 +103,7 @@ fn members_that_stand_twice(rt: HostRuntime) -> Result<(), Fail> {
         (
             r#""cdcl""#,
             r#""cdcl","kind":"walk""#,
-            outside(Name::Kind, 1),
+            Some(ScenarioErr::NoProver),
         ),
     ] {
         let text = changed(&rt, part, other)?;

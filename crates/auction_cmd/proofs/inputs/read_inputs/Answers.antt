@@ -1,5 +1,4 @@
 -- The book is of the scenario's stations.
-use Rattle.std.proofs.Common.{◌≡◌}
 use Rattle.auction_cmd.proofs.ReadingLemmas.{joined-stations}
 use Rattle.auction_cmd.proofs.inputs.read_inputs.Goals as goal
 

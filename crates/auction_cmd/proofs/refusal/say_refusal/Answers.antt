@@ -1,4 +1,3 @@
-use Rattle.std.proofs.Common.{◌≡◌}
 use Rattle.auction_cmd.specs.Refusals.{refusal_text}
 use Rattle.auction_cmd.proofs.refusal.say_refusal.Goals as goal
 

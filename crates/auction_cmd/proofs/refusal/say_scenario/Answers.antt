@@ -1,4 +1,3 @@
-use Rattle.std.proofs.Common.{◌≡◌}
 use Rattle.auction_cmd.specs.Refusals.{scenario_text}
 use Rattle.auction_cmd.proofs.refusal.say_scenario.Goals as goal
 

@@ -1,5 +1,4 @@
 -- A part, and those behind it.
-use Rattle.std.proofs.Common.{◌≡◌}
 use Rattle.std.proofs.lemmas.Result.{err_from_is_err_and}
 use Rattle.std.specs.List.{flat_map}
 use Rattle.auction_cmd.proofs.SaysLemmas.{writes-cut, writes-then}

@@ -1,6 +1,4 @@
-use Rattle.std.proofs.Common.{length, ◌≤◌, ◌≡◌, ℕ, ◌+◌, ◌-◌, ◌*◌, ◌<◌}
-use Rattle.std.specs.List.{flat_map}
-use Rattle.auction_cmd.specs.Says.{Says}
+use Rattle.std.proofs.Common.{length}
 use Rattle.auction_cmd.proofs.says.+write_parts.Given as goal
 
 -- proposed from what the function passes where it calls itself

@@ -1,5 +1,5 @@
 -- The state that the auction opens with.
-use Rattle.std.proofs.Common.{◌≡◌, ◌∙◌, ap, sym, Some}
+use Rattle.std.proofs.Common.{◌∙◌, ap, sym}
 use Rattle.auction_core.specs.State.{CoreState, started}
 use Rattle.auction_core.proofs.ClockworkLemmas.{opening-none, opening-some}
 use Rattle.auction_core.proofs.clockwork.first_course.Goals as goal

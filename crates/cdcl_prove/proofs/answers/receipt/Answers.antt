@@ -3,5 +3,5 @@ use Rattle.cdcl_prove.proofs.AnswerLemmas.{receipt-valid}
 use Rattle.cdcl_prove.proofs.answers.receipt.Goals as goal
 
 pub returns : goal.returns
-returns c book task worker formula whole =
-    receipt-valid book task worker c.args.derivation.formula c.args.derivation.lines (record { lines = c.from_vec.result }) formula c.into_lines.ensures.spent whole (c.from_vec.ensures ∙ c.into_lines.ensures.lines)
+returns c book task worker learner formula whole =
+    receipt-valid book task worker c.args.derivation.formula c.args.derivation.lines (record { lines = c.from_vec.result }) learner formula c.into_lines.ensures.spent whole (c.from_vec.ensures ∙ c.into_lines.ensures.lines)

@@ -7,8 +7,8 @@ use Rattle.cdcl_prove.proofs.AnswerLemmas.{proof-valid}
 use Rattle.cdcl_prove.proofs.answers.refutation.Goals as goal
 
 pub returns : goal.returns
-returns c book task worker formula within few =
+returns c book task worker learner formula within few =
     let subset = c.from_vec.ensures ∙ c.in_ok-from_slice.ensures.items in
     let lines = c.from_vec-2.ensures ∙ (c.in_ok-push.ensures.items ∙ ap (λ (z : List Line). z ++ c.args.last ∷ []) c.into_lines-lines.ensures.lines) in
     subst (λ (xs : List ℕ). IsValid book task worker (Refuted (Proof xs (record { lines = c.from_vec-2.result })))) (sym subset)
-    (proof-valid book task worker c.args.subset.now c.args.derivation.formula c.args.derivation.lines c.args.last (record { lines = c.from_vec-2.result }) formula within c.into_lines-lines.ensures.spent c.requires.follows c.requires.ends few lines)
+    (proof-valid book task worker c.args.subset.now c.args.derivation.formula c.args.derivation.lines c.args.last (record { lines = c.from_vec-2.result }) learner formula within c.into_lines-lines.ensures.spent c.requires.follows c.requires.ends few lines)

@@ -1,4 +1,4 @@
-use Rattle.std.proofs.Common.{ℕ, ◌≡◌, ◌<◌, ◌/◌, ◌∙◌, true, length, List, sym, subst, arith}
+use Rattle.std.proofs.Common.{ℕ, ◌<◌, ◌/◌, length, sym, subst, arith}
 use Rattle.clause_db.specs.Clauses.{Clauses}
 use Rattle.cdcl_prove.specs.Derivation.{Derived}
 use Rattle.cdcl_prove.specs.Formulas.{IsFormulaOf}
@@ -13,4 +13,4 @@ returns-in_ok-answer-in-Refuted-clause-said g c =
     let own : IsFormulaOf c.args.book.now c.args.part.now c.into_derivation.result.formula = subst (λ (d : Derived). IsFormulaOf c.args.book.now c.args.part.now d.formula) (sym c.into_derivation.ensures) after in
     let told = rw c.in-Refuted.is at c.in_ok-outcome.ensures.outcome in
     let few : length c.into_derivation.result.lines < c.args.worker.budget = subst (λ (d : Derived). length d.lines < c.args.worker.budget) (sym c.into_derivation.ensures) (less-than_part (length c.solve.new.search.derivation.lines) c.args.worker.budget told.1) in
-    c.in_ok-answer-in-Refuted.ensures c.args.book.now c.args.task.now c.args.worker own c.requires few
+    c.in_ok-answer-in-Refuted.ensures c.args.book.now c.args.task.now c.args.worker c.requires.learner own c.requires.subset few

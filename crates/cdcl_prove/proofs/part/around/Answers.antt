@@ -1,8 +1,6 @@
-use Rattle.std.proofs.Common.{ℕ, ◌≡◌, ◌==◌, ◌||◌, ◌∙◌, Bool, true, filter, List, ap}
-use Rattle.std.specs.declared.vec.Vec.{Vec}
+use Rattle.std.proofs.Common.{ℕ, ◌==◌, ◌||◌, ◌∙◌, filter, List, ap}
 use Rattle.std.proofs.lemmas.Result.{IfOk-weaker}
 use Rattle.pack_defs.specs.Lists.{is_in}
-use Rattle.cert_types.specs.Refutes.{is_subset}
 use Rattle.cdcl_prove.proofs.AnswerLemmas.{query-rises, some-subset}
 use Rattle.cdcl_prove.proofs.part.around.Goals as goal
 

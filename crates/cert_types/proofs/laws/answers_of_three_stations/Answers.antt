@@ -1,6 +1,6 @@
 -- Each side computes.
 use Rattle.std.proofs.Common.{refl}
-use Rattle.pack_defs.specs.Examples.{three_stations}
+use Rattle.pack_defs.specs.Examples.{one_channel, three_stations}
 use Rattle.assign_check.specs.Fault.{first_fault}
 use Rattle.cnf_encode.specs.Formula.{packing_formula}
 use Rattle.rup_check.specs.Follows.{line_fault}
@@ -26,3 +26,31 @@ returns-clause-violates c = refl
 pub returns-clause-missing : goal.returns-clause-missing
 unfolding answer_fault first_fault packing_formula line_fault three_stations
 returns-clause-missing c = refl
+
+pub returns-clause-walked : goal.returns-clause-walked
+unfolding answer_fault first_fault packing_formula line_fault three_stations
+returns-clause-walked c = refl
+
+pub returns-clause-moved_nowhere : goal.returns-clause-moved_nowhere
+unfolding answer_fault first_fault packing_formula line_fault three_stations
+returns-clause-moved_nowhere c = refl
+
+pub returns-clause-untroubled : goal.returns-clause-untroubled
+unfolding answer_fault first_fault packing_formula line_fault three_stations
+returns-clause-untroubled c = refl
+
+pub returns-clause-kind : goal.returns-clause-kind
+unfolding answer_fault first_fault packing_formula line_fault three_stations
+returns-clause-kind c = refl
+
+pub returns-clause-repaired : goal.returns-clause-repaired
+unfolding answer_fault first_fault packing_formula line_fault three_stations
+returns-clause-repaired c = refl
+
+pub returns-clause-alive : goal.returns-clause-alive
+unfolding answer_fault first_fault packing_formula line_fault three_stations
+returns-clause-alive c = refl
+
+pub returns-clause-dead : goal.returns-clause-dead
+unfolding answer_fault one_channel
+returns-clause-dead c = refl

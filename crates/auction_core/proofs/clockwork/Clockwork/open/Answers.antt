@@ -1,5 +1,5 @@
 -- What the auction opens with keeps the rule.
-use Rattle.std.proofs.Common.{◌≡◌, ◌∙◌, ap, sym, subst}
+use Rattle.std.proofs.Common.{subst}
 use Rattle.pack_defs.specs.Book.{IsInOrder}
 use Rattle.auction_core.proofs.ClockworkLemmas.{clockwork-opening}
 use Rattle.auction_core.proofs.clockwork.Clockwork.open.Goals as goal

@@ -1,5 +1,5 @@
 -- Room alone is another.
-use Rattle.std.proofs.Common.{◌≡◌, ◌∙◌, ap, sym, subst}
+use Rattle.std.proofs.Common.{◌∙◌, ap, sym, subst}
 use Rattle.auction_core.specs.Clockwork.{ClockworkView, IsClockwork}
 use Rattle.auction_core.specs.Course.{CourseView, core_state}
 use Rattle.auction_core.proofs.ClockworkLemmas.{roomier}

@@ -1,5 +1,5 @@
 -- A settled query keeps the rule, by how the start stands.
-use Rattle.std.proofs.Common.{◌≡◌, ◌∙◌, ◌+◌, ap, sym, subst, arith, length, true, false}
+use Rattle.std.proofs.Common.{◌≡◌, ◌∙◌, ap, sym, subst, arith, length, false}
 use Rattle.auction_core.specs.Clockwork.{ClockworkView}
 use Rattle.auction_core.specs.Course.{core_state, left_of}
 use Rattle.auction_core.specs.Rule.{SettlesQuery}

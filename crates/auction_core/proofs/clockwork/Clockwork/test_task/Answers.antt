@@ -1,5 +1,5 @@
 -- The query of the next test, part by part.
-use Rattle.std.proofs.Common.{◌≡◌, ◌≢◌, ◌∙◌, ap, sym, subst, true, false, map, get_or, Some, None, length, ◌<◌, ℕ}
+use Rattle.std.proofs.Common.{◌≡◌, ◌≢◌, ◌∙◌, ap, sym, subst, true, false, map, get_or, Some, None}
 use Rattle.pack_defs.proofs.Words.{ascending-from}
 use Rattle.pack_defs.proofs.Members.{is_in-from}
 use Rattle.std.proofs.lemmas.List.{length-map}
@@ -13,8 +13,8 @@ use Rattle.packing_graph.specs.Sets.{with_station}
 use Rattle.auction_core.specs.Clock.{on_air_by}
 use Rattle.auction_core.specs.Clockwork.{ClockworkView}
 use Rattle.auction_core.specs.Course.{clock_of, core_state, test_at}
-use Rattle.auction_core.specs.State.{has_ended, restricted, task_of, test_task}
-use Rattle.auction_core.proofs.AskedLemmas.{on_air-ascend}
+use Rattle.auction_core.specs.State.{has_ended, restricted, task_of}
+use Rattle.auction_core.proofs.OnAirLemmas.{on_air-ascend}
 use Rattle.auction_core.proofs.ClockLemmas.{facility_at, on_air_by-is}
 use Rattle.auction_core.proofs.ClockworkLemmas.{next-query, task-test, with-station}
 use Rattle.auction_core.proofs.clockwork.Clockwork.test_task.Goals as goal

@@ -1,8 +1,6 @@
 -- The next place tells whether a test is left.
-use Rattle.std.proofs.Common.{◌≡◌, ◌∙◌, ◌<◌, ◌⊎◌, inl, inr, arith, ap, sym, length, eqb, ℕ}
+use Rattle.std.proofs.Common.{◌≡◌, ◌∙◌, ◌<◌, inl, inr, arith, sym, length, eqb, ℕ}
 use Rattle.std.proofs.lemmas.Bool.{eq-eqb, ne_eqb}
-use Rattle.auction_core.specs.Course.{CourseView, IsDue, IsOver, left_of}
-use Rattle.pack_defs.specs.Lists.{is_empty}
 use Rattle.auction_core.proofs.CourseLemmas.{due-some, over-empty}
 use Rattle.auction_core.proofs.course.Course.is_over.Goals as goal
 

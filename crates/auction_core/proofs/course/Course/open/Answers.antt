@@ -1,8 +1,8 @@
 -- The course before the start test.
-use Rattle.std.proofs.Common.{◌≡◌, ◌∙◌, [], None, ap, sym, subst}
+use Rattle.std.proofs.Common.{None}
 use Rattle.pack_defs.specs.Scenario.{facilities}
 use Rattle.pack_defs.proofs.Words.{ascending-from}
-use Rattle.auction_core.specs.Course.{CourseView, IsCourse}
+use Rattle.auction_core.specs.Course.{CourseView}
 use Rattle.auction_core.proofs.CourseLemmas.{first-holds}
 use Rattle.auction_core.proofs.course.Course.open.Goals as goal
 

@@ -1,5 +1,5 @@
 -- Past a place where no query is due.
-use Rattle.std.proofs.Common.{◌≡◌, ◌∙◌, ◌+◌, ◌<◌, ◌≤◌, ℕ, zero, suc, ◌==◌, List, [], ◌∷◌, Bool, true, false, None, arith, ap, subst, sym, refl, get_or, length}
+use Rattle.std.proofs.Common.{◌≡◌, ◌∙◌, ◌+◌, ◌<◌, ◌≤◌, ℕ, suc, ◌==◌, List, [], ◌∷◌, Bool, true, false, None, arith, ap, subst, sym, refl, get_or, length}
 use Rattle.std.proofs.lemmas.Bool.{ne_eqb}
 use Rattle.pack_defs.specs.declared.station.Station.{Station}
 use Rattle.pack_defs.specs.Book.{domain_of}

@@ -1,9 +1,8 @@
 -- The new fields are those of the course once its next test is settled so.
-use Rattle.std.proofs.Common.{◌≡◌, ◌∙◌, ◌+◌, ◌<◌, ◌∷◌, [], ◌++◌, ℕ, None, arith, ap, ap₂, subst, sym, refl, get_or, get_or-set_same, set, length}
+use Rattle.std.proofs.Common.{◌≡◌, ◌∙◌, ◌+◌, ◌<◌, ◌∷◌, [], ◌++◌, None, arith, ap, sym, get_or, get_or-set_same, set, length}
 use Rattle.pack_defs.specs.declared.station.Station.{Station}
 use Rattle.pack_defs.specs.Scenario.{facilities}
 use Rattle.auction_core.specs.declared.clock.Standing.TheVariants.{Active}
-use Rattle.auction_core.specs.declared.record.Step.{Step}
 use Rattle.auction_core.specs.Clock.{answered_standing}
 use Rattle.auction_core.specs.Course.{CourseView, map_after, paid, test_at}
 use Rattle.auction_core.specs.State.{shows_room}

@@ -1,11 +1,11 @@
 -- The standing at a station's place says whether it is on air.
-use Rattle.std.proofs.Common.{◌≡◌, ◌∙◌, ◌<◌, ◌+◌, arith, ℕ, map, sym, ap, rules, Ok, Err, List, length}
+use Rattle.std.proofs.Common.{◌∙◌, arith, ℕ, map, sym, rules}
 use Rattle.std.proofs.lemmas.List.{length-map}
 use Rattle.std.proofs.lemmas.List.Sorted.{answers_always}
 use Rattle.pack_defs.proofs.Searches.{found-at, found-no_key}
 use Rattle.pack_defs.specs.declared.station.Station.{Station}
 use Rattle.auction_core.specs.declared.clock.Standing.TheVariants.{Active}
-use Rattle.auction_core.proofs.AskedLemmas.{on_air-at, on_air-none}
+use Rattle.auction_core.proofs.OnAirLemmas.{on_air-at, on_air-none}
 use Rattle.auction_core.proofs.on_air.OnAirStationSet.has.Goals as goal
 
 abbrev id_of : Station → ℕ

@@ -1,0 +1,10 @@
+-- The first move at fault is the first of those that are left, in the map that those before them leave.
+use Rattle.std.proofs.Common.{◌≡◌, ◌+◌, drop}
+use Rattle.cert_types.specs.Walks.{first_move, start_map}
+use Rattle.cert_types.proofs.moves.first_move.Given as goal
+
+abbrev pub invariant-loop-i : goal.invariant-loop-i
+invariant-loop-i l = record {
+  of_book : l.book ≡ l.map.book;
+  rest : first_move l.book l.map.entries (l.i + 1) (drop l.i l.moves) ≡ first_move l.book (start_map l.book l.task.last l.task.set) 1 l.moves;
+}

@@ -1,0 +1,7 @@
+-- The stations seen stand on their channels.
+use Rattle.std.proofs.Common.{◌≡◌, take}
+use Rattle.cert_types.specs.Walks.{start_map}
+use Rattle.cert_types.proofs.start.start_map.Given as goal
+
+abbrev pub invariant-loop-s : goal.invariant-loop-s
+invariant-loop-s l = l.entries.items ≡ start_map l.book l.task.last (take l.s-index l.set)

@@ -1,0 +1,35 @@
+ghost use Rattle.std.specs.Prelude.{◌≡◌, IsTrue};
+ghost use Rattle.std.specs.List.{list_any};
+ghost use Rattle.pack_defs.specs.Lists.{is_ascending, is_only};
+ghost use Rattle.cert_types.specs.Refutes.{is_dead, same_pair};
+
+use crate::subset::is_in;
+use pack_defs::book::Book;
+use pack_defs::pair::Pair;
+
+/// Whether a pair is one of the book between two stations of an ascending set, each of which has the pair's channel alone.
+/// It searches by halves: once for the pair, and twice for each of its stations.
+pub(crate) fn is_dead(book: &Book, set: &[u32], pair: Pair) -> bool
+    requires { IsTrue (is_ascending set.now) }
+    ensures { result ≡ is_dead book.now set.now pair }
+{
+    has_pair(book, pair)
+        && (is_in(set, pair.f) && is_in(set, pair.g))
+        && (is_only(book.domain(pair.f), pair.a) && is_only(book.domain(pair.g), pair.b))
+}
+
+// Whether the book has the pair, by halves.
+fn has_pair(book: &Book, pair: Pair) -> bool
+    ensures { result ≡ list_any (λ q. same_pair q pair) book.now.pairs }
+{
+    // With its length a book says that its pairs ascend.
+    let _stations = book.len();
+    book.pairs().binary_search(&pair).is_ok()
+}
+
+// Whether the channel is the only one.
+fn is_only(channels: &[u8], c: u8) -> bool
+    ensures { result ≡ is_only channels.now c }
+{
+    channels.len() == 1 && channels[0] == c
+}

@@ -1,0 +1,78 @@
+ghost use Rattle.std.specs.Prelude.{◌≡◌, ◌&&◌, IfOk};
+ghost use Rattle.std.specs.Bool.{OnTrue};
+ghost use Rattle.pack_defs.specs.ChannelMap.{put};
+ghost use Rattle.pack_defs.specs.Lists.{has_entry};
+ghost use Rattle.cert_types.specs.Certificate.{IsTaskOf};
+ghost use Rattle.cert_types.specs.Walks.{first_move, is_in_trouble, is_move, start_map, violates_some};
+
+use crate::start::start_map;
+use crate::task::Task;
+use assign_check::assignment::Assignment;
+use pack_defs::book::Book;
+use std::alloc::{AllocError as NoMemory, Global};
+
+/// The first move, from 1, that is not of a station of a violated pair to another channel of its domain, or after which
+/// nothing is violated. Each is judged in the map that those before it leave, from the start map of the task's set. The
+/// start map costs what the pairs of its stations cost, and each move what those of its station and its domain cost.
+pub(crate) fn first_move(
+    alloc: Global,
+    book: &Book,
+    task: &Task,
+    moves: &[(u32, u8)],
+) -> Result<Option<u64>, NoMemory>
+    requires { IsTaskOf book.now task.now }
+    ensures { IfOk result (λ place. place ≡ first_move book.now (start_map book.now task.now.last task.now.set) 1 moves.now) }
+{
+    let mut map = Assignment::of(book, start_map(alloc, book, task)?);
+    for (i, x) in moves.iter().enumerate() {
+        if !passes(book, &mut map, *x) {
+            return Ok(Some(i as u64 + 1));
+        }
+    }
+    Ok(None)
+}
+
+// Makes a move, if it is one. It passes where it is one and something is violated after it.
+fn passes(book: &Book, map: &mut Assignment, x: (u32, u8)) -> bool
+    requires { book.now ≡ map.old.book }
+    ensures passes { result ≡ (is_move book.now map.old.entries x && violates_some book.now (put x map.old.entries)) }
+    ensures moved { OnTrue result (map.new ≡ record { book = map.old.book; entries = put x map.old.entries }) }
+{
+    if !is_move(book, map, x) {
+        return false;
+    }
+    map.put(book, x.0, x.1);
+    violates_some(map)
+}
+
+// Whether a move takes a station of a violated pair to another channel of its domain.
+fn is_move(book: &Book, map: &Assignment, x: (u32, u8)) -> bool
+    requires { book.now ≡ map.now.book }
+    ensures { result ≡ is_move book.now map.now.entries x }
+{
+    is_in_trouble(book, map, x.0) && (book.domain(x.0).contains(&x.1) && !stands(map, x))
+}
+
+// Whether some pair is violated.
+fn violates_some(map: &Assignment) -> bool
+    ensures { result ≡ violates_some map.now.book map.now.entries }
+{
+    map.violations() > 0
+}
+
+// Whether some pair of the station is violated.
+fn is_in_trouble(book: &Book, map: &Assignment, s: u32) -> bool
+    requires { book.now ≡ map.now.book }
+    ensures { result ≡ is_in_trouble book.now map.now.entries s }
+{
+    map.violations_of(book, s) > 0
+}
+
+// Whether the map has the station on this channel.
+fn stands(map: &Assignment, x: (u32, u8)) -> bool
+    ensures { result ≡ has_entry map.now.entries x }
+{
+    // With its entries a map says that it ascends.
+    let _entries = map.entries();
+    map.channel(x.0) == Some(x.1)
+}

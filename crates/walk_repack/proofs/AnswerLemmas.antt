@@ -1,0 +1,130 @@
+-- The answers that a walk ends with are valid.
+use Rattle.std.proofs.Common.{◌≡◌, ℕ, true, false, not, cond, ◌==◌, ◌&&◌, nat_lt, List, [], ◌∷◌, length, Some, None, unwrap_or, refl, sym, ap, subst, ◌∙◌, ⊎_elim, eqb-true, eq-eqb, arith}
+use Rattle.std.specs.List.{list_all}
+use Rattle.std.proofs.lemmas.Bool.{and_from, and_parts, or_cases, or_left}
+use Rattle.std.proofs.lemmas.Bool.Decides.{nat_tests}
+use Rattle.pack_defs.specs.declared.worker.Worker.{Worker}
+use Rattle.pack_defs.specs.declared.pair.Pair.{Pair}
+use Rattle.pack_defs.specs.Book.{BookView, domain_of}
+use Rattle.pack_defs.specs.ChannelMap.{channel_of, overlaid}
+use Rattle.pack_defs.specs.Lists.{has_entry, has_station, is_ascending, is_empty, is_in}
+use Rattle.assign_check.specs.Fault.{IsCleanOn}
+use Rattle.pack_defs.proofs.Members.{list_all-gives}
+use Rattle.pack_defs.proofs.Words.{Contains-from_has_entry, list_any-map}
+use Rattle.assign_check.specs.Violations.{violations}
+use Rattle.assign_check.proofs.CountLaws.{any-violated, counted-clean}
+use Rattle.cert_types.specs.declared.task.Task.{Task}
+use Rattle.cert_types.specs.declared.answer.Answer.TheVariants.{Fit, Refuted, Spent}
+use Rattle.cert_types.specs.declared.answer.Refutation.TheVariants.{Dead}
+use Rattle.cert_types.specs.declared.answer.Receipt.TheVariants.{Moves}
+use Rattle.cert_types.specs.Certificate.{IsTaskOf}
+use Rattle.cert_types.specs.Query.{IsQuery, is_query, has_channels, is_on_domains}
+use Rattle.cert_types.specs.Refutes.{is_dead}
+use Rattle.cert_types.specs.Valid.{IsValid, learns}
+use Rattle.cert_types.specs.Walks.{AreSpentMoves, least_of, start_map, violates_some}
+use Rattle.cert_types.proofs.Meaning.{means-dead, means-fit, means-moves}
+use Rattle.walk_repack.specs.Course.{AreOnDomains, CourseView, IsCourse}
+use Rattle.walk_repack.specs.Steps.{stations_in}
+
+-- ---- what a query says
+
+pub query-parts : (book : BookView) (task : Task) → IsQuery book task → (is_ascending task.set ≡ true) × (has_channels book task.set ≡ true) × (is_on_domains book task.set task.last ≡ true)
+unfolding is_query
+query-parts book task q =
+    let parts = and_parts (is_ascending task.set) (has_channels book task.set && is_on_domains book task.set task.last) q.holds in
+    let more = and_parts (has_channels book task.set) (is_on_domains book task.set task.last) parts.1 in
+    (parts.0, more.0, more.1)
+
+pub query-task : (book : BookView) (task : Task) → IsQuery book task → IsTaskOf book task
+query-task book task q = record { rises = (query-parts book task q).0 }
+
+last-of : (book : BookView) (set : List ℕ) (entries : List (ℕ × ℕ)) (s : ℕ) → is_on_domains book set entries ≡ true → has_station entries s ≡ true → is_in set s ≡ true
+last-of book set [] s d h = cc
+last-of book set (x ∷ xs) s d h =
+    let parts = and_parts (is_in set x.0 && is_in (domain_of book x.0) x.1) (is_on_domains book set xs) d in
+    ⊎_elim
+    (λ e. subst (λ z. is_in set z ≡ true) (eqb-true x.0 s e) (and_parts (is_in set x.0) (is_in (domain_of book x.0) x.1) parts.0).0)
+    (λ r. last-of book set xs s parts.1 r)
+    (or_cases (x.0 == s) (has_station xs s) h)
+
+-- ---- the start map
+
+-- a channel of the last map is of the station's domain
+last-on : (book : BookView) (set : List ℕ) (last : List (ℕ × ℕ)) (s c : ℕ) → is_on_domains book set last ≡ true → channel_of s last ≡ Some c → is_in (domain_of book s) c ≡ true
+last-on book set [] s c d e = cc
+last-on book set (x ∷ xs) s c d e =
+    let parts = and_parts (is_in set x.0 && is_in (domain_of book x.0) x.1) (is_on_domains book set xs) d in
+    let own = (and_parts (is_in set x.0) (is_in (domain_of book x.0) x.1) parts.0).1 in
+    (elim (x.0 == s) as (λ b. (x.0 == s) ≡ b → cond b (Some x.1) (channel_of s xs) ≡ Some c → is_in (domain_of book s) c ≡ true) [
+      | true ↦ λ is. λ (f : Some x.1 ≡ Some c).
+          let same : x.1 ≡ c = cc in
+          subst (λ t. is_in (domain_of book t) c ≡ true) (eqb-true x.0 s is) (subst (λ b. is_in (domain_of book x.0) b ≡ true) same own)
+      | false ↦ λ is f. last-on book set xs s c parts.1 f
+    ]) refl e
+
+least-in : (channels : List ℕ) → not (is_empty channels) ≡ true → is_in channels (least_of channels) ≡ true
+least-in [] h = cc
+least-in (c ∷ cs) h = or_left (c == c) (is_in cs c) (eq-eqb c c refl)
+
+started-on : (book : BookView) (set : List ℕ) (last : List (ℕ × ℕ)) (s : ℕ) → is_on_domains book set last ≡ true → not (is_empty (domain_of book s)) ≡ true → is_in (domain_of book s) (unwrap_or (channel_of s last) (least_of (domain_of book s))) ≡ true
+started-on book set last s d some =
+    (elim (channel_of s last) as (λ o. channel_of s last ≡ o → is_in (domain_of book s) (unwrap_or o (least_of (domain_of book s))) ≡ true) [
+      | None ↦ λ e. least-in (domain_of book s) some
+      | Some c ↦ λ e. last-on book set last s c d e
+    ]) refl
+
+start-on : (book : BookView) (set : List ℕ) (last : List (ℕ × ℕ)) (some : List ℕ) → is_on_domains book set last ≡ true → has_channels book some ≡ true → AreOnDomains book (start_map book last some)
+start-on book set last [] d h = refl
+start-on book set last (s ∷ ss) d h =
+    let parts = and_parts (not (is_empty (domain_of book s))) (has_channels book ss) h in
+    let c = unwrap_or (channel_of s last) (least_of (domain_of book s)) in
+    and_from (is_in (domain_of book s) c) (list_all (λ (x : ℕ × ℕ). is_in (domain_of book x.0) x.1) (start_map book last ss)) (started-on book set last s d parts.0) (start-on book set last ss d parts.1)
+
+-- each station of a query's start map is on its domain
+pub query-starts : (book : BookView) (task : Task) → IsQuery book task → AreOnDomains book (start_map book task.last task.set)
+query-starts book task q = let parts = query-parts book task q in start-on book task.set task.last task.set parts.2 parts.1
+
+pub start-stations : (book : BookView) (last : List (ℕ × ℕ)) (set : List ℕ) → stations_in (start_map book last set) ≡ set
+start-stations book last [] = refl
+start-stations book last (s ∷ ss) = ap (λ rest. s ∷ rest) (start-stations book last ss)
+
+-- ---- the stations of a walk from the start map are the set
+pub course-stations : (book : BookView) (task : Task) (v : CourseView) → IsCourse v → v.start ≡ start_map book task.last task.set → stations_in v.entries ≡ task.set
+course-stations book task v h e = h.stations ∙ ap stations_in e ∙ start-stations book task.last task.set
+
+-- ---- a fit
+
+-- a walk keeps each station that stood in the last map
+pub last-kept : (book : BookView) (task : Task) (entries : List (ℕ × ℕ)) → IsQuery book task → stations_in entries ≡ task.set → (s : ℕ) → has_station task.last s ≡ true → has_station entries s ≡ true
+last-kept book task entries q e s h =
+    sym (list_any-map (λ y. y == s) (λ (y : ℕ × ℕ). y.0) entries)
+    ∙ ap (λ (xs : List ℕ). is_in xs s) e
+    ∙ last-of book task.set task.last s (query-parts book task q).2 h
+
+no-number : (n : ℕ) → nat_lt 0 n ≡ false → n ≡ 0
+no-number n h = grind (arith, nat_tests)
+
+pub fit-valid : (book : BookView) (task : Task) (worker : Worker) (v : CourseView) (delta : List (ℕ × ℕ)) → IsCourse v → v.book ≡ book → stations_in v.entries ≡ task.set → violates_some v.book v.entries ≡ false → overlaid task.last delta ≡ v.entries → IsValid book task worker (Fit delta)
+fit-valid book task worker v delta h b e clean over =
+    let on : (x : ℕ × ℕ) → has_entry v.entries x ≡ true → is_in (domain_of v.book x.0) x.1 ≡ true =
+    λ x k. list_all-gives (λ (y : ℕ × ℕ). is_in (domain_of v.book y.0) y.1) v.entries x h.on_domains (Contains-from_has_entry v.entries x k) in
+    let none : violations v.book v.entries ≡ 0 = no-number (violations v.book v.entries) (any-violated v.book v.entries ∙ clean) in
+    let whole = counted-clean v.book task.set v.entries none e on in
+    means-fit book task worker delta (subst (λ (m : List (ℕ × ℕ)). IsCleanOn book task.set m) (sym over) (subst (λ (k : BookView). IsCleanOn k task.set v.entries) b whole))
+
+-- ---- a receipt
+
+pub receipt-valid : (task : Task) (worker : Worker) (v : CourseView) (moves : List (ℕ × ℕ)) → IsCourse v → violates_some v.book v.entries ≡ true → v.start ≡ start_map v.book task.last task.set → learns worker.kind ≡ false → length v.moves ≡ worker.budget → moves ≡ v.moves → IsValid v.book task worker (Spent (Moves moves))
+receipt-valid task worker v moves h some start walker whole e =
+    subst (λ (ms : List (ℕ × ℕ)). IsValid v.book task worker (Spent (Moves ms))) (sym e)
+    (means-moves v.book task worker v.moves (record {
+      by_walker = walker;
+      whole_budget = whole;
+      spent = subst (λ (m : List (ℕ × ℕ)). AreSpentMoves v.book m v.moves) start (h.spent some);
+    }))
+
+-- ---- a dead pair
+
+pub dead-valid : (task : Task) (worker : Worker) (v : CourseView) (p : Pair) → IsCourse v → is_dead v.book (stations_in v.entries) p ≡ true → v.start ≡ start_map v.book task.last task.set → IsValid v.book task worker (Refuted (Dead p))
+dead-valid task worker v p h dead start =
+    means-dead v.book task worker p (subst (λ (xs : List ℕ). is_dead v.book xs p ≡ true) (course-stations v.book task v h start) dead)

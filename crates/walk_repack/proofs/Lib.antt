@@ -1,0 +1,4 @@
+pub mod CourseLemmas
+pub mod PickLemmas
+pub mod LookLemmas
+pub mod AnswerLemmas

@@ -1,0 +1,5 @@
+use Rattle.assign_check.proofs.Violations.{NoneFrom}
+use Rattle.walk_repack.proofs.pick.first_violated.Given as goal
+
+abbrev pub invariant-loop-x : goal.invariant-loop-x
+invariant-loop-x l = NoneFrom l.course.entries l.course.book.pairs l.x-index

@@ -1,0 +1,34 @@
+-- A walk so far, and what it keeps.
+use Rattle.std.specs.Prelude.{ℕ, true, ◌≡◌, List, map, IsTrue, Contains}
+use Rattle.std.specs.List.{list_all}
+use Rattle.pack_defs.specs.declared.pair.Pair.{Pair}
+use Rattle.pack_defs.specs.Book.{BookView, domain_of}
+use Rattle.pack_defs.specs.ChannelMap.{IsAscending, overlaid}
+use Rattle.pack_defs.specs.Lists.{is_in}
+use Rattle.assign_check.specs.Fault.{is_violated}
+use Rattle.cert_types.specs.Walks.{AreSpentMoves, violates_some}
+
+-- the book of a walk, the map that it starts from, the moves since then, and the map that they lead to
+pub record CourseView : Type 0 where
+  pub book : BookView
+  pub start : List (ℕ × ℕ)
+  pub moves : List (ℕ × ℕ)
+  pub entries : List (ℕ × ℕ)
+
+-- each entry is on a channel of its station's domain
+abbrev pub AreOnDomains : BookView → List (ℕ × ℕ) → Type 0
+AreOnDomains book entries = IsTrue (list_all (λ x. is_in (domain_of book x.0) x.1) entries)
+
+-- The moves lead from the start map to this one, which ascends and is of the same stations, each on its domain. Where a pair is violated still,
+-- they are moves of a receipt.
+pub record IsCourse (v : CourseView) : Type 0 where
+  pub ascending : IsAscending v.entries
+  pub leads : overlaid v.start v.moves ≡ v.entries
+  pub stations : map (λ x. x.0) v.entries ≡ map (λ x. x.0) v.start
+  pub on_domains : AreOnDomains v.book v.entries
+  pub spent : violates_some v.book v.entries ≡ true → AreSpentMoves v.book v.start v.moves
+
+-- the pair is one of the book, with both its entries in the map
+pub record IsViolated (book : BookView) (entries : List (ℕ × ℕ)) (p : Pair) : Type 0 where
+  pub listed : Contains book.pairs p
+  pub stands : is_violated entries p ≡ true

@@ -1,0 +1,54 @@
+ghost use Rattle.std.specs.Prelude.{◌≡◌, IfOk, false, length, true};
+ghost use Rattle.pack_defs.specs.declared.worker.Worker.{Worker};
+ghost use Rattle.cert_types.specs.declared.task.Task.{Task};
+ghost use Rattle.cert_types.specs.Query.{IsQuery};
+ghost use Rattle.cert_types.specs.Refutes.{is_dead};
+ghost use Rattle.cert_types.specs.Valid.{IsValid, learns};
+ghost use Rattle.cert_types.specs.Walks.{start_map, violates_some};
+ghost use Rattle.walk_repack.specs.Steps.{stations_in};
+
+use crate::course::Course;
+use cert_types::answer::{Answer, Receipt, Refutation};
+use cert_types::delta::delta;
+use cert_types::task::Task;
+use pack_defs::book::Book;
+use pack_defs::channel_map::ChannelMap;
+use pack_defs::items::Items;
+use pack_defs::pair::Pair;
+use std::alloc::{AllocError as NoMemory, Global};
+
+/// The fit that a walk from the query's start map ends with: the stations whose channel is another than in the last map, or
+/// that had none.
+pub(crate) fn fit(
+    alloc: Global,
+    book: &Book,
+    task: &Task,
+    course: Course,
+) -> Result<Answer, NoMemory>
+    requires query { IsQuery book.now task.now }
+    requires book { course.book ≡ book.now }
+    requires start { course.start ≡ start_map book.now task.now.last task.now.set }
+    ensures { (worker : Worker) → violates_some course.book course.entries ≡ false →
+        IfOk result (λ answer. IsValid book.now task.now worker answer) }
+{
+    let map = ChannelMap::of(alloc, &course.into_entries())?;
+    Ok(Answer::Fit(delta(alloc, &task.last, &map)?))
+}
+
+/// The refutation by a dead pair that a walk from the query's start map ends with.
+pub(crate) fn refutation(course: &Course, pair: Pair) -> Answer
+    ensures { (task : Task) (worker : Worker) → is_dead course.now.book (stations_in course.now.entries) pair ≡ true →
+        course.now.start ≡ start_map course.now.book task.last task.set → IsValid course.now.book task worker result }
+{
+    let _entries = course.entries();
+    Answer::Refuted(Refutation::Dead(pair))
+}
+
+/// The receipt of a walk from the query's start map that has as many moves as the budget.
+pub(crate) fn receipt(course: Course) -> Answer
+    ensures { (task : Task) (worker : Worker) → violates_some course.book course.entries ≡ true →
+        course.start ≡ start_map course.book task.last task.set → learns worker.kind ≡ false →
+        length course.moves ≡ worker.budget → IsValid course.book task worker result }
+{
+    Answer::Spent(Receipt::Moves(Items::from_vec(course.into_moves())))
+}

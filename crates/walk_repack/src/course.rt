@@ -1,0 +1,104 @@
+ghost use Rattle.std.specs.Prelude.{◌≡◌, ◌++◌, ◌∷◌, [], OnOk, false, length, true};
+ghost use Rattle.pack_defs.specs.Book.{domain_of};
+ghost use Rattle.pack_defs.specs.ChannelMap.{IsAscending, put};
+ghost use Rattle.pack_defs.specs.Lists.{has_entry, is_in};
+ghost use Rattle.cert_types.specs.Walks.{is_in_trouble};
+ghost use Rattle.walk_repack.specs.Course.{AreOnDomains, IsCourse};
+
+use assign_check::assignment::{channel_in, set_channel};
+use pack_defs::book::Book;
+use std::alloc::{AllocError as NoMemory, Global};
+use std::marker::Model;
+use std::snapshot::Snapshot;
+
+/// A walk so far: the moves from a start map, and the map that they lead to. Each move put a station of a violated pair on
+/// another channel of its domain, and left some pair violated, unless it is the last. The book and the start map stand in
+/// proofs alone.
+#[derive(Drop)]
+pub(crate) struct Course {
+    book: Snapshot<Book>,
+    start: Snapshot<Vec<(u32, u8)>>,
+    moves: Vec<(u32, u8)>,
+    entries: Vec<(u32, u8)>,
+}
+
+impl Model for Course {
+    ghost use Rattle.walk_repack.specs.Course.{CourseView, IsCourse};
+
+    ghost Value = { CourseView };
+
+    ghost view = { λ c. record { book = c.book.value; start = c.start.value.items; moves = c.moves.items; entries = c.entries.items } };
+
+    ghost invariant = { λ c. IsCourse (record { book = c.book.value; start = c.start.value.items; moves = c.moves.items; entries = c.entries.items }) };
+}
+
+impl Course {
+    /// The walk that is at this map and has made no move. Each station is on a channel of its domain.
+    pub(crate) fn new(alloc: Global, book: &Book, entries: Vec<(u32, u8)>) -> Course
+        requires ascending { IsAscending entries.items }
+        requires on_domains { AreOnDomains book.now entries.items }
+        ensures { result ≡ record { book = book.now; start = entries.items; moves = []; entries = entries.items } }
+    {
+        Course {
+            book: Snapshot::of(book),
+            start: Snapshot::of(&entries),
+            moves: Vec::new(alloc),
+            entries,
+        }
+    }
+
+    /// The number of moves.
+    pub(crate) fn len(&self) -> usize
+        ensures { result ≡ length self.now.moves }
+    {
+        self.moves.len()
+    }
+
+    /// The map, each entry a station and its channel. It keeps what each walk does.
+    pub(crate) fn entries(&self) -> &[(u32, u8)]
+        ensures entries { result.now ≡ self.now.entries }
+        ensures course { IsCourse self.now }
+    {
+        &self.entries
+    }
+
+    /// Whether the map has the station on this channel. It searches by halves.
+    pub(crate) fn stands(&self, station: u32, channel: u8) -> bool
+        ensures { result ≡ has_entry self.now.entries (station, channel) }
+    {
+        channel_in(&self.entries, station) == Some(channel)
+    }
+
+    /// Moves a station of a violated pair to another channel of its domain. Where there is no memory for the move, all
+    /// stays as it was.
+    pub(crate) fn make(&mut self, station: u32, channel: u8) -> Result<(), NoMemory>
+        requires troubled { is_in_trouble self.old.book self.old.entries station ≡ true }
+        requires on_domain { is_in (domain_of self.old.book station) channel ≡ true }
+        requires elsewhere { has_entry self.old.entries (station, channel) ≡ false }
+        ensures book { self.new.book ≡ self.old.book }
+        ensures start { self.new.start ≡ self.old.start }
+        ensures moves { OnOk result (self.new.moves ≡ self.old.moves ++ (station, channel) ∷ []) }
+        ensures entries { OnOk result (self.new.entries ≡ put (station, channel) self.old.entries) }
+    {
+        self.moves.reserve(1)?;
+        set_channel(&mut self.entries, station, channel);
+        self.moves.push_reserved((station, channel));
+        Ok(())
+    }
+
+    /// The map, taken out. It keeps what each walk does.
+    pub(crate) fn into_entries(self) -> Vec<(u32, u8)>
+        ensures entries { result.items ≡ self.entries }
+        ensures course { IsCourse self }
+    {
+        self.entries
+    }
+
+    /// The moves, taken out. They are those of a walk.
+    pub(crate) fn into_moves(self) -> Vec<(u32, u8)>
+        ensures moves { result.items ≡ self.moves }
+        ensures course { IsCourse self }
+    {
+        self.moves
+    }
+}

@@ -1,0 +1,103 @@
+use crate::chance::Chance;
+use crate::memory::Memory;
+use crate::pick::Pick;
+use crate::tables::Tables;
+use pack_defs::book::Book;
+use std::alloc::{AllocError as NoMemory, Global};
+
+// How long a channel is closed to a station that left it: at least so many moves, and at most so many more.
+const SHORTEST: u32 = 3;
+
+const SPREAD: u32 = 10;
+
+// A closed channel comes behind every open one.
+const BEHIND: u32 = 1 << 24;
+
+/// Where a walk goes next: which violated pair it looks at, which of its stations moves, and where to. Each choice is
+/// tested where it is made use of, so nothing that the walk says rests on it.
+#[derive(Drop)]
+pub(crate) struct Guide<'a> {
+    tables: Tables<'a>,
+    memory: Memory,
+    chance: Chance,
+}
+
+impl<'a> Guide<'a> {
+    /// The guide of a walk from a map, by the choices of a seed in this stream.
+    pub(crate) fn new(
+        alloc: Global,
+        book: &'a Book,
+        entries: &[(u32, u8)],
+        seed: u64,
+        stream: u64,
+    ) -> Result<Guide<'a>, NoMemory> {
+        let tables = Tables::new(alloc, book, entries)?;
+        let memory = Memory::new(alloc, tables.cells())?;
+        Ok(Guide {
+            tables,
+            memory,
+            chance: Chance::new(seed, stream),
+        })
+    }
+
+    /// Where the book lists a violated pair of a station that is in trouble, one of each at random; none where no station
+    /// is.
+    pub(crate) fn pair(&mut self) -> Option<Pick> {
+        if self.tables.troubled() == 0 {
+            return None;
+        }
+        let n = self.chance.below(self.tables.troubled());
+        let (station, channel) = self.tables.troubled_at(n);
+        let count = self.tables.count(self.tables.cell(station, channel));
+        let skip = self.chance.below(count);
+        self.tables.violated(station, channel, skip)
+    }
+
+    /// One of two, at random.
+    pub(crate) fn coin(&mut self) -> bool {
+        self.chance.coin()
+    }
+
+    /// The place in a station's domain of the channel to move to: of those that are not its own and not closed to it, or
+    /// of all but its own where each is closed, one on which it violates least, at random where there are several.
+    pub(crate) fn channel(&mut self, domain: &[u8], station: u32, own: u8) -> usize {
+        let mut best = u32::MAX;
+        let mut at = 0;
+        let mut ties: u32 = 0;
+        for (i, channel) in domain.iter().enumerate() {
+            if *channel == own {
+                continue;
+            }
+            let cost = self.cost(station, *channel);
+            if cost < best {
+                best = cost;
+                at = i;
+                ties = 1;
+            } else if cost == best {
+                ties = ties.saturating_add(1);
+                if self.chance.below(ties) == 0 {
+                    at = i;
+                }
+            }
+        }
+        at
+    }
+
+    /// Notes a move, and closes the channel that the station leaves.
+    pub(crate) fn note(&mut self, station: u32, from: u8, to: u8) {
+        self.tables.shift(station, from, to);
+        let moves = self.chance.below(SPREAD).saturating_add(SHORTEST);
+        self.memory.leave(self.tables.cell(station, from), moves);
+    }
+
+    // What a station would violate on a channel, which weighs more where that is closed to it.
+    fn cost(&self, station: u32, channel: u8) -> u32 {
+        let cell = self.tables.cell(station, channel);
+        let count = self.tables.count(cell);
+        if self.memory.is_closed(cell) {
+            count.saturating_add(BEHIND)
+        } else {
+            count
+        }
+    }
+}

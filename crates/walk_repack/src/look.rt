@@ -1,0 +1,79 @@
+ghost use Rattle.std.specs.Prelude.{◌≡◌, ◌≢◌, ◌<◌, IsTrue, length, true};
+ghost use Rattle.pack_defs.specs.Lists.{is_ascending, is_in};
+ghost use Rattle.walk_repack.specs.Course.{IsViolated};
+ghost use Rattle.walk_repack.specs.Steps.{SightIs};
+
+use crate::course::Course;
+use crate::guide::Guide;
+use crate::pick::violated;
+use pack_defs::book::Book;
+use pack_defs::pair::Pair;
+
+/// What a walk sees of its map.
+#[derive(Clone, Copy, Debug)]
+pub(crate) enum Sight {
+    /// No pair is violated.
+    Clean,
+    /// This pair is violated, and each of its stations has one channel.
+    Dead(Pair),
+    /// This station is of a violated pair, on this channel, and has others.
+    Open { station: u32, channel: u8 },
+}
+
+/// Looks at a violated pair, if there is one, and at which of its stations to move.
+pub(crate) fn look(book: &Book, course: &Course, guide: &mut Guide) -> Sight
+    requires { book.now ≡ course.now.book }
+    ensures { SightIs course.now.book course.now.entries result }
+{
+    let pick = guide.pair();
+    match violated(book, course, pick) {
+        None => Sight::Clean,
+        Some(pair) => look_at(book, course, pair, guide.coin()),
+    }
+}
+
+// Which station of a violated pair to move: the first one on heads and the second on tails, where both can.
+fn look_at(book: &Book, course: &Course, pair: Pair, heads: bool) -> Sight
+    requires book { book.now ≡ course.now.book }
+    requires violated { IsViolated course.now.book course.now.entries pair }
+    ensures { SightIs course.now.book course.now.entries result }
+{
+    // Each book is in order, and each walk on its domains.
+    let (_len, _entries) = (book.len(), course.entries());
+    let one = Sight::Open {
+        station: pair.f,
+        channel: pair.a,
+    };
+    let other = Sight::Open {
+        station: pair.g,
+        channel: pair.b,
+    };
+    let choices = book.domain(pair.f).len();
+    let other_choices = book.domain(pair.g).len();
+    if choices > 1 {
+        if heads || other_choices < 2 {
+            return one;
+        }
+        return other;
+    }
+    if other_choices > 1 {
+        return other;
+    }
+    Sight::Dead(pair)
+}
+
+/// Another channel of a domain of several than the station's own: the one at this place, where it is another one.
+pub(crate) fn other_channel(domain: &[u8], own: u8, at: usize) -> u8
+    requires ascending { IsTrue (is_ascending domain.now) }
+    requires choice { 1 < length domain.now }
+    ensures on_domain { is_in domain.now result ≡ true }
+    ensures other { result ≢ own }
+{
+    if at < domain.len() && domain[at] != own {
+        return domain[at];
+    }
+    if domain[0] != own {
+        return domain[0];
+    }
+    domain[1]
+}

@@ -1,0 +1,90 @@
+ghost use Rattle.std.specs.Prelude.{◌≡◌, ◌==◌, Contains, IfNone, IfSome, false, find, filter, true};
+ghost use Rattle.pack_defs.specs.declared.pair.Pair.{Pair};
+ghost use Rattle.pack_defs.specs.ChannelMap.{IsAscending};
+ghost use Rattle.pack_defs.specs.Lists.{has_entry};
+ghost use Rattle.assign_check.specs.Fault.{is_violated};
+ghost use Rattle.cert_types.specs.Walks.{violates_some};
+ghost use Rattle.walk_repack.specs.Course.{IsViolated};
+
+use crate::course::Course;
+use pack_defs::book::Book;
+use pack_defs::pair::Pair;
+
+/// A pair of the book by its place: among those from a station, or among those to it.
+#[derive(Clone, Copy, Debug)]
+pub(crate) struct Pick {
+    pub(crate) station: u32,
+    pub(crate) is_first: bool,
+    pub(crate) index: usize,
+}
+
+/// A violated pair of the walk's map: the one that is picked, if that is violated, else the first of all, if there is one.
+/// Where none is picked it costs a pass over the pairs from each of the stations.
+pub(crate) fn violated(book: &Book, course: &Course, pick: Option<Pick>) -> Option<Pair>
+    requires { book.now ≡ course.now.book }
+    ensures some { IfSome result (λ p. IsViolated course.now.book course.now.entries p) }
+    ensures none { IfNone result (violates_some course.now.book course.now.entries ≡ false) }
+{
+    if let Some(pair) = picked(book, course, pick) {
+        return Some(pair);
+    }
+    first_violated(book, course)
+}
+
+// The pair that is picked, if it is there and violated.
+fn picked(book: &Book, course: &Course, pick: Option<Pick>) -> Option<Pair>
+    requires { book.now ≡ course.now.book }
+    ensures { IfSome result (λ p. IsViolated course.now.book course.now.entries p) }
+{
+    let Some(pick) = pick else {
+        return None;
+    };
+    let pairs = listed(book, pick);
+    if pick.index >= pairs.len() {
+        return None;
+    }
+    let pair = pairs[pick.index];
+    if course.stands(pair.f, pair.a) && course.stands(pair.g, pair.b) {
+        return Some(pair);
+    }
+    None
+}
+
+// The pairs among which one is picked.
+fn listed(book: &Book, pick: Pick) -> &[Pair]
+    ensures { (p : Pair) → Contains result.now p → Contains book.now.pairs p }
+{
+    if pick.is_first {
+        return book.pairs_from(pick.station);
+    }
+    book.pairs_to(pick.station)
+}
+
+// The first violated pair of all, by a pass over the pairs from each of the stations.
+fn first_violated(book: &Book, course: &Course) -> Option<Pair>
+    requires { book.now ≡ course.now.book }
+    ensures some { IfSome result (λ p. IsViolated course.now.book course.now.entries p) }
+    ensures none { IfNone result (violates_some course.now.book course.now.entries ≡ false) }
+{
+    for x in course.entries() {
+        if let Some(pair) = violated_from(book, course, *x) {
+            return Some(pair);
+        }
+    }
+    None
+}
+
+// The first of the pairs from this entry's station that is violated.
+fn violated_from(book: &Book, course: &Course, own: (u32, u8)) -> Option<Pair>
+    requires book { book.now ≡ course.now.book }
+    requires ascending { IsAscending course.now.entries }
+    requires own { has_entry course.now.entries own ≡ true }
+    ensures { result ≡ find (is_violated course.now.entries) (filter (λ p. p.f == own.0) course.now.book.pairs) }
+{
+    for p in book.pairs_from(own.0) {
+        if p.a == own.1 && course.stands(p.g, p.b) {
+            return Some(*p);
+        }
+    }
+    None
+}

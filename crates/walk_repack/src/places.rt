@@ -1,0 +1,76 @@
+use std::alloc::{AllocError as NoMemory, Global};
+
+// A slot that no station has.
+const FREE: u32 = u32::MAX;
+
+/// Where each station of an ascending set stands in it: at once for a station that has its slot to itself, else by halves.
+/// Nothing that the walk says rests on these places.
+#[derive(Drop)]
+pub(crate) struct Places {
+    set: Vec<u32>,
+    // For each slot, the place of a station whose number ends in it.
+    slots: Vec<u32>,
+}
+
+impl Places {
+    /// The places of a set, with at least four slots for each station.
+    pub(crate) fn new(alloc: Global, entries: &[(u32, u8)]) -> Result<Places, NoMemory> {
+        let mut set = Vec::with_capacity(alloc, entries.len())?;
+        let mut slots = Vec::new(alloc);
+        slots.resize(slots_for(entries.len()), FREE)?;
+        for (i, x) in entries.iter().enumerate() {
+            let slot = slot_of(&slots, x.0);
+            write(&mut slots, slot, (i % FREE as usize) as u32);
+            set.push(x.0)?;
+        }
+        Ok(Places { set, slots })
+    }
+
+    /// The place of a station, if the set has it.
+    pub(crate) fn place(&self, station: u32) -> Option<usize> {
+        let slot = slot_of(&self.slots, station);
+        if slot >= self.slots.len() || self.slots[slot] == FREE {
+            return None;
+        }
+        let place = self.slots[slot] as usize;
+        if place < self.set.len() && self.set[place] == station {
+            return Some(place);
+        }
+        self.set.binary_search(&station).ok()
+    }
+
+    /// The station at a place; 0 past the end.
+    pub(crate) fn station(&self, place: usize) -> u32 {
+        if place < self.set.len() {
+            self.set[place]
+        } else {
+            0
+        }
+    }
+}
+
+// The number of slots for so many stations, a power of two.
+fn slots_for(stations: usize) -> usize {
+    let mut slots: usize = 64;
+    for _ in 0..16 {
+        if slots / 4 >= stations {
+            break;
+        }
+        slots = slots.saturating_mul(2);
+    }
+    slots
+}
+
+// The slot of a station.
+fn slot_of(slots: &[u32], station: u32) -> usize {
+    if slots.is_empty() {
+        return 0;
+    }
+    station as usize & (slots.len() - 1)
+}
+
+fn write(slots: &mut [u32], slot: usize, place: u32) {
+    if slot < slots.len() {
+        slots[slot] = place;
+    }
+}

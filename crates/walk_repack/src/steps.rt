@@ -1,0 +1,120 @@
+ghost use Rattle.std.specs.Prelude.{ℕ, ◌≡◌, ◌≢◌, ◌≤◌, IfOk, IfSome, length};
+ghost use Rattle.walk_repack.specs.Steps.{OutcomeIs, StepIs};
+
+use crate::course::Course;
+use crate::guide::Guide;
+use crate::look::{Sight, look, other_channel};
+use cert_types::poll::Poll;
+use pack_defs::book::Book;
+use pack_defs::pair::Pair;
+use std::alloc::AllocError as NoMemory;
+
+// The poll is asked before the first move and then after so many.
+const BETWEEN: usize = 1024;
+
+/// What a step of a walk comes to.
+#[derive(Debug, Drop)]
+pub(crate) enum Step {
+    /// No pair is violated.
+    Clean,
+    /// This pair is dead.
+    Dead(Pair),
+    /// One move is made.
+    Made,
+}
+
+/// How a walk ends.
+#[derive(Debug, Drop)]
+pub(crate) enum Outcome {
+    /// No pair is violated.
+    Clean,
+    /// This pair is dead.
+    Dead(Pair),
+    /// The budget of moves is spent, and a pair is violated.
+    Spent,
+    /// The poll answered another number.
+    Moved { now: u64 },
+}
+
+/// Walks until no pair is violated, or the violated pair that it looks at is dead, or so many moves are made, or the poll
+/// answers another number than this one.
+pub(crate) fn run<P: Poll>(
+    book: &Book,
+    course: &mut Course,
+    guide: &mut Guide,
+    budget: u32,
+    number: u64,
+    poll: &mut P,
+) -> Result<Outcome, NoMemory>
+    requires book { book.now ≡ course.old.book }
+    requires few { length course.old.moves ≤ budget }
+    ensures book { course.new.book ≡ course.old.book }
+    ensures start { course.new.start ≡ course.old.start }
+    ensures outcome { IfOk result (λ outcome. OutcomeIs course.new budget number (P.last poll.new) outcome) }
+    ensures goes { P.goes poll.old poll.new }
+{
+    'moves: while course.len() < budget as usize {
+        if let Some(now) = moved(poll, number, course.len()) {
+            return Ok(Outcome::Moved { now });
+        }
+        match advance(book, course, guide)? {
+            Step::Clean => return Ok(Outcome::Clean),
+            Step::Dead(pair) => return Ok(Outcome::Dead(pair)),
+            Step::Made => {}
+        }
+    }
+    Ok(last_look(book, course, guide))
+}
+
+// Makes a move, if there is one to make.
+fn advance(book: &Book, course: &mut Course, guide: &mut Guide) -> Result<Step, NoMemory>
+    requires book { book.now ≡ course.old.book }
+    ensures book { course.new.book ≡ course.old.book }
+    ensures start { course.new.start ≡ course.old.start }
+    ensures step { IfOk result (λ step. StepIs course.old course.new step) }
+{
+    // Each book is in order, and each map ascends.
+    let (_len, _stations) = (book.len(), course.entries().len());
+    match look(book, course, guide) {
+        Sight::Clean => Ok(Step::Clean),
+        Sight::Dead(pair) => Ok(Step::Dead(pair)),
+        Sight::Open { station, channel } => {
+            let domain = book.domain(station);
+            let at = guide.channel(domain, station, channel);
+            let to = other_channel(domain, channel, at);
+            course.make(station, to)?;
+            guide.note(station, channel, to);
+            Ok(Step::Made)
+        }
+    }
+}
+
+// How a walk ends whose budget is spent.
+fn last_look(book: &Book, course: &Course, guide: &mut Guide) -> Outcome
+    requires { book.now ≡ course.now.book }
+    ensures { (number last : ℕ) → OutcomeIs course.now (length course.now.moves) number last result }
+{
+    match look(book, course, guide) {
+        Sight::Clean => Outcome::Clean,
+        Sight::Dead(pair) => Outcome::Dead(pair),
+        Sight::Open {
+            station: _,
+            channel: _,
+        } => Outcome::Spent,
+    }
+}
+
+// The number that the poll answers, where it is asked after so many moves and that is another one.
+fn moved<P: Poll>(poll: &mut P, number: u64, moves: usize) -> Option<u64>
+    ensures moved { IfSome result (λ now. (P.last poll.new ≡ now) × (now ≢ number)) }
+    ensures goes { P.goes poll.old poll.new }
+{
+    if moves % BETWEEN != 0 {
+        return None;
+    }
+    let now = poll.current();
+    if now == number {
+        return None;
+    }
+    Some(now)
+}
