@@ -88,14 +88,6 @@ impl Assignment {
         let after = violated_of(book, &self.entries, s);
         self.violations = self.violations - before + after;
     }
-
-    /// The entries, taken out.
-    pub fn into_entries(self) -> Vec<(u32, u8)>
-        ensures entries { result.items ≡ self.entries }
-        ensures ascending { IsAscending self.entries }
-    {
-        self.entries
-    }
 }
 
 // How many pairs the entries violate: the sum of those from each of their stations. A book in memory has fewer than 2^63
@@ -253,10 +245,7 @@ mod tests {
         assert_eq!(rt; apart.violations_of(&book, 4), 0);
         assert_eq!(rt; apart.channel(2), None);
         assert_eq!(rt; apart.violations_of(&book, 2), 0);
-        assert_eq!(rt;
-            apart.into_entries().as_slice(),
-            [(1, 14), (4, 15)].as_slice()
-        );
+        assert_eq!(rt; apart.entries(), [(1, 14), (4, 15)].as_slice());
         Ok(())
     }
 

@@ -103,8 +103,7 @@ pub record IsLeftOpen (files : List StoredFile) (names : RunNames) (before after
   pub auction : IsOpenRecordOf inputs rec
   pub line : IsSaid before after open_line
 
--- where an input is not accepted, or a start set is not as asked, the status is another one only for want of memory or by
--- a fault of a folder that isn't steady
+-- the status is this one; or else memory ran out, or a load of a folder that isn't steady failed
 abbrev pub IsOr : ℕ → Outside → ℕ → Type 0
 IsOr wanted before status = (status ≡ wanted) ⊎ ((status ≡ 8) ⊎ ((status ≡ 3) × (before.steady ≢ true)))
 

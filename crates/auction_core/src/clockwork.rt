@@ -1,13 +1,12 @@
 //! An auction between two queries, whoever answers them.
 
 ghost use Rattle.std.specs.Prelude.{◌≡◌, ◌≢◌, ◌<◌, ◌≤◌, ℕ, None, Some, IfOk, OnOk, false, true, length};
-ghost use Rattle.pack_defs.specs.Book.{IsInOrder};
 ghost use Rattle.pack_defs.specs.Prices.{prices};
 ghost use Rattle.pack_defs.specs.Scenario.{IsWithinLimits};
 ghost use Rattle.auction_core.specs.Backed.{IsBacked, record_of};
 ghost use Rattle.auction_core.specs.Clockwork.{IsOfAuction};
 ghost use Rattle.auction_core.specs.Course.{GivesWithin, IsAtRest, IsCourse, core_state};
-ghost use Rattle.auction_core.specs.Rule.{KeepsTheRule, SettlesQuery};
+ghost use Rattle.auction_core.specs.Rule.{SettlesQuery};
 ghost use Rattle.auction_core.specs.State.{answered, has_ended, opening, start_fits, start_task, started, task_of};
 
 use crate::course::Course;
@@ -76,16 +75,6 @@ impl Clockwork {
         ensures { result.now ≡ self.now.book }
     {
         &self.book
-    }
-
-    /// Each auction keeps the clock rule, whatever has settled its queries; it is of a scenario within the limits and a book
-    /// of its stations, in order.
-    pub fn keeps_the_rule(&self)
-        ensures rule { KeepsTheRule self.now.scenario self.now.book self.now.state }
-        ensures auction { IsOfAuction self.now.scenario self.now.book }
-        ensures in_order { IsInOrder self.now.book }
-    {
-        let _number = self.number;
     }
 
     /// The workers of the scenario.
