@@ -1,58 +1,45 @@
-use super::{CHECK, COMMAND, DOMAINS, Files, ROWS, SCENARIO, changed, run_on, stops, texts};
+//! What is refused, and with which line.
+
+use super::scene::{Change, RUN, Scene, first_untrue_words, leaves};
+use super::{CHECK, COMMAND};
 use std::alloc::{AllocError as NoMemory, Global};
 use std::test::Fail;
 
-// Whether both commands refuse these texts with this line, and store nothing.
-fn are_refused(
-    alloc: Global,
-    domains: &str,
-    rows: &str,
-    scenario: &str,
-    line: &str,
-) -> Result<bool, NoMemory> {
-    let files = texts(domains, rows, scenario);
-    Ok(stops(alloc, COMMAND, files, 5, line)? && stops(alloc, CHECK, files, 5, line)?)
+// Whether both commands refuse these inputs with this line, and store nothing.
+fn are_refused(alloc: Global, scene: Scene<'_>, line: &str) -> Result<bool, NoMemory> {
+    let facts = format!(in alloc;
+        "status 5; said: {line}; nothing stored; no record; inputs kept"
+    )?;
+    let run = Scene {
+        command: COMMAND,
+        ..scene
+    };
+    let check = Scene {
+        command: CHECK,
+        ..scene
+    };
+    Ok(leaves(alloc, &run, &facts)? && leaves(alloc, &check, &facts)?)
 }
 
-// Whether both commands refuse the scenario with this part changed.
-fn is_refused(alloc: Global, part: &str, other: &str, line: &str) -> Result<bool, NoMemory> {
-    let scenario = changed(alloc, part, other)?;
-    are_refused(alloc, DOMAINS, ROWS, &scenario, line)
-}
-
-// The first row whose domains file isn't refused with its line.
-fn unrefused_domains<'a>(
-    alloc: Global,
-    table: &[(&str, &'a str)],
-) -> Result<Option<&'a str>, NoMemory> {
-    for &(domains, line) in table {
-        if !are_refused(alloc, domains, "", SCENARIO, line)? {
-            return Ok(Some(line));
-        }
+// The three stations with this text in the domains, and no rows; or with it in the rows.
+fn scene_of<'a>(name: &str, text: &'a str) -> Scene<'a> {
+    if name == "d.csv" {
+        return Scene {
+            domains: text,
+            rows: "",
+            ..RUN
+        };
     }
-    Ok(None)
+    Scene { rows: text, ..RUN }
 }
 
-// The first row whose rows file isn't refused with its line.
-fn unrefused_rows<'a>(
+// The line of the first row whose file isn't refused with it.
+fn first_file_let_through<'a>(
     alloc: Global,
-    table: &[(&str, &'a str)],
+    table: &[(&str, &'a str, &'a str)],
 ) -> Result<Option<&'a str>, NoMemory> {
-    for &(rows, line) in table {
-        if !are_refused(alloc, DOMAINS, rows, SCENARIO, line)? {
-            return Ok(Some(line));
-        }
-    }
-    Ok(None)
-}
-
-// The first row whose change of the scenario isn't refused with its line.
-fn unrefused_change<'a>(
-    alloc: Global,
-    table: &[(&str, &str, &'a str)],
-) -> Result<Option<&'a str>, NoMemory> {
-    for &(part, other, line) in table {
-        if !is_refused(alloc, part, other, line)? {
+    for &(name, text, line) in table {
+        if !are_refused(alloc, scene_of(name, text), line)? {
             return Ok(Some(line));
         }
     }
@@ -60,23 +47,130 @@ fn unrefused_change<'a>(
 }
 
 #[test]
-fn domains_are_refused(rt: HostRuntime) -> Result<(), Fail> {
+fn rows_are_refused(rt: HostRuntime) -> Result<(), Fail> {
     let table = [
-        ("DOMAIN\n", "d.csv: line 1: short row\n"),
-        ("\nDOMAINS,1,14\n", "d.csv: line 2: unknown key\n"),
-        ("DOMAIN,1,14\nDOMAIN,x,14\n", "d.csv: line 2: bad number\n"),
-        ("DOMAIN,1,52\n", "d.csv: line 1: channel out of range\n"),
+        ("d.csv", "DOMAIN\n", "d.csv: line 1: short row\n"),
+        ("d.csv", "\nDOMAINS,1,14\n", "d.csv: line 2: unknown key\n"),
         (
+            "d.csv",
+            "DOMAIN,1,14\nDOMAIN,x,14\n",
+            "d.csv: line 2: bad number\n",
+        ),
+        (
+            "d.csv",
+            "DOMAIN,1,52\n",
+            "d.csv: line 1: channel out of range\n",
+        ),
+        (
+            "d.csv",
             "DOMAIN,1,14\nDOMAIN,1,15\n",
             "d.csv: line 2: second domain row\n",
         ),
-        ("", "d.csv: no domain row for station 1\n"),
+        ("d.csv", "", "d.csv: no domain row for station 1\n"),
         (
+            "d.csv",
             "DOMAIN,1,14\nDOMAIN,3,14\n",
             "d.csv: no domain row for station 2\n",
         ),
+        ("r.csv", "CO,14,14\n", "r.csv: line 1: short row\n"),
+        (
+            "r.csv",
+            "CO,14,14,1,2\nXO,14,14,1,2\n",
+            "r.csv: line 2: unknown key\n",
+        ),
+        (
+            "r.csv",
+            "CO,14,14,1,100000000000000000000000000000\n",
+            "r.csv: line 1: bad number\n",
+        ),
+        (
+            "r.csv",
+            "CO,1,1,1,2\n",
+            "r.csv: line 1: channel out of range\n",
+        ),
+        (
+            "r.csv",
+            "ADJ+1,14,16,1,2\n",
+            "r.csv: line 1: channels do not fit the key\n",
+        ),
     ];
-    assert_eq!(rt; unrefused_domains(rt.alloc(), &table)?, None);
+    assert_eq!(rt; first_file_let_through(rt.alloc(), &table)?, None);
+    Ok(())
+}
+
+// The line of the first row whose change of the inputs isn't refused with it.
+fn first_change_let_through<'a>(
+    alloc: Global,
+    table: &[(Change<'_>, &'a str)],
+) -> Result<Option<&'a str>, NoMemory> {
+    for &(change, line) in table {
+        let scene = Scene { change, ..RUN };
+        if !are_refused(alloc, scene, line)? {
+            return Ok(Some(line));
+        }
+    }
+    Ok(None)
+}
+
+#[test]
+fn scenarios_and_bytes_are_refused(rt: HostRuntime) -> Result<(), Fail> {
+    let table = [
+        (Change::Part("}]}", "}]"), "s.json: not JSON\n"),
+        (
+            Change::Part("\"version\":1,", ""),
+            "s.json: missing version\n",
+        ),
+        (
+            Change::Part("\"top\":15", "\"top\":\"15\""),
+            "s.json: wrong kind top\n",
+        ),
+        (
+            Change::Part("\"opening\":100", "\"opening\":0"),
+            "s.json: out of limit opening\n",
+        ),
+        (
+            Change::Part("[40,40]", "[40,0]"),
+            "s.json: out of limit decrements at 2\n",
+        ),
+        (
+            Change::Part("[40,40]", "[60,41]"),
+            "s.json: decrements exceed the opening\n",
+        ),
+        (
+            Change::Part("\"cdcl\"", "\"walker\""),
+            "s.json: out of limit kind at 1\n",
+        ),
+        (
+            Change::Part("\"cdcl\"", "\"walk\""),
+            "s.json: no cdcl worker\n",
+        ),
+        (
+            Change::Part("[{\"kind\":\"cdcl\",\"budget\":1000}]", "[]"),
+            "s.json: out of limit workers\n",
+        ),
+        (
+            Change::Part("\"id\":2", "\"id\":1"),
+            "s.json: repeated station 1\n",
+        ),
+        (
+            Change::Part("{\"id\":1,\"volume\":1,", "{\"id\":1,\"volume\":1000001,"),
+            "s.json: out of limit volume at 1\n",
+        ),
+        (
+            Change::Part("\"value\":50", "\"value\":100000000000000000000000000000"),
+            "s.json: wrong kind value at 1\n",
+        ),
+        (Change::Part("{\"id\":3,", "{"), "s.json: missing id at 3\n"),
+        (
+            Change::Holds("s.json", "[]"),
+            "s.json: wrong kind scenario\n",
+        ),
+        // Bytes that are no text.
+        (Change::Garbled("d.csv"), "d.csv: line 1: unknown key\n"),
+        (Change::Garbled("r.csv"), "r.csv: line 1: short row\n"),
+        (Change::Garbled("s.json"), "s.json: not JSON\n"),
+    ];
+    assert_eq!(rt; first_change_let_through(rt.alloc(), &table)?, None);
     Ok(())
 }
 
@@ -89,177 +183,59 @@ fn domain_rows(alloc: Global, count: u32) -> Result<String, NoMemory> {
     Ok(domains)
 }
 
-// Whether a check refuses this many stations with this line.
-fn are_too_many(alloc: Global, count: u32, line: &str) -> Result<bool, NoMemory> {
+// Whether a check of this many stations leaves what these facts say.
+fn leaves_of(alloc: Global, count: u32, facts: &str) -> Result<bool, NoMemory> {
     let domains = domain_rows(alloc, count)?;
-    stops(alloc, CHECK, texts(&domains, "", SCENARIO), 5, line)
+    let scene = Scene {
+        command: CHECK,
+        domains: &domains,
+        rows: "",
+        ..RUN
+    };
+    leaves(alloc, &scene, facts)
 }
 
 #[test]
 fn too_many_domains_are_refused(rt: HostRuntime) -> Result<(), Fail> {
-    assert!(rt; are_too_many(rt.alloc(), 65_537, "d.csv: line 65537: too many\n")?);
+    let facts = "status 5; said: d.csv: line 65537: too many\n; nothing stored; no record";
+    assert!(rt; leaves_of(rt.alloc(), 65_537, facts)?);
     Ok(())
 }
 
 #[test]
-fn rows_are_refused(rt: HostRuntime) -> Result<(), Fail> {
-    let table = [
-        ("CO,14,14\n", "r.csv: line 1: short row\n"),
-        (
-            "CO,14,14,1,2\nXO,14,14,1,2\n",
-            "r.csv: line 2: unknown key\n",
-        ),
-        (
-            "CO,14,14,1,100000000000000000000000000000\n",
-            "r.csv: line 1: bad number\n",
-        ),
-        ("CO,1,1,1,2\n", "r.csv: line 1: channel out of range\n"),
-        (
-            "ADJ+1,14,16,1,2\n",
-            "r.csv: line 1: channels do not fit the key\n",
-        ),
-    ];
-    assert_eq!(rt; unrefused_rows(rt.alloc(), &table)?, None);
-    Ok(())
-}
-
-#[test]
-fn a_scenario_is_refused(rt: HostRuntime) -> Result<(), Fail> {
-    let table = [
-        ("}]}", "}]", "s.json: not JSON\n"),
-        ("\"version\":1,", "", "s.json: missing version\n"),
-        ("\"top\":15", "\"top\":\"15\"", "s.json: wrong kind top\n"),
-        (
-            "\"opening\":100",
-            "\"opening\":0",
-            "s.json: out of limit opening\n",
-        ),
-        (
-            "[40,40]",
-            "[40,0]",
-            "s.json: out of limit decrements at 2\n",
-        ),
-        (
-            "[40,40]",
-            "[60,41]",
-            "s.json: decrements exceed the opening\n",
-        ),
-        ("\"cdcl\"", "\"walker\"", "s.json: out of limit kind at 1\n"),
-        ("\"cdcl\"", "\"walk\"", "s.json: no cdcl worker\n"),
-        (
-            "[{\"kind\":\"cdcl\",\"budget\":1000}]",
-            "[]",
-            "s.json: out of limit workers\n",
-        ),
-    ];
-    assert_eq!(rt; unrefused_change(rt.alloc(), &table)?, None);
-    Ok(())
-}
-
-#[test]
-fn stations_are_refused(rt: HostRuntime) -> Result<(), Fail> {
-    let table = [
-        ("\"id\":2", "\"id\":1", "s.json: repeated station 1\n"),
-        (
-            "{\"id\":1,\"volume\":1,",
-            "{\"id\":1,\"volume\":1000001,",
-            "s.json: out of limit volume at 1\n",
-        ),
-        (
-            "\"value\":50",
-            "\"value\":100000000000000000000000000000",
-            "s.json: wrong kind value at 1\n",
-        ),
-        ("{\"id\":3,", "{", "s.json: missing id at 3\n"),
-    ];
-    assert_eq!(rt; unrefused_change(rt.alloc(), &table)?, None);
-    Ok(())
-}
-
-#[test]
-fn a_list_is_no_scenario(rt: HostRuntime) -> Result<(), Fail> {
-    let line = "s.json: wrong kind scenario\n";
-    assert!(rt; are_refused(rt.alloc(), DOMAINS, ROWS, "[]", line)?);
-    Ok(())
-}
-
-// Bytes that are no text, in each of the three files.
-#[test]
-fn random_bytes_are_refused(rt: HostRuntime) -> Result<(), Fail> {
-    let alloc = rt.alloc();
-    let files = texts(DOMAINS, ROWS, SCENARIO);
-    let bytes = b"\x00\xff\x9c,\x00\n\xfe\x07".as_slice();
-    let first = Files {
-        domains: bytes,
-        ..files
-    };
-    assert!(rt; stops(alloc, COMMAND, first, 5, "d.csv: line 1: unknown key\n")?);
-    let second = Files {
-        rows: bytes,
-        ..files
-    };
-    assert!(rt; stops(alloc, COMMAND, second, 5, "r.csv: line 1: short row\n")?);
-    let third = Files {
-        scenario: bytes,
-        ..files
-    };
-    assert!(rt; stops(alloc, COMMAND, third, 5, "s.json: not JSON\n")?);
-    Ok(())
-}
-
-// The first row whose line of names isn't refused with its line.
-fn unrefused_names<'a>(
-    alloc: Global,
-    table: &[(&str, &'a str)],
-) -> Result<Option<&'a str>, NoMemory> {
-    let files = texts(DOMAINS, ROWS, SCENARIO);
-    for &(command, line) in table {
-        if !stops(alloc, command, files, 5, line)? {
-            return Ok(Some(line));
-        }
-    }
-    Ok(None)
-}
-
-#[test]
-fn an_output_name_is_given_twice(rt: HostRuntime) -> Result<(), Fail> {
+fn output_names_given_twice_are_refused(rt: HostRuntime) -> Result<(), Fail> {
     let table = [
         (
             "repack run d.csv r.csv s.json d.csv chan.csv tr.txt",
-            "d.csv: given twice\n",
+            "status 5; said: d.csv: given twice\n; nothing stored; no record",
         ),
         (
             "repack run d.csv r.csv s.json out.csv out.csv tr.txt",
-            "out.csv: given twice\n",
+            "status 5; said: out.csv: given twice\n; nothing stored; no record",
         ),
         (
             "repack run d.csv r.csv s.json out.csv chan.csv chan.csv",
-            "chan.csv: given twice\n",
+            "status 5; said: chan.csv: given twice\n; nothing stored; no record",
         ),
         (
             "repack run d.csv r.csv s.json out.csv chan.csv s.json",
-            "s.json: given twice\n",
+            "status 5; said: s.json: given twice\n; nothing stored; no record",
         ),
         (
             "repack run d.csv r.csv s.json tr.txt s.json tr.txt",
-            "tr.txt: given twice\n",
+            "status 5; said: tr.txt: given twice\n; nothing stored; no record",
         ),
         // Names are compared before any file is read.
-        ("repack run a b c d d e", "d: given twice\n"),
+        (
+            "repack run a b c d d e",
+            "status 5; said: d: given twice\n; nothing stored; no record",
+        ),
+        // Other names of one place are two names.
+        (
+            "repack run d.csv r.csv s.json out.csv ./out.csv tr.txt",
+            "status 0",
+        ),
     ];
-    assert_eq!(rt; unrefused_names(rt.alloc(), &table)?, None);
-    Ok(())
-}
-
-// The status of a run on the three stations.
-fn status_of(alloc: Global, command: &str) -> Result<u8, NoMemory> {
-    let ended = run_on(alloc, command, texts(DOMAINS, ROWS, SCENARIO))?;
-    Ok(ended.finish.status)
-}
-
-#[test]
-fn names_of_one_place_may_differ(rt: HostRuntime) -> Result<(), Fail> {
-    let command = "repack run d.csv r.csv s.json out.csv ./out.csv tr.txt";
-    assert_eq!(rt; status_of(rt.alloc(), command)?, 0);
+    assert_eq!(rt; first_untrue_words(rt.alloc(), &table)?, None);
     Ok(())
 }

@@ -1,131 +1,108 @@
-use super::{CHECK, COMMAND, DOMAINS, Ended, ROWS, SCENARIO, folder_of, has_stopped, run, texts};
-use outside_io::memory_folder::{MemoryFile, MemoryFolder};
+//! What is left where the folder or the sink fails, and where the words are no command.
+
+use super::scene::{Change, RUN, Scene, leaves};
+use super::{CHECK, COMMAND};
 use std::alloc::{AllocError as NoMemory, Global};
 use std::test::Fail;
 
-// The three stations, where calls of the folder and writes of these numbers fail.
-fn failing_run(
+// The facts of the first row that aren't so of its command on the three stations with its change.
+fn first_untrue_of<'a>(
     alloc: Global,
-    line: &str,
-    calls: &[u64],
-    writes: &[u64],
-) -> Result<Ended, NoMemory> {
-    let folder = folder_of(alloc, texts(DOMAINS, ROWS, SCENARIO), calls)?;
-    run(alloc, line, folder, writes)
-}
-
-// Whether the folder has counted one fault.
-fn has_one_fault(alloc: Global, folder: &MemoryFolder) -> Result<bool, NoMemory> {
-    let text = format!(in alloc; "{folder:?}")?;
-    Ok(text.contains("faults: 1 "))
-}
-
-// Whether a run whose folder fails at this call ends at this status, says this and has one fault.
-fn fails_at(alloc: Global, call: u64, status: u8, said: &str) -> Result<bool, NoMemory> {
-    let ended = failing_run(alloc, COMMAND, &[call], &[])?;
-    Ok(
-        has_stopped(&ended, status, said)
-            && ended.finish.result.is_some() == (status == 4)
-            && has_one_fault(alloc, &ended.folder)?,
-    )
+    table: &[(&'a str, Change<'a>, &'a str)],
+) -> Result<Option<&'a str>, NoMemory> {
+    for &(command, change, facts) in table {
+        let scene = Scene {
+            command,
+            change,
+            ..RUN
+        };
+        if !leaves(alloc, &scene, facts)? {
+            return Ok(Some(facts));
+        }
+    }
+    Ok(None)
 }
 
 #[test]
-fn the_folder_fails(rt: HostRuntime) -> Result<(), Fail> {
-    let alloc = rt.alloc();
-    assert!(rt; fails_at(alloc, 1, 3, "cannot read d.csv\n")?);
-    assert!(rt; fails_at(alloc, 2, 3, "cannot read r.csv\n")?);
-    assert!(rt; fails_at(alloc, 3, 3, "cannot read s.json\n")?);
-    assert!(rt; fails_at(alloc, 4, 4, "cannot write out.csv\n")?);
+fn the_folder_or_the_sink_fails(rt: HostRuntime) -> Result<(), Fail> {
+    let table = [
+        (
+            COMMAND,
+            Change::Call(1),
+            "status 3; said: cannot read d.csv\n; nothing stored; no record; faults: 1",
+        ),
+        (
+            COMMAND,
+            Change::Call(2),
+            "status 3; said: cannot read r.csv\n; nothing stored; no record; faults: 1",
+        ),
+        (
+            COMMAND,
+            Change::Call(3),
+            "status 3; said: cannot read s.json\n; nothing stored; no record; faults: 1",
+        ),
+        (
+            COMMAND,
+            Change::Call(4),
+            "status 4; said: cannot write out.csv\n; nothing stored; a record; faults: 1",
+        ),
+        (
+            COMMAND,
+            Change::Missing("r.csv"),
+            "status 3; said: cannot read r.csv\n; nothing stored",
+        ),
+        // The result is stored before the summary is written.
+        (
+            COMMAND,
+            Change::Write(1),
+            "status 4; nothing said; out.csv: facility,outcome,round,price\n1,exit,2,0\n2,exit,1,0\n3,frozen,2,60\n",
+        ),
+        // The summary is one write, so a second one is never made.
+        (
+            COMMAND,
+            Change::Write(2),
+            "status 0; said: stations 3\non-air 2\nfrozen 1\nundecided 0\ntotal 60\n",
+        ),
+        (
+            CHECK,
+            Change::Call(1),
+            "status 3; said: cannot read d.csv\n; nothing stored; no record",
+        ),
+        (
+            CHECK,
+            Change::Call(2),
+            "status 3; said: cannot read r.csv\n; nothing stored; no record",
+        ),
+        (
+            CHECK,
+            Change::Call(3),
+            "status 3; said: cannot read s.json\n; nothing stored; no record",
+        ),
+        (
+            CHECK,
+            Change::Write(1),
+            "status 4; nothing said; nothing stored; no record",
+        ),
+        // The counts are one write, so a second one is never made.
+        (
+            CHECK,
+            Change::Write(2),
+            "status 0; said: stations 3\npairs 6\nself-pairs 0\nstrangers 0\n",
+        ),
+    ];
+    assert_eq!(rt; first_untrue_of(rt.alloc(), &table)?, None);
     Ok(())
 }
 
-// Whether a run whose first write fails ends at status 4, with nothing said and the result stored.
-fn keeps_the_result(alloc: Global) -> Result<bool, NoMemory> {
-    let ended = failing_run(alloc, COMMAND, &[], &[1])?;
-    Ok(
-        ended.finish.status == 4
-            && ended.sink.bytes().is_empty()
-            && ended.folder.bytes("out.csv").is_some(),
-    )
-}
-
-#[test]
-fn the_sink_fails(rt: HostRuntime) -> Result<(), Fail> {
-    assert!(rt; keeps_the_result(rt.alloc())?);
-    Ok(())
-}
-
-// A folder without the rows file.
-fn without_rows(alloc: Global) -> Result<MemoryFolder, NoMemory> {
-    let mut files = Vec::new(alloc);
-    files.push(MemoryFile::new(alloc, "d.csv", DOMAINS.as_bytes())?)?;
-    files.push(MemoryFile::new(alloc, "s.json", SCENARIO.as_bytes())?)?;
-    Ok(MemoryFolder::new(files, Vec::new(alloc)))
-}
-
-// Whether a run in that folder says this and stores nothing.
-fn misses_rows(alloc: Global, said: &str) -> Result<bool, NoMemory> {
-    let ended = run(alloc, COMMAND, without_rows(alloc)?, &[])?;
-    Ok(has_stopped(&ended, 3, said))
-}
-
-#[test]
-fn a_file_is_missing(rt: HostRuntime) -> Result<(), Fail> {
-    assert!(rt; misses_rows(rt.alloc(), "cannot read r.csv\n")?);
-    Ok(())
-}
-
-// Whether a command whose second write fails ends at status 0 and says this.
-fn is_one_write(alloc: Global, line: &str, said: &str) -> Result<bool, NoMemory> {
-    let ended = failing_run(alloc, line, &[], &[2])?;
-    Ok(ended.finish.status == 0 && ended.sink.bytes() == said.as_bytes())
-}
-
-// The summary and the counts are one write each, so a second one is never made.
-#[test]
-fn what_is_printed_is_one_write(rt: HostRuntime) -> Result<(), Fail> {
-    let alloc = rt.alloc();
-    let summary = "stations 3\non-air 2\nfrozen 1\nundecided 0\ntotal 60\n";
-    assert!(rt; is_one_write(alloc, COMMAND, summary)?);
-    let counts = "stations 3\npairs 6\nself-pairs 0\nstrangers 0\n";
-    assert!(rt; is_one_write(alloc, CHECK, counts)?);
-    Ok(())
-}
-
-// Whether a check where these calls and writes fail ends at this status and says this, with no record.
-fn check_fails(
-    alloc: Global,
-    calls: &[u64],
-    writes: &[u64],
-    status: u8,
-    said: &str,
-) -> Result<bool, NoMemory> {
-    let ended = failing_run(alloc, CHECK, calls, writes)?;
-    Ok(has_stopped(&ended, status, said) && ended.finish.result.is_none())
-}
-
-#[test]
-fn a_check_fails(rt: HostRuntime) -> Result<(), Fail> {
-    let alloc = rt.alloc();
-    assert!(rt; check_fails(alloc, &[1], &[], 3, "cannot read d.csv\n")?);
-    assert!(rt; check_fails(alloc, &[2], &[], 3, "cannot read r.csv\n")?);
-    assert!(rt; check_fails(alloc, &[3], &[], 3, "cannot read s.json\n")?);
-    assert!(rt; check_fails(alloc, &[], &[1], 4, "")?);
-    Ok(())
-}
-
-// Whether these words end at status 2 in an empty folder, with something said and no record.
-fn is_no_command(alloc: Global, line: &str) -> Result<bool, NoMemory> {
-    let folder = MemoryFolder::new(Vec::new(alloc), Vec::new(alloc));
-    let ended = run(alloc, line, folder, &[])?;
-    Ok(ended.finish.status == 2 && ended.finish.result.is_none() && !ended.sink.bytes().is_empty())
-}
-
-// The first of these lines that is a command.
+// The first of these lines that is a command, in an empty folder.
 fn first_command<'a>(alloc: Global, lines: &[&'a str]) -> Result<Option<&'a str>, NoMemory> {
     for &line in lines {
-        if !is_no_command(alloc, line)? {
+        let scene = Scene {
+            command: line,
+            change: Change::Bare,
+            ..RUN
+        };
+        if !leaves(alloc, &scene, "status 2; something said; no record")? {
             return Ok(Some(line));
         }
     }

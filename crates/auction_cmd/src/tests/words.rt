@@ -1,3 +1,5 @@
+//! What the words of a command line are read as.
+
 use crate::words::{InputArgs, Order, RunArgs, WordsFault, read_words};
 use std::alloc::{AllocError as NoMemory, Global};
 use std::test::Fail;
@@ -14,22 +16,52 @@ fn words_of(alloc: Global, line: &str) -> Result<Vec<String>, NoMemory> {
     Ok(words)
 }
 
-// The text that comes with the fault of these words; none where they are a command.
-fn refusal(alloc: Global, line: &str) -> Result<Option<String>, NoMemory> {
+// The names with a comma between each two.
+fn joined(alloc: Global, command: &str, names: &[&str]) -> Result<String, NoMemory> {
+    let mut text = String::from_str(alloc, command)?;
+    for name in names {
+        text.push_str(",")?;
+        text.push_str(name)?;
+    }
+    Ok(text)
+}
+
+// The order: its command and the names in their places, with a comma between each two.
+fn order_text(alloc: Global, order: Order<'_>) -> Result<String, NoMemory> {
+    match order {
+        Order::Run(files) => {
+            let inputs = files.inputs;
+            let names = [
+                inputs.domains,
+                inputs.rows,
+                inputs.scenario,
+                files.result,
+                files.channels,
+                files.transcript,
+            ];
+            joined(alloc, "order run", &names)
+        }
+        Order::Check(files) => {
+            let names = [files.domains, files.rows, files.scenario];
+            joined(alloc, "order check", &names)
+        }
+    }
+}
+
+// The order that the words are, or the text that comes with their fault.
+fn read(alloc: Global, line: &str) -> Result<String, NoMemory> {
     let words = words_of(alloc, line)?;
     match read_words(alloc, &words) {
-        Ok(_) => Ok(None),
-        Err(WordsFault::Refused(text)) => Ok(Some(text)),
+        Ok(order) => order_text(alloc, order),
+        Err(WordsFault::Refused(text)) => Ok(text),
         Err(WordsFault::NoMemory) => Err(NoMemory),
     }
 }
 
-// Whether the words are refused by a text of whole lines with this start.
+// Whether the words are refused by a text of whole lines with this start, which no order has.
 fn is_refused(alloc: Global, line: &str, start: &str) -> Result<bool, NoMemory> {
-    match refusal(alloc, line)? {
-        Some(text) => Ok(text.starts_with(start) && text.ends_with('\n')),
-        None => Ok(false),
-    }
+    let text = read(alloc, line)?;
+    Ok(text.starts_with(start) && text.ends_with('\n'))
 }
 
 // The first line that isn't refused with the start beside it.
@@ -46,6 +78,7 @@ fn unrefused<'a>(alloc: Global, table: &[(&'a str, &str)]) -> Result<Option<&'a 
 fn words_are_refused(rt: HostRuntime) -> Result<(), Fail> {
     let no_command = "error: 'repack' requires a subcommand but one was not provided\n";
     let chek = "error: unrecognized subcommand 'chek'\n";
+    let more = "error: unexpected argument 'more' found\n";
     let table = [
         ("", no_command),
         ("repack", no_command),
@@ -57,15 +90,6 @@ fn words_are_refused(rt: HostRuntime) -> Result<(), Fail> {
         ),
         ("repack,chek,d,r,s", chek),
         ("repack,help,chek", chek),
-    ];
-    assert_eq!(rt; unrefused(rt.alloc(), &table)?, None);
-    Ok(())
-}
-
-#[test]
-fn arguments_are_refused(rt: HostRuntime) -> Result<(), Fail> {
-    let more = "error: unexpected argument 'more' found\n";
-    let table = [
         ("repack,check,d,r,s,more", more),
         ("repack,run,d,r,s,o,c,t,more", more),
         (
@@ -96,20 +120,16 @@ fn is_narrow(text: &str) -> bool {
 
 // Whether the words bring a narrow help with this start and this usage.
 fn is_help(alloc: Global, line: &str, start: &str, usage: &str) -> Result<bool, NoMemory> {
-    match refusal(alloc, line)? {
-        Some(text) => Ok(text.starts_with(start) && text.contains(usage) && is_narrow(&text)),
-        None => Ok(false),
-    }
+    let text = read(alloc, line)?;
+    Ok(text.starts_with(start) && text.contains(usage) && is_narrow(&text))
 }
 
-// The first of these lines that doesn't bring such a help.
+// The first line that doesn't bring a help with the start and the usage beside it.
 fn unhelped<'a>(
     alloc: Global,
-    lines: &[&'a str],
-    start: &str,
-    usage: &str,
+    table: &[(&'a str, &str, &str)],
 ) -> Result<Option<&'a str>, NoMemory> {
-    for &line in lines {
+    for &(line, start, usage) in table {
         if !is_help(alloc, line, start, usage)? {
             return Ok(Some(line));
         }
@@ -118,51 +138,67 @@ fn unhelped<'a>(
 }
 
 #[test]
-fn help_of_the_program(rt: HostRuntime) -> Result<(), Fail> {
-    let lines = [
-        "repack,--help",
-        "repack,-h",
-        "repack,help",
-        "repack,--help,run",
+fn help_is_told(rt: HostRuntime) -> Result<(), Fail> {
+    let program = "Runs the reverse clock auction ";
+    let commands = "\nUsage: repack <COMMAND>\n";
+    let run = "Runs the auction, ";
+    let six = "\nUsage: repack run <DOMAINS> <ROWS> <SCENARIO> <RESULT> <CHANNELS> <TRANSCRIPT>\n";
+    let check = "Checks the input files ";
+    let three = "\nUsage: repack check <DOMAINS> <ROWS> <SCENARIO>\n";
+    let table = [
+        ("repack,--help", program, commands),
+        ("repack,-h", program, commands),
+        ("repack,help", program, commands),
+        ("repack,--help,run", program, commands),
+        ("bin/other,help,run", run, six),
+        ("repack,run,--help", run, six),
+        ("repack,help,check", check, three),
+        ("repack,check,d,r,s,-h", check, three),
     ];
-    let start = "Runs the reverse clock auction ";
-    let usage = "\nUsage: repack <COMMAND>\n";
-    assert_eq!(rt; unhelped(rt.alloc(), &lines, start, usage)?, None);
+    assert_eq!(rt; unhelped(rt.alloc(), &table)?, None);
     Ok(())
 }
 
-#[test]
-fn help_of_run(rt: HostRuntime) -> Result<(), Fail> {
-    let lines = ["bin/other,help,run", "repack,run,--help"];
-    let start = "Runs the auction, ";
-    let usage =
-        "\nUsage: repack run <DOMAINS> <ROWS> <SCENARIO> <RESULT> <CHANNELS> <TRANSCRIPT>\n";
-    assert_eq!(rt; unhelped(rt.alloc(), &lines, start, usage)?, None);
-    Ok(())
-}
-
-#[test]
-fn help_of_check(rt: HostRuntime) -> Result<(), Fail> {
-    let lines = ["repack,help,check", "repack,check,d,r,s,-h"];
-    let start = "Checks the input files ";
-    let usage = "\nUsage: repack check <DOMAINS> <ROWS> <SCENARIO>\n";
-    assert_eq!(rt; unhelped(rt.alloc(), &lines, start, usage)?, None);
-    Ok(())
-}
-
-// Whether the words bring the version.
-fn is_version(alloc: Global, line: &str) -> Result<bool, NoMemory> {
-    match refusal(alloc, line)? {
-        Some(text) => Ok(text.as_str() == "repack 0.1.0\n"),
-        None => Ok(false),
+// The first line that isn't read as the text beside it.
+fn misread<'a>(alloc: Global, table: &[(&'a str, &str)]) -> Result<Option<&'a str>, NoMemory> {
+    for &(line, wanted) in table {
+        let text = read(alloc, line)?;
+        if text.as_str() != wanted {
+            return Ok(Some(line));
+        }
     }
+    Ok(None)
 }
 
 #[test]
-fn the_version_is_told(rt: HostRuntime) -> Result<(), Fail> {
-    let alloc = rt.alloc();
-    assert!(rt; is_version(alloc, "repack,--version")?);
-    assert!(rt; is_version(alloc, "other,-V")?);
+fn each_name_stands_in_its_place(rt: HostRuntime) -> Result<(), Fail> {
+    let table = [
+        (
+            "repack,run,d.csv,r.csv,s.json,o.csv,c.csv,t.txt",
+            "order run,d.csv,r.csv,s.json,o.csv,c.csv,t.txt",
+        ),
+        // An empty name, a lone dash, a name with a blank, one name several times, and names of commands.
+        (
+            "other,run,,-,a b,-,run,check",
+            "order run,,-,a b,-,run,check",
+        ),
+        (
+            "repack,run,d,--,-r,--help,-,--,-h",
+            "order run,d,-r,--help,-,--,-h",
+        ),
+        (
+            "repack,check,d.csv,r.csv,s.json",
+            "order check,d.csv,r.csv,s.json",
+        ),
+        ("repack,check,-,,-", "order check,-,,-"),
+        (
+            "repack,check,--,-d,--,--version",
+            "order check,-d,--,--version",
+        ),
+        ("repack,--version", "repack 0.1.0\n"),
+        ("other,-V", "repack 0.1.0\n"),
+    ];
+    assert_eq!(rt; misread(rt.alloc(), &table)?, None);
     Ok(())
 }
 
@@ -179,57 +215,6 @@ fn run_args<'a>(names: [&'a str; 6]) -> RunArgs<'a> {
         channels,
         transcript,
     }
-}
-
-// Whether the words are this order.
-fn is_order(alloc: Global, line: &str, wanted: Order<'_>) -> Result<bool, NoMemory> {
-    let words = words_of(alloc, line)?;
-    match read_words(alloc, &words) {
-        Ok(order) => Ok(order == wanted),
-        Err(WordsFault::Refused(_)) => Ok(false),
-        Err(WordsFault::NoMemory) => Err(NoMemory),
-    }
-}
-
-// Whether the words are `run` with these names.
-fn is_run(alloc: Global, line: &str, names: [&str; 6]) -> Result<bool, NoMemory> {
-    is_order(alloc, line, Order::Run(run_args(names)))
-}
-
-#[test]
-fn the_names_of_a_run_stand_in_their_places(rt: HostRuntime) -> Result<(), Fail> {
-    let alloc = rt.alloc();
-    let line = "repack,run,d.csv,r.csv,s.json,o.csv,c.csv,t.txt";
-    let names = ["d.csv", "r.csv", "s.json", "o.csv", "c.csv", "t.txt"];
-    assert!(rt; is_run(alloc, line, names)?);
-    // An empty name, a lone dash, a name with a blank, one name several times, and names of commands.
-    let names = ["", "-", "a b", "-", "run", "check"];
-    assert!(rt; is_run(alloc, "other,run,,-,a b,-,run,check", names)?);
-    let names = ["d", "-r", "--help", "-", "--", "-h"];
-    assert!(rt; is_run(alloc, "repack,run,d,--,-r,--help,-,--,-h", names)?);
-    Ok(())
-}
-
-// Whether the words are `check` with these names.
-fn is_check(alloc: Global, line: &str, names: [&str; 3]) -> Result<bool, NoMemory> {
-    let [domains, rows, scenario] = names;
-    let wanted = InputArgs {
-        domains,
-        rows,
-        scenario,
-    };
-    is_order(alloc, line, Order::Check(wanted))
-}
-
-#[test]
-fn the_names_of_a_check_stand_in_their_places(rt: HostRuntime) -> Result<(), Fail> {
-    let alloc = rt.alloc();
-    let names = ["d.csv", "r.csv", "s.json"];
-    assert!(rt; is_check(alloc, "repack,check,d.csv,r.csv,s.json", names)?);
-    assert!(rt; is_check(alloc, "repack,check,-,,-", ["-", "", "-"])?);
-    let names = ["-d", "--", "--version"];
-    assert!(rt; is_check(alloc, "repack,check,--,-d,--,--version", names)?);
-    Ok(())
 }
 
 // The place of the first row of names whose repeated output isn't the one beside it.

@@ -1,0 +1,219 @@
+//! What a run left, as plain text.
+
+use crate::finish::Finish;
+use auction_core::record::{Ending, Record, Shown, Step};
+use cert_types::answer::Receipt;
+use outside_io::memory_folder::MemoryFolder;
+use outside_io::memory_sink::MemorySink;
+use std::alloc::{AllocError as NoMemory, Global};
+
+// Puts a piece to the end of a list, which has this text between each two pieces.
+fn join(list: &mut String, between: &str, piece: &str) -> Result<(), NoMemory> {
+    if !list.is_empty() {
+        list.push_str(between)?;
+    }
+    list.push_str(piece)
+}
+
+// The list, or that it's none.
+fn list_text<'a>(list: &'a str) -> &'a str {
+    if list.is_empty() { "none" } else { list }
+}
+
+// A receipt: how much was spent, and of what.
+fn receipt_text(alloc: Global, receipt: &Receipt) -> Result<String, NoMemory> {
+    match receipt {
+        Receipt::Lines(log) => {
+            let count = log.lines.as_slice().len();
+            format!(in alloc; "{count} line")
+        }
+        Receipt::Moves(moves) => {
+            let count = moves.as_slice().len();
+            format!(in alloc; "{count} move")
+        }
+    }
+}
+
+// Receipts, in order of worker.
+fn receipts_text(alloc: Global, receipts: &[Receipt]) -> Result<String, NoMemory> {
+    let mut list = String::new(alloc);
+    for receipt in receipts {
+        let piece = receipt_text(alloc, receipt)?;
+        join(&mut list, " + ", &piece)?;
+    }
+    Ok(list)
+}
+
+// How a test was settled.
+fn shown_text(alloc: Global, shown: &Shown) -> Result<String, NoMemory> {
+    match shown {
+        Shown::Empty => String::from_str(alloc, "empty"),
+        Shown::Fits(_) => String::from_str(alloc, "fits"),
+        Shown::NoChannel(station) => format!(in alloc; "no channel for {station}"),
+        Shown::Refuted { worker, .. } => format!(in alloc; "refuted by {worker}"),
+        Shown::Undecided(receipts) => {
+            let list = receipts_text(alloc, receipts.as_slice())?;
+            format!(in alloc; "open after {list}")
+        }
+    }
+}
+
+// A test, its station behind its round, and how it was settled.
+fn step_text(alloc: Global, step: &Step) -> Result<String, NoMemory> {
+    let round = step.round;
+    let station = step.station;
+    let shown = shown_text(alloc, &step.shown)?;
+    format!(in alloc; "{round}.{station} {shown}")
+}
+
+// The tests, in order.
+fn steps_text(alloc: Global, steps: &[Step]) -> Result<String, NoMemory> {
+    let mut list = String::new(alloc);
+    for step in steps {
+        let piece = step_text(alloc, step)?;
+        join(&mut list, ", ", &piece)?;
+    }
+    Ok(list)
+}
+
+// The stations of a map.
+fn stations_text(alloc: Global, map: &[(u32, u8)]) -> Result<String, NoMemory> {
+    let mut list = String::new(alloc);
+    for &(station, _) in map {
+        let piece = format!(in alloc; "{station}")?;
+        join(&mut list, ", ", &piece)?;
+    }
+    Ok(list)
+}
+
+// The entries of a map.
+fn map_text(alloc: Global, map: &[(u32, u8)]) -> Result<String, NoMemory> {
+    let mut list = String::new(alloc);
+    for &(station, channel) in map {
+        let piece = format!(in alloc; "{station} on {channel}")?;
+        join(&mut list, ", ", &piece)?;
+    }
+    Ok(list)
+}
+
+// How an auction ended.
+fn ending_text(ending: Ending) -> &'static str {
+    match ending {
+        Ending::Done => "done",
+        Ending::StartRefuted => "start refuted",
+        Ending::StartUndecided => "start open",
+    }
+}
+
+// The map of a record.
+fn air_text(alloc: Global, map: &[(u32, u8)]) -> Result<String, NoMemory> {
+    let list = stations_text(alloc, map)?;
+    let stations = list_text(&list);
+    let list = map_text(alloc, map)?;
+    let entries = list_text(&list);
+    format!(in alloc; "on air: {stations}; map: {entries}")
+}
+
+// The start and the tests of a record.
+fn tests_text(alloc: Global, record: &Record) -> Result<String, NoMemory> {
+    let start = shown_text(alloc, &record.start)?;
+    let list = steps_text(alloc, record.steps.as_slice())?;
+    let steps = list_text(&list);
+    format!(in alloc; "start: {start}; tests: {steps}")
+}
+
+// A record.
+fn record_text(alloc: Global, record: &Record) -> Result<String, NoMemory> {
+    let ending = ending_text(record.ending);
+    let total = record.total;
+    let tests = tests_text(alloc, record)?;
+    let air = air_text(alloc, record.map.entries())?;
+    format!(in alloc; "a record; ending: {ending}; {tests}; {air}; total: {total}")
+}
+
+// What came back.
+fn found_text(alloc: Global, found: &Option<Record>) -> Result<String, NoMemory> {
+    match found {
+        Some(record) => record_text(alloc, record),
+        None => String::from_str(alloc, "no record"),
+    }
+}
+
+// Bytes under a heading; where they are no text, only that.
+fn bytes_text(alloc: Global, heading: &str, bytes: &[u8]) -> Result<String, NoMemory> {
+    match std::str::from_utf8(bytes) {
+        Ok(text) => format!(in alloc; "{heading}: {text}"),
+        Err(_) => format!(in alloc; "{heading} is no text"),
+    }
+}
+
+// What the file of this name holds.
+fn file_text(alloc: Global, folder: &MemoryFolder, name: &str) -> Result<String, NoMemory> {
+    match folder.bytes(name) {
+        Some(bytes) => bytes_text(alloc, name, bytes),
+        None => format!(in alloc; "no {name}"),
+    }
+}
+
+// Whether the folder has none of the three outputs.
+fn has_no_output(folder: &MemoryFolder) -> bool {
+    folder.bytes("out.csv").is_none()
+        && folder.bytes("chan.csv").is_none()
+        && folder.bytes("tr.txt").is_none()
+}
+
+// The outputs.
+fn outputs_text(alloc: Global, folder: &MemoryFolder) -> Result<String, NoMemory> {
+    if has_no_output(folder) {
+        return String::from_str(alloc, "nothing stored");
+    }
+    let result = file_text(alloc, folder, "out.csv")?;
+    let channels = file_text(alloc, folder, "chan.csv")?;
+    let transcript = file_text(alloc, folder, "tr.txt")?;
+    format!(in alloc; "{result}; {channels}; {transcript}")
+}
+
+// What was said.
+fn said_text(alloc: Global, sink: &MemorySink) -> Result<String, NoMemory> {
+    if sink.bytes().is_empty() {
+        return String::from_str(alloc, "nothing said");
+    }
+    let said = bytes_text(alloc, "said", sink.bytes())?;
+    format!(in alloc; "something said; {said}")
+}
+
+// What the folder and the sink hold.
+fn outside_text(
+    alloc: Global,
+    folder: &MemoryFolder,
+    sink: &MemorySink,
+) -> Result<String, NoMemory> {
+    let said = said_text(alloc, sink)?;
+    let outputs = outputs_text(alloc, folder)?;
+    format!(in alloc; "{said}; {outputs}")
+}
+
+/// The facts of what a run left, with "; " between each two.
+pub fn told(
+    alloc: Global,
+    finish: &Finish,
+    folder: &MemoryFolder,
+    sink: &MemorySink,
+) -> Result<String, NoMemory> {
+    let status = finish.status;
+    let outside = outside_text(alloc, folder, sink)?;
+    let found = found_text(alloc, &finish.result)?;
+    format!(in alloc; "status {status}; {outside}; {found}")
+}
+
+/// How many faults the folder has counted.
+pub fn faults_text(alloc: Global, folder: &MemoryFolder) -> Result<String, NoMemory> {
+    let text = format!(in alloc; "{folder:?}")?;
+    match text.split_once("faults: ") {
+        Some((_, rest)) => {
+            let (count, _) = rest.split_once(' ').unwrap_or((rest, ""));
+            format!(in alloc; "faults: {count}")
+        }
+        None => String::from_str(alloc, "faults: unknown"),
+    }
+}
