@@ -1,9 +1,7 @@
 //! Members that are missing, and members of the wrong kind.
 
 use crate::name::Name;
-use crate::tests::{
-    DECREMENTS, STATIONS, TEXT, WORKERS, changed, missing, refusal, with_lists, wrong,
-};
+use crate::tests::{DECREMENTS, Fault, STATIONS, TEXT, WORKERS, first_of_kind, first_without};
 use std::test::Fail;
 
 // No whole number from 0 to 2^64 - 1, written without point or exponent.
@@ -24,7 +22,7 @@ const NOT_NUMBERS: [&str; 12] = [
 
 #[test]
 fn members_that_are_missing(rt: HostRuntime) -> Result<(), Fail> {
-    for (part, other, name, at) in [
+    let rows = [
         (r#""version":1,"#, "", Name::Version, 0),
         (r#""top":15,"#, "", Name::Top, 0),
         (r#""opening":100,"#, "", Name::Opening, 0),
@@ -36,40 +34,32 @@ fn members_that_are_missing(rt: HostRuntime) -> Result<(), Fail> {
         (r#""kind":"cdcl","#, "", Name::Kind, 1),
         (r#","budget":1000"#, "", Name::Budget, 1),
         (TEXT, "{}", Name::Version, 0),
-    ] {
-        let text = changed(&rt, part, other)?;
-        assert_eq!(rt; refusal(&rt, text.as_str()), missing(name, at), "{text}");
-    }
+    ];
+    assert_eq!(rt; first_without(rt.alloc(), Fault::Missing, &rows)?, None);
     Ok(())
 }
 
 #[test]
 fn numbers_of_the_wrong_kind(rt: HostRuntime) -> Result<(), Fail> {
-    for (part, before, name, at) in [
-        (r#""version":1"#, r#""version":"#, Name::Version, 0),
-        (r#""top":15"#, r#""top":"#, Name::Top, 0),
-        (r#""opening":100"#, r#""opening":"#, Name::Opening, 0),
-        ("[40,40", "[40,", Name::Decrements, 2),
-        (r#""id":2"#, r#""id":"#, Name::Id, 2),
-        (r#""volume":1"#, r#""volume":"#, Name::Volume, 1),
-        (r#""value":10"#, r#""value":"#, Name::Value, 3),
-        (r#""budget":1000"#, r#""budget":"#, Name::Budget, 1),
-        (r#"}]}"#, r#","seed":"#, Name::Seed, 1),
-    ] {
-        for value in NOT_NUMBERS {
-            let end = if name == Name::Seed { "}]}" } else { "" };
-            let other = format!(in rt.alloc(); "{before}{value}{end}")?;
-            let text = changed(&rt, part, other.as_str())?;
-            assert_eq!(rt; refusal(&rt, text.as_str()), wrong(name, at), "{text}");
-        }
-    }
+    let rows = [
+        (r#""version":1"#, r#""version":"#, "", Name::Version, 0),
+        (r#""top":15"#, r#""top":"#, "", Name::Top, 0),
+        (r#""opening":100"#, r#""opening":"#, "", Name::Opening, 0),
+        ("[40,40", "[40,", "", Name::Decrements, 2),
+        (r#""id":2"#, r#""id":"#, "", Name::Id, 2),
+        (r#""volume":1"#, r#""volume":"#, "", Name::Volume, 1),
+        (r#""value":10"#, r#""value":"#, "", Name::Value, 3),
+        (r#""budget":1000"#, r#""budget":"#, "", Name::Budget, 1),
+        (r#"}]}"#, r#","seed":"#, "}]}", Name::Seed, 1),
+    ];
+    assert_eq!(rt; first_of_kind(rt.alloc(), &NOT_NUMBERS, &rows)?, None);
     Ok(())
 }
 
 // Only a value may be null, and a kind is a text.
 #[test]
 fn members_of_the_wrong_kind(rt: HostRuntime) -> Result<(), Fail> {
-    for (part, other, name, at) in [
+    let rows = [
         (r#""version":1"#, r#""version":null"#, Name::Version, 0),
         (r#""top":15"#, r#""top":null"#, Name::Top, 0),
         (r#""opening":100"#, r#""opening":null"#, Name::Opening, 0),
@@ -89,65 +79,47 @@ fn members_of_the_wrong_kind(rt: HostRuntime) -> Result<(), Fail> {
             Name::Seed,
             1,
         ),
-    ] {
-        let text = changed(&rt, part, other)?;
-        assert_eq!(rt; refusal(&rt, text.as_str()), wrong(name, at), "{text}");
-    }
+    ];
+    assert_eq!(rt; first_without(rt.alloc(), Fault::Wrong, &rows)?, None);
     Ok(())
 }
 
 #[test]
 fn lists_of_the_wrong_kind(rt: HostRuntime) -> Result<(), Fail> {
-    for value in ["null", "true", "1", "1.5", r#""x""#, "{}"] {
-        let text = with_lists(&rt, value, STATIONS, WORKERS)?;
-        assert_eq!(rt;
-            refusal(&rt, text.as_str()),
-            wrong(Name::Decrements, 0),
-            "{value}"
-        );
-        let text = with_lists(&rt, DECREMENTS, value, WORKERS)?;
-        assert_eq!(rt;
-            refusal(&rt, text.as_str()),
-            wrong(Name::Stations, 0),
-            "{value}"
-        );
-        let text = with_lists(&rt, DECREMENTS, STATIONS, value)?;
-        assert_eq!(rt;
-            refusal(&rt, text.as_str()),
-            wrong(Name::Workers, 0),
-            "{value}"
-        );
-    }
+    let values = ["null", "true", "1", "1.5", r#""x""#, "{}"];
+    let rows = [
+        (DECREMENTS, "", "", Name::Decrements, 0),
+        (STATIONS, "", "", Name::Stations, 0),
+        (WORKERS, "", "", Name::Workers, 0),
+    ];
+    assert_eq!(rt; first_of_kind(rt.alloc(), &values, &rows)?, None);
     Ok(())
 }
 
 // A station or a worker that is no object has the name of its list.
 #[test]
 fn items_of_the_wrong_kind(rt: HostRuntime) -> Result<(), Fail> {
-    for value in ["null", "true", "1", r#""x""#, "[]"] {
-        let stations = format!(in rt.alloc(); "[{{\"id\":1,\"volume\":1}},{value}]")?;
-        let text = with_lists(&rt, DECREMENTS, stations.as_str(), WORKERS)?;
-        assert_eq!(rt;
-            refusal(&rt, text.as_str()),
-            wrong(Name::Stations, 2),
-            "{value}"
-        );
-        let workers = format!(in rt.alloc(); "[{{\"kind\":\"cdcl\",\"budget\":1}},{value}]")?;
-        let text = with_lists(&rt, DECREMENTS, STATIONS, workers.as_str())?;
-        assert_eq!(rt;
-            refusal(&rt, text.as_str()),
-            wrong(Name::Workers, 2),
-            "{value}"
-        );
-    }
+    let values = ["null", "true", "1", r#""x""#, "[]"];
+    let rows = [
+        (STATIONS, r#"[{"id":1,"volume":1},"#, "]", Name::Stations, 2),
+        (
+            WORKERS,
+            r#"[{"kind":"cdcl","budget":1},"#,
+            "]",
+            Name::Workers,
+            2,
+        ),
+    ];
+    assert_eq!(rt; first_of_kind(rt.alloc(), &values, &rows)?, None);
     Ok(())
 }
 
 #[test]
 fn texts_that_are_no_object(rt: HostRuntime) -> Result<(), Fail> {
-    let listed = format!(in rt.alloc(); "[{TEXT}]")?;
-    for text in ["null", "true", "1", "1.5", r#""x""#, "[]", listed.as_str()] {
-        assert_eq!(rt; refusal(&rt, text), wrong(Name::Scenario, 0), "{text}");
-    }
+    let values = ["null", "true", "1", "1.5", r#""x""#, "[]"];
+    let bare = [(TEXT, "", "", Name::Scenario, 0)];
+    assert_eq!(rt; first_of_kind(rt.alloc(), &values, &bare)?, None);
+    let listed = [(TEXT, "[", "]", Name::Scenario, 0)];
+    assert_eq!(rt; first_of_kind(rt.alloc(), &[TEXT], &listed)?, None);
     Ok(())
 }

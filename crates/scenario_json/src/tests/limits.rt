@@ -1,13 +1,15 @@
 //! Members outside their limits, and lists of too few or too many items.
 
+use crate::error::ScenarioErr;
 use crate::name::Name;
-use crate::tests::{DECREMENTS, STATIONS, WORKERS, changed, outside, refusal, with_lists};
-use std::alloc::AllocError;
+use crate::scenario::read_scenario;
+use crate::tests::{DECREMENTS, Fault, STATIONS, WORKERS, first_without, is_answered, refused};
+use std::alloc::{AllocError as NoMemory, Global};
 use std::test::Fail;
 
 #[test]
 fn members_out_of_their_limits(rt: HostRuntime) -> Result<(), Fail> {
-    for (part, other, name, at) in [
+    let rows = [
         (r#""version":1"#, r#""version":0"#, Name::Version, 0),
         (r#""version":1"#, r#""version":2"#, Name::Version, 0),
         (r#""top":15"#, r#""top":13"#, Name::Top, 0),
@@ -35,48 +37,61 @@ fn members_out_of_their_limits(rt: HostRuntime) -> Result<(), Fail> {
         (r#""cdcl""#, r#""""#, Name::Kind, 1),
         (r#""budget":1000"#, r#""budget":0"#, Name::Budget, 1),
         (r#""budget":1000"#, r#""budget":100001"#, Name::Budget, 1),
-    ] {
-        let text = changed(&rt, part, other)?;
-        assert_eq!(rt; refusal(&rt, text.as_str()), outside(name, at), "{text}");
-    }
+    ];
+    assert_eq!(rt; first_without(rt.alloc(), Fault::Outside, &rows)?, None);
     Ok(())
 }
 
 // Lines of a cdcl worker, and moves of a walk.
 #[test]
 fn budgets_out_of_the_limits_of_their_kind(rt: HostRuntime) -> Result<(), Fail> {
-    for (workers, at) in [
-        (r#"[{"kind":"cdcl","budget":0}]"#, 1),
-        (r#"[{"kind":"cdcl","budget":100001}]"#, 1),
-        (r#"[{"kind":"cdcl","budget":1000000}]"#, 1),
-        (r#"[{"kind":"walk","budget":0}]"#, 1),
-        (r#"[{"kind":"walk","budget":1000001}]"#, 1),
+    let rows = [
+        (WORKERS, r#"[{"kind":"cdcl","budget":0}]"#, Name::Budget, 1),
         (
+            WORKERS,
+            r#"[{"kind":"cdcl","budget":100001}]"#,
+            Name::Budget,
+            1,
+        ),
+        (
+            WORKERS,
+            r#"[{"kind":"cdcl","budget":1000000}]"#,
+            Name::Budget,
+            1,
+        ),
+        (WORKERS, r#"[{"kind":"walk","budget":0}]"#, Name::Budget, 1),
+        (
+            WORKERS,
+            r#"[{"kind":"walk","budget":1000001}]"#,
+            Name::Budget,
+            1,
+        ),
+        (
+            WORKERS,
             r#"[{"kind":"cdcl","budget":100000},{"kind":"walk","budget":0}]"#,
+            Name::Budget,
             2,
         ),
         (
+            WORKERS,
             r#"[{"kind":"cdcl","budget":100000},{"kind":"walk","budget":1000001}]"#,
+            Name::Budget,
             2,
         ),
         (
+            WORKERS,
             r#"[{"kind":"walk","budget":1000000},{"kind":"cdcl","budget":100001}]"#,
+            Name::Budget,
             2,
         ),
-    ] {
-        let text = with_lists(&rt, DECREMENTS, STATIONS, workers)?;
-        assert_eq!(rt;
-            refusal(&rt, text.as_str()),
-            outside(Name::Budget, at),
-            "{workers}"
-        );
-    }
+    ];
+    assert_eq!(rt; first_without(rt.alloc(), Fault::Outside, &rows)?, None);
     Ok(())
 }
 
 // A list of this item so many times.
-fn repeated(rt: &HostRuntime, item: &str, count: usize) -> Result<String, AllocError> {
-    let mut list = String::new(rt.alloc());
+fn repeated(alloc: Global, item: &str, count: usize) -> Result<String, NoMemory> {
+    let mut list = String::new(alloc);
     for i in 0..count {
         list.push_str(if i == 0 { "[" } else { "," })?;
         list.push_str(item)?;
@@ -86,51 +101,82 @@ fn repeated(rt: &HostRuntime, item: &str, count: usize) -> Result<String, AllocE
 }
 
 // A list of the stations 0 to one below the number.
-fn stations(rt: &HostRuntime, count: usize) -> Result<String, AllocError> {
-    let mut list = String::new(rt.alloc());
+fn numbered(alloc: Global, count: usize) -> Result<String, NoMemory> {
+    let mut list = String::new(alloc);
     for i in 0..count {
         list.push_str(if i == 0 { "[" } else { "," })?;
-        list.push_str(format!(in rt.alloc(); "{{\"id\":{i},\"volume\":1}}")?.as_str())?;
+        list.push_str(format!(in alloc; "{{\"id\":{i},\"volume\":1}}")?.as_str())?;
     }
     list.push_str(if count == 0 { "[]" } else { "]" })?;
     Ok(list)
 }
 
+// Why a text with lists of so many decrements, stations and workers is refused, if it is.
+fn refusal_of(
+    alloc: Global,
+    decrements: usize,
+    stations: usize,
+    workers: usize,
+) -> Result<Option<ScenarioErr>, NoMemory> {
+    let decrements = repeated(alloc, "1", decrements)?;
+    let stations = numbered(alloc, stations)?;
+    let workers = repeated(alloc, r#"{"kind":"cdcl","budget":1}"#, workers)?;
+    let text = format!(in alloc;
+        "{{\"version\":1,\"top\":15,\"opening\":1000000,\"decrements\":{decrements},\"stations\":{stations},\"workers\":{workers}}}"
+    )?;
+    Ok(read_scenario(alloc, text.as_bytes()).err())
+}
+
+// The first row of three lengths that is answered otherwise, by its place from 0.
+fn first_length(
+    alloc: Global,
+    rows: &[(usize, usize, usize, Option<ScenarioErr>)],
+) -> Result<Option<usize>, NoMemory> {
+    for (i, (decrements, stations, workers, why)) in rows.iter().enumerate() {
+        if refusal_of(alloc, *decrements, *stations, *workers)? != *why {
+            return Ok(Some(i));
+        }
+    }
+    Ok(None)
+}
+
 #[test]
 fn lists_by_their_length(rt: HostRuntime) -> Result<(), Fail> {
-    for (many_decrements, many_stations, many_workers, why) in [
+    let rows = [
         (0, 0, 1, None),
         (1_000, 4_096, 16, None),
-        (1_001, 0, 1, outside(Name::Decrements, 0)),
-        (0, 4_097, 1, outside(Name::Stations, 0)),
-        (0, 0, 0, outside(Name::Workers, 0)),
-        (0, 0, 17, outside(Name::Workers, 0)),
-    ] {
-        let decrements = repeated(&rt, "1", many_decrements)?;
-        let stations = stations(&rt, many_stations)?;
-        let workers = repeated(&rt, r#"{"kind":"cdcl","budget":1}"#, many_workers)?;
-        let text = with_lists(
-            &rt,
-            decrements.as_str(),
-            stations.as_str(),
-            workers.as_str(),
-        )?;
-        assert_eq!(rt; refusal(&rt, text.as_str()), why);
-    }
+        (1_001, 0, 1, refused(Fault::Outside, Name::Decrements, 0)),
+        (0, 4_097, 1, refused(Fault::Outside, Name::Stations, 0)),
+        (0, 0, 0, refused(Fault::Outside, Name::Workers, 0)),
+        (0, 0, 17, refused(Fault::Outside, Name::Workers, 0)),
+    ];
+    assert_eq!(rt; first_length(rt.alloc(), &rows)?, None);
     Ok(())
+}
+
+// The first list that is not refused for its length, where so many nulls stand in its place.
+fn first_of_nulls<'a>(
+    alloc: Global,
+    rows: &[(&'a str, usize, Name)],
+) -> Result<Option<&'a str>, NoMemory> {
+    for (list, count, name) in rows {
+        let nulls = repeated(alloc, "null", *count)?;
+        let why = refused(Fault::Outside, *name, 0);
+        if !is_answered(alloc, list, nulls.as_str(), why)? {
+            return Ok(Some(list));
+        }
+    }
+    Ok(None)
 }
 
 // The length of a list is looked at before its items.
 #[test]
 fn length_before_items(rt: HostRuntime) -> Result<(), Fail> {
-    let decrements = repeated(&rt, "null", 1_001)?;
-    let text = with_lists(&rt, decrements.as_str(), STATIONS, WORKERS)?;
-    assert_eq!(rt; refusal(&rt, text.as_str()), outside(Name::Decrements, 0));
-    let stations = repeated(&rt, "null", 4_097)?;
-    let text = with_lists(&rt, DECREMENTS, stations.as_str(), WORKERS)?;
-    assert_eq!(rt; refusal(&rt, text.as_str()), outside(Name::Stations, 0));
-    let workers = repeated(&rt, "null", 17)?;
-    let text = with_lists(&rt, DECREMENTS, STATIONS, workers.as_str())?;
-    assert_eq!(rt; refusal(&rt, text.as_str()), outside(Name::Workers, 0));
+    let rows = [
+        (DECREMENTS, 1_001, Name::Decrements),
+        (STATIONS, 4_097, Name::Stations),
+        (WORKERS, 17, Name::Workers),
+    ];
+    assert_eq!(rt; first_of_nulls(rt.alloc(), &rows)?, None);
     Ok(())
 }

@@ -3,9 +3,19 @@
 use crate::error::ScenarioErr;
 use crate::name::Name;
 use crate::scenario::read_scenario;
-use crate::tests::{TEXT, changed, outside, refusal, wrong};
-use std::alloc::AllocError;
+use crate::tests::{Fault, first_not, first_otherwise, is_answered, refused};
+use std::alloc::{AllocError as NoMemory, Global};
 use std::test::Fail;
+
+// The first of these that is not refused as no JSON, by its place from 0.
+fn first_json(alloc: Global, cases: &[&[u8]]) -> Option<usize> {
+    for (i, bytes) in cases.iter().enumerate() {
+        if read_scenario(alloc, bytes).err() != Some(ScenarioErr::Syntax) {
+            return Some(i);
+        }
+    }
+    None
+}
 
 #[test]
 fn bytes_that_are_no_json(rt: HostRuntime) {
@@ -23,76 +33,77 @@ fn bytes_that_are_no_json(rt: HostRuntime) {
         b"\xFF",
         b"{\"version\":\"\xFF\"}",
     ];
-    for bytes in cases {
-        let why = read_scenario(rt.alloc(), bytes).err();
-        assert!(rt; why == Some(ScenarioErr::Syntax), "{bytes:?}");
-    }
+    assert_eq!(rt; first_json(rt.alloc(), &cases), None);
 }
 
-// The start of an object with lists that nest so deep in a member that is passed over.
-fn nested(rt: &HostRuntime, depth: usize) -> Result<String, AllocError> {
-    let before = "[".repeat(rt.alloc(), depth)?;
-    let after = "]".repeat(rt.alloc(), depth)?;
-    format!(in rt.alloc(); "{{\"band\":{before}{after},")
+// Whether the text is answered so, with lists that nest so deep in a member that is passed over.
+fn nests(alloc: Global, depth: usize, why: Option<ScenarioErr>) -> Result<bool, NoMemory> {
+    let before = "[".repeat(alloc, depth)?;
+    let after = "]".repeat(alloc, depth)?;
+    let other = format!(in alloc; "{{\"band\":{before}{after},")?;
+    is_answered(alloc, "{", other.as_str(), why)
 }
 
 #[test]
 fn texts_that_are_no_json(rt: HostRuntime) -> Result<(), Fail> {
-    let (deep, deeper) = (nested(&rt, 127)?, nested(&rt, 200)?);
-    for (part, other) in [
+    let rows = [
         ("}]}", "}]"),
         ("}]}", "}]}x"),
         ("}]}", "}]}{}"),
         ("{", r#"{"band":1e999,"#),
         ("{", r#"{"band":"\ud800","#),
         ("{", r#"{"band":NaN,"#),
-        ("{", deep.as_str()),
-        ("{", deeper.as_str()),
         (r#""top":15"#, r#""top":+15"#),
         (r#""top":15"#, r#""top":015"#),
-    ] {
-        let text = changed(&rt, part, other)?;
-        assert_eq!(rt;
-            refusal(&rt, text.as_str()),
-            Some(ScenarioErr::Syntax),
-            "{text}"
-        );
-    }
+    ];
+    let syntax = Some(ScenarioErr::Syntax);
+    assert_eq!(rt; first_not(rt.alloc(), syntax, &rows)?, None);
+    assert!(rt; nests(rt.alloc(), 127, syntax)?);
+    assert!(rt; nests(rt.alloc(), 200, syntax)?);
     Ok(())
 }
 
 #[test]
 fn texts_written_otherwise(rt: HostRuntime) -> Result<(), Fail> {
-    let deep = nested(&rt, 126)?;
-    for (part, other) in [
+    let rows = [
         ("{", " \r\n\t{"),
         ("}]}", "} ] }\n"),
         (r#""top":15"#, r#""top" : 15"#),
         (r#""top":15"#, r#""t\u006fp":15"#),
         (r#""cdcl""#, r#""cd\u0063l""#),
         ("{", r#"{"band":"\ud83d\ude00","#),
-        ("{", deep.as_str()),
-    ] {
-        let text = changed(&rt, part, other)?;
-        assert_eq!(rt; refusal(&rt, text.as_str()), None, "{text}");
-    }
+    ];
+    assert_eq!(rt; first_not(rt.alloc(), None, &rows)?, None);
+    assert!(rt; nests(rt.alloc(), 126, None)?);
     Ok(())
 }
 
 // Of a member that stands twice the last counts, also where one of them is of another kind.
 #[test]
 fn members_that_stand_twice(rt: HostRuntime) -> Result<(), Fail> {
-    for (part, other, why) in [
+    let rows = [
         (r#""top":15"#, r#""top":52,"top":15"#, None),
         (r#""top":15"#, r#""top":"x","top":15"#, None),
-        (r#""top":15"#, r#""top":15,"top":52"#, outside(Name::Top, 0)),
-        (r#""top":15"#, r#""top":15,"top":"x""#, wrong(Name::Top, 0)),
+        (
+            r#""top":15"#,
+            r#""top":15,"top":52"#,
+            refused(Fault::Outside, Name::Top, 0),
+        ),
+        (
+            r#""top":15"#,
+            r#""top":15,"top":"x""#,
+            refused(Fault::Wrong, Name::Top, 0),
+        ),
         (
             r#""top":15"#,
             r#""top":15,"t\u006fp":52"#,
-            outside(Name::Top, 0),
+            refused(Fault::Outside, Name::Top, 0),
         ),
-        ("}]}", r#"}],"decrements":7}"#, wrong(Name::Decrements, 0)),
+        (
+            "}]}",
+            r#"}],"decrements":7}"#,
+            refused(Fault::Wrong, Name::Decrements, 0),
+        ),
         (r#""id":2"#, r#""id":1,"id":2"#, None),
         (
             r#""id":2"#,
@@ -105,9 +116,7 @@ fn members_that_stand_twice(rt: HostRuntime) -> Result<(), Fail> {
             r#""cdcl","kind":"walk""#,
             Some(ScenarioErr::NoProver),
         ),
-    ] {
-        let text = changed(&rt, part, other)?;
-        assert_eq!(rt; refusal(&rt, text.as_str()), why, "{text}");
-    }
+    ];
+    assert_eq!(rt; first_otherwise(rt.alloc(), &rows)?, None);
     Ok(())
 }
