@@ -24,19 +24,37 @@ const STATIONS: &str =
 
 const WORKERS: &str = r#"[{"kind":"cdcl","budget":1000}]"#;
 
-// How a member is at fault.
+// Why a text is refused, in short: a member with its place, or one of the others.
 #[derive(Clone, Copy)]
 enum Fault {
-    Missing,
-    Wrong,
-    Outside,
+    Missing(Name, u64),
+    Wrong(Name, u64),
+    Outside(Name, u64),
+    Repeated(u32),
+    Sum,
+    NoProver,
+    Syntax,
 }
 
-fn refused(fault: Fault, name: Name, at: u64) -> Option<ScenarioErr> {
+// The refusal for this fault.
+fn refusal(fault: Fault) -> ScenarioErr {
     match fault {
-        Fault::Missing => Some(ScenarioErr::MissingField { name, at }),
-        Fault::Wrong => Some(ScenarioErr::WrongKind { name, at }),
-        Fault::Outside => Some(ScenarioErr::OutOfLimit { name, at }),
+        Fault::Missing(name, at) => ScenarioErr::MissingField { name, at },
+        Fault::Wrong(name, at) => ScenarioErr::WrongKind { name, at },
+        Fault::Outside(name, at) => ScenarioErr::OutOfLimit { name, at },
+        Fault::Repeated(station) => ScenarioErr::RepeatedStation(station),
+        Fault::Sum => ScenarioErr::SumOverOpening,
+        Fault::NoProver => ScenarioErr::NoProver,
+        Fault::Syntax => ScenarioErr::Syntax,
+    }
+}
+
+// What the reader says of the bytes: whether it accepts them, or refuses them for this fault.
+fn says(alloc: Global, bytes: &[u8], fault: Option<Fault>) -> bool {
+    match (read_scenario(alloc, bytes), fault) {
+        (Ok(_), None) => true,
+        (Err(why), Some(fault)) => why == refusal(fault),
+        _ => false,
     }
 }
 
@@ -48,54 +66,40 @@ fn changed(alloc: Global, part: &str, other: &str) -> Result<Option<String>, NoM
     Ok(Some(format!(in alloc; "{before}{other}{after}")?))
 }
 
-// Whether the text with one part of it changed is refused so, and accepted for `None`.
+// Whether the text with one part of it changed is refused for this fault, and accepted for `None`.
 fn is_answered(
     alloc: Global,
     part: &str,
     other: &str,
-    why: Option<ScenarioErr>,
+    fault: Option<Fault>,
 ) -> Result<bool, NoMemory> {
     let Some(text) = changed(alloc, part, other)? else {
         return Ok(false);
     };
-    Ok(read_scenario(alloc, text.as_bytes()).err() == why)
+    Ok(says(alloc, text.as_bytes(), fault))
 }
 
 // The first of these rows that is answered otherwise, by what it puts in place of a part of the text.
 fn first_otherwise<'a>(
     alloc: Global,
-    rows: &[(&str, &'a str, Option<ScenarioErr>)],
+    rows: &[(&str, &'a str, Option<Fault>)],
 ) -> Result<Option<&'a str>, NoMemory> {
-    for (part, other, why) in rows {
-        if !is_answered(alloc, part, other, *why)? {
+    for (part, other, fault) in rows {
+        if !is_answered(alloc, part, other, *fault)? {
             return Ok(Some(other));
         }
     }
     Ok(None)
 }
 
-// The same of rows that are all accepted or refused for one reason.
+// The same of rows that are all accepted, or all refused for one fault.
 fn first_not<'a>(
     alloc: Global,
-    why: Option<ScenarioErr>,
+    fault: Option<Fault>,
     rows: &[(&str, &'a str)],
 ) -> Result<Option<&'a str>, NoMemory> {
     for (part, other) in rows {
-        if !is_answered(alloc, part, other, why)? {
-            return Ok(Some(other));
-        }
-    }
-    Ok(None)
-}
-
-// The same of rows with a member each that is at fault in one way.
-fn first_without<'a>(
-    alloc: Global,
-    fault: Fault,
-    rows: &[(&str, &'a str, Name, u64)],
-) -> Result<Option<&'a str>, NoMemory> {
-    for (part, other, name, at) in rows {
-        if !is_answered(alloc, part, other, refused(fault, *name, *at))? {
+        if !is_answered(alloc, part, other, fault)? {
             return Ok(Some(other));
         }
     }
@@ -106,29 +110,28 @@ fn first_without<'a>(
 fn first_value<'a>(
     alloc: Global,
     values: &[&'a str],
-    why: Option<ScenarioErr>,
+    fault: Option<Fault>,
     part: &str,
     before: &str,
     after: &str,
 ) -> Result<Option<&'a str>, NoMemory> {
     for value in values {
         let other = format!(in alloc; "{before}{value}{after}")?;
-        if !is_answered(alloc, part, other.as_str(), why)? {
+        if !is_answered(alloc, part, other.as_str(), fault)? {
             return Ok(Some(value));
         }
     }
     Ok(None)
 }
 
-// The first part, what stands before the value and what behind it, of which one of the values is not of the wrong kind.
-fn first_of_kind<'a>(
+// The first part, and what stands there before the value, for which one of the values is not refused for this fault.
+fn first_place<'a>(
     alloc: Global,
     values: &[&str],
-    rows: &[(&'a str, &'a str, &str, Name, u64)],
+    rows: &[(&'a str, &'a str, &str, Fault)],
 ) -> Result<Option<(&'a str, &'a str)>, NoMemory> {
-    for (part, before, after, name, at) in rows {
-        let why = refused(Fault::Wrong, *name, *at);
-        if first_value(alloc, values, why, part, before, after)?.is_some() {
+    for (part, before, after, fault) in rows {
+        if first_value(alloc, values, Some(*fault), part, before, after)?.is_some() {
             return Ok(Some((part, before)));
         }
     }

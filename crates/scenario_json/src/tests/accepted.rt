@@ -43,8 +43,12 @@ fn reads_stations(
 #[test]
 fn reads_three_stations(rt: HostRuntime) -> Result<(), Fail> {
     assert!(rt; reads_numbers(rt.alloc()));
-    let stations = [(1, 1, Some(50)), (2, 1, Some(70)), (3, 1, Some(10))];
-    assert!(rt; reads_stations(rt.alloc(), "", "", &stations)?);
+    const READ: &[(u32, u32, Option<u64>)] = &[
+        (1, 1, Some(50)),
+        (2, 1, Some(70)),
+        (3, 1, Some(10)),
+    ];
+    assert!(rt; reads_stations(rt.alloc(), "", "", READ)?);
     Ok(())
 }
 
@@ -72,27 +76,27 @@ fn reads_workers(
 
 #[test]
 fn reads_four_workers(rt: HostRuntime) -> Result<(), Fail> {
-    let list =
+    const LIST: &str =
         r#"[{"seed":18446744073709551615,"budget":1000000,"kind":"walk"},{"kind":"cdcl","budget":7},{"kind":"walk","budget":1},{"kind":"cdcl","budget":100000,"seed":5}]"#;
-    let workers = [
+    const READ: &[(Kind, u32, u64)] = &[
         (Kind::Walk, 1_000_000, 18_446_744_073_709_551_615),
         (Kind::Cdcl, 7, 0),
         (Kind::Walk, 1, 0),
         (Kind::Cdcl, 100_000, 5),
     ];
-    assert!(rt; reads_workers(rt.alloc(), list, &workers)?);
+    assert!(rt; reads_workers(rt.alloc(), LIST, READ)?);
     Ok(())
 }
 
 #[test]
 fn reads_stations_in_any_order(rt: HostRuntime) -> Result<(), Fail> {
-    let (part, other) = (r#""id":1"#, r#""id":4294967295"#);
-    let stations = [
+    const READ: &[(u32, u32, Option<u64>)] = &[
         (2, 1, Some(70)),
         (3, 1, Some(10)),
         (4_294_967_295, 1, Some(50)),
     ];
-    assert!(rt; reads_stations(rt.alloc(), part, other, &stations)?);
+    let other = r#""id":4294967295"#;
+    assert!(rt; reads_stations(rt.alloc(), r#""id":1"#, other, READ)?);
     Ok(())
 }
 
@@ -112,7 +116,7 @@ fn first_value_otherwise<'a>(
 
 #[test]
 fn reads_values(rt: HostRuntime) -> Result<(), Fail> {
-    let rows = [
+    const ROWS: &[(&str, Option<u64>)] = &[
         ("", None),
         (r#","value":null"#, None),
         (r#","value":0"#, Some(0)),
@@ -120,13 +124,13 @@ fn reads_values(rt: HostRuntime) -> Result<(), Fail> {
         (r#","value":1000000000000000"#, Some(1_000_000_000_000_000)),
         (r#","value":7,"value":null"#, None),
     ];
-    assert_eq!(rt; first_value_otherwise(rt.alloc(), &rows)?, None);
+    assert_eq!(rt; first_value_otherwise(rt.alloc(), ROWS)?, None);
     Ok(())
 }
 
 #[test]
 fn accepts_the_limits_themselves(rt: HostRuntime) -> Result<(), Fail> {
-    let rows = [
+    const ROWS: &[(&str, &str)] = &[
         (r#""top":15"#, r#""top":14"#),
         (r#""top":15"#, r#""top":51"#),
         (r#""opening":100"#, r#""opening":80"#),
@@ -152,7 +156,7 @@ fn accepts_the_limits_themselves(rt: HostRuntime) -> Result<(), Fail> {
             r#""workers":[{"kind":"walk","budget":1000000},"#,
         ),
     ];
-    assert_eq!(rt; first_not(rt.alloc(), None, &rows)?, None);
+    assert_eq!(rt; first_not(rt.alloc(), None, ROWS)?, None);
     Ok(())
 }
 
@@ -176,7 +180,7 @@ fn first_not_passed_over<'a>(
 
 #[test]
 fn passes_other_members_over(rt: HostRuntime) -> Result<(), Fail> {
-    let values = [
+    const VALUES: &[&str] = &[
         "null",
         "true",
         "-1.5e3",
@@ -184,6 +188,6 @@ fn passes_other_members_over(rt: HostRuntime) -> Result<(), Fail> {
         r#"[1,"two",{}]"#,
         r#"{"top":52}"#,
     ];
-    assert_eq!(rt; first_not_passed_over(rt.alloc(), &values)?, None);
+    assert_eq!(rt; first_not_passed_over(rt.alloc(), VALUES)?, None);
     Ok(())
 }

@@ -76,11 +76,11 @@ fn first_otherwise<'a>(alloc: Global, rows: &[(&'a str, u32)]) -> Option<&'a str
 
 #[test]
 fn names_the_least_station_without_a_domain(rt: HostRuntime) {
-    let rows = [
+    const ROWS: &[(&str, u32)] = &[
         ("", 1),
         ("DOMAIN,1,14\nDOMAIN,4,14\n", 2),
         ("DOMAIN,2,14\nDOMAIN,1,14\n", 3),
         ("DOMAIN,3\n", 1),
     ];
-    assert_eq!(rt; first_otherwise(rt.alloc(), &rows), None);
+    assert_eq!(rt; first_otherwise(rt.alloc(), ROWS), None);
 }

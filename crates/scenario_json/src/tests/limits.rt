@@ -1,91 +1,166 @@
 //! Members outside their limits, and lists of too few or too many items.
 
-use crate::error::ScenarioErr;
 use crate::name::Name;
-use crate::scenario::read_scenario;
-use crate::tests::{DECREMENTS, Fault, STATIONS, WORKERS, first_without, is_answered, refused};
+use crate::tests::{DECREMENTS, Fault, STATIONS, WORKERS, first_otherwise, is_answered, says};
 use std::alloc::{AllocError as NoMemory, Global};
 use std::test::Fail;
 
 #[test]
 fn members_out_of_their_limits(rt: HostRuntime) -> Result<(), Fail> {
-    let rows = [
-        (r#""version":1"#, r#""version":0"#, Name::Version, 0),
-        (r#""version":1"#, r#""version":2"#, Name::Version, 0),
-        (r#""top":15"#, r#""top":13"#, Name::Top, 0),
-        (r#""top":15"#, r#""top":52"#, Name::Top, 0),
-        (r#""top":15"#, r#""top":18446744073709551615"#, Name::Top, 0),
-        (r#""opening":100"#, r#""opening":0"#, Name::Opening, 0),
-        (r#""opening":100"#, r#""opening":1000001"#, Name::Opening, 0),
-        ("[40,40]", "[0,40]", Name::Decrements, 1),
-        ("[40,40]", "[40,40,0]", Name::Decrements, 3),
-        ("[40,40]", "[40,1000001]", Name::Decrements, 2),
-        (r#""id":3"#, r#""id":4294967296"#, Name::Id, 3),
-        (r#""volume":1"#, r#""volume":0"#, Name::Volume, 1),
-        (r#""volume":1"#, r#""volume":1000001"#, Name::Volume, 1),
+    const ROWS: &[(&str, &str, Option<Fault>)] = &[
+        (
+            r#""version":1"#,
+            r#""version":0"#,
+            Some(Fault::Outside(Name::Version, 0)),
+        ),
+        (
+            r#""version":1"#,
+            r#""version":2"#,
+            Some(Fault::Outside(Name::Version, 0)),
+        ),
+        (
+            r#""top":15"#,
+            r#""top":13"#,
+            Some(Fault::Outside(Name::Top, 0)),
+        ),
+        (
+            r#""top":15"#,
+            r#""top":52"#,
+            Some(Fault::Outside(Name::Top, 0)),
+        ),
+        (
+            r#""top":15"#,
+            r#""top":18446744073709551615"#,
+            Some(Fault::Outside(Name::Top, 0)),
+        ),
+        (
+            r#""opening":100"#,
+            r#""opening":0"#,
+            Some(Fault::Outside(Name::Opening, 0)),
+        ),
+        (
+            r#""opening":100"#,
+            r#""opening":1000001"#,
+            Some(Fault::Outside(Name::Opening, 0)),
+        ),
+        (
+            "[40,40]",
+            "[0,40]",
+            Some(Fault::Outside(Name::Decrements, 1)),
+        ),
+        (
+            "[40,40]",
+            "[40,40,0]",
+            Some(Fault::Outside(Name::Decrements, 3)),
+        ),
+        (
+            "[40,40]",
+            "[40,1000001]",
+            Some(Fault::Outside(Name::Decrements, 2)),
+        ),
+        (
+            r#""id":3"#,
+            r#""id":4294967296"#,
+            Some(Fault::Outside(Name::Id, 3)),
+        ),
+        (
+            r#""volume":1"#,
+            r#""volume":0"#,
+            Some(Fault::Outside(Name::Volume, 1)),
+        ),
+        (
+            r#""volume":1"#,
+            r#""volume":1000001"#,
+            Some(Fault::Outside(Name::Volume, 1)),
+        ),
         (
             r#""value":70"#,
             r#""value":1000000000000001"#,
-            Name::Value,
-            2,
+            Some(Fault::Outside(Name::Value, 2)),
         ),
-        (r#""cdcl""#, r#""CDCL""#, Name::Kind, 1),
-        (r#""cdcl""#, r#""Walk""#, Name::Kind, 1),
-        (r#""cdcl""#, r#""WALK""#, Name::Kind, 1),
-        (r#""cdcl""#, r#""walker""#, Name::Kind, 1),
-        (r#""cdcl""#, r#""wal""#, Name::Kind, 1),
-        (r#""cdcl""#, r#""""#, Name::Kind, 1),
-        (r#""budget":1000"#, r#""budget":0"#, Name::Budget, 1),
-        (r#""budget":1000"#, r#""budget":100001"#, Name::Budget, 1),
+        (
+            r#""cdcl""#,
+            r#""CDCL""#,
+            Some(Fault::Outside(Name::Kind, 1)),
+        ),
+        (
+            r#""cdcl""#,
+            r#""Walk""#,
+            Some(Fault::Outside(Name::Kind, 1)),
+        ),
+        (
+            r#""cdcl""#,
+            r#""WALK""#,
+            Some(Fault::Outside(Name::Kind, 1)),
+        ),
+        (
+            r#""cdcl""#,
+            r#""walker""#,
+            Some(Fault::Outside(Name::Kind, 1)),
+        ),
+        (r#""cdcl""#, r#""wal""#, Some(Fault::Outside(Name::Kind, 1))),
+        (r#""cdcl""#, r#""""#, Some(Fault::Outside(Name::Kind, 1))),
+        (
+            r#""budget":1000"#,
+            r#""budget":0"#,
+            Some(Fault::Outside(Name::Budget, 1)),
+        ),
+        (
+            r#""budget":1000"#,
+            r#""budget":100001"#,
+            Some(Fault::Outside(Name::Budget, 1)),
+        ),
     ];
-    assert_eq!(rt; first_without(rt.alloc(), Fault::Outside, &rows)?, None);
+    assert_eq!(rt; first_otherwise(rt.alloc(), ROWS)?, None);
     Ok(())
 }
 
 // Lines of a cdcl worker, and moves of a walk.
 #[test]
 fn budgets_out_of_the_limits_of_their_kind(rt: HostRuntime) -> Result<(), Fail> {
-    let rows = [
-        (WORKERS, r#"[{"kind":"cdcl","budget":0}]"#, Name::Budget, 1),
+    const ROWS: &[(&str, &str, Option<Fault>)] = &[
+        (
+            WORKERS,
+            r#"[{"kind":"cdcl","budget":0}]"#,
+            Some(Fault::Outside(Name::Budget, 1)),
+        ),
         (
             WORKERS,
             r#"[{"kind":"cdcl","budget":100001}]"#,
-            Name::Budget,
-            1,
+            Some(Fault::Outside(Name::Budget, 1)),
         ),
         (
             WORKERS,
             r#"[{"kind":"cdcl","budget":1000000}]"#,
-            Name::Budget,
-            1,
+            Some(Fault::Outside(Name::Budget, 1)),
         ),
-        (WORKERS, r#"[{"kind":"walk","budget":0}]"#, Name::Budget, 1),
+        (
+            WORKERS,
+            r#"[{"kind":"walk","budget":0}]"#,
+            Some(Fault::Outside(Name::Budget, 1)),
+        ),
         (
             WORKERS,
             r#"[{"kind":"walk","budget":1000001}]"#,
-            Name::Budget,
-            1,
+            Some(Fault::Outside(Name::Budget, 1)),
         ),
         (
             WORKERS,
             r#"[{"kind":"cdcl","budget":100000},{"kind":"walk","budget":0}]"#,
-            Name::Budget,
-            2,
+            Some(Fault::Outside(Name::Budget, 2)),
         ),
         (
             WORKERS,
             r#"[{"kind":"cdcl","budget":100000},{"kind":"walk","budget":1000001}]"#,
-            Name::Budget,
-            2,
+            Some(Fault::Outside(Name::Budget, 2)),
         ),
         (
             WORKERS,
             r#"[{"kind":"walk","budget":1000000},{"kind":"cdcl","budget":100001}]"#,
-            Name::Budget,
-            2,
+            Some(Fault::Outside(Name::Budget, 2)),
         ),
     ];
-    assert_eq!(rt; first_without(rt.alloc(), Fault::Outside, &rows)?, None);
+    assert_eq!(rt; first_otherwise(rt.alloc(), ROWS)?, None);
     Ok(())
 }
 
@@ -111,29 +186,30 @@ fn numbered(alloc: Global, count: usize) -> Result<String, NoMemory> {
     Ok(list)
 }
 
-// Why a text with lists of so many decrements, stations and workers is refused, if it is.
-fn refusal_of(
+// Whether a text with lists of so many decrements, stations and workers is refused for this fault, and accepted for `None`.
+fn is_said(
     alloc: Global,
     decrements: usize,
     stations: usize,
     workers: usize,
-) -> Result<Option<ScenarioErr>, NoMemory> {
+    fault: Option<Fault>,
+) -> Result<bool, NoMemory> {
     let decrements = repeated(alloc, "1", decrements)?;
     let stations = numbered(alloc, stations)?;
     let workers = repeated(alloc, r#"{"kind":"cdcl","budget":1}"#, workers)?;
     let text = format!(in alloc;
         "{{\"version\":1,\"top\":15,\"opening\":1000000,\"decrements\":{decrements},\"stations\":{stations},\"workers\":{workers}}}"
     )?;
-    Ok(read_scenario(alloc, text.as_bytes()).err())
+    Ok(says(alloc, text.as_bytes(), fault))
 }
 
 // The first row of three lengths that is answered otherwise, by its place from 0.
 fn first_length(
     alloc: Global,
-    rows: &[(usize, usize, usize, Option<ScenarioErr>)],
+    rows: &[(usize, usize, usize, Option<Fault>)],
 ) -> Result<Option<usize>, NoMemory> {
-    for (i, (decrements, stations, workers, why)) in rows.iter().enumerate() {
-        if refusal_of(alloc, *decrements, *stations, *workers)? != *why {
+    for (i, (decrements, stations, workers, fault)) in rows.iter().enumerate() {
+        if !is_said(alloc, *decrements, *stations, *workers, *fault)? {
             return Ok(Some(i));
         }
     }
@@ -142,15 +218,15 @@ fn first_length(
 
 #[test]
 fn lists_by_their_length(rt: HostRuntime) -> Result<(), Fail> {
-    let rows = [
+    const ROWS: &[(usize, usize, usize, Option<Fault>)] = &[
         (0, 0, 1, None),
         (1_000, 4_096, 16, None),
-        (1_001, 0, 1, refused(Fault::Outside, Name::Decrements, 0)),
-        (0, 4_097, 1, refused(Fault::Outside, Name::Stations, 0)),
-        (0, 0, 0, refused(Fault::Outside, Name::Workers, 0)),
-        (0, 0, 17, refused(Fault::Outside, Name::Workers, 0)),
+        (1_001, 0, 1, Some(Fault::Outside(Name::Decrements, 0))),
+        (0, 4_097, 1, Some(Fault::Outside(Name::Stations, 0))),
+        (0, 0, 0, Some(Fault::Outside(Name::Workers, 0))),
+        (0, 0, 17, Some(Fault::Outside(Name::Workers, 0))),
     ];
-    assert_eq!(rt; first_length(rt.alloc(), &rows)?, None);
+    assert_eq!(rt; first_length(rt.alloc(), ROWS)?, None);
     Ok(())
 }
 
@@ -161,8 +237,8 @@ fn first_of_nulls<'a>(
 ) -> Result<Option<&'a str>, NoMemory> {
     for (list, count, name) in rows {
         let nulls = repeated(alloc, "null", *count)?;
-        let why = refused(Fault::Outside, *name, 0);
-        if !is_answered(alloc, list, nulls.as_str(), why)? {
+        let fault = Some(Fault::Outside(*name, 0));
+        if !is_answered(alloc, list, nulls.as_str(), fault)? {
             return Ok(Some(list));
         }
     }
@@ -172,11 +248,11 @@ fn first_of_nulls<'a>(
 // The length of a list is looked at before its items.
 #[test]
 fn length_before_items(rt: HostRuntime) -> Result<(), Fail> {
-    let rows = [
+    const ROWS: &[(&str, usize, Name)] = &[
         (DECREMENTS, 1_001, Name::Decrements),
         (STATIONS, 4_097, Name::Stations),
         (WORKERS, 17, Name::Workers),
     ];
-    assert_eq!(rt; first_of_nulls(rt.alloc(), &rows)?, None);
+    assert_eq!(rt; first_of_nulls(rt.alloc(), ROWS)?, None);
     Ok(())
 }
