@@ -35,18 +35,28 @@ fn pairs_shown(alloc: Global, pairs: &Pairs) -> Result<String, AllocError> {
     Ok(shown)
 }
 
+// Adds a field in brackets.
+fn push_field(shown: &mut String, field: &[u8]) -> Result<(), AllocError> {
+    shown.push('[')?;
+    for byte in field {
+        shown.push(char::from(*byte))?;
+    }
+    shown.push(']')
+}
+
+// Adds the fields of a record, and a semicolon.
+fn push_record(shown: &mut String, record: &[Vec<u8>]) -> Result<(), AllocError> {
+    for field in record {
+        push_field(shown, field)?;
+    }
+    shown.push(';')
+}
+
 // The fields of the records of a line, each field in brackets, as `[CO][14];[CO];`.
 fn fields_shown(alloc: Global, line: &[u8]) -> Result<String, AllocError> {
     let mut shown = String::new(alloc);
     for record in &fields(alloc, line)? {
-        for field in record {
-            shown.push('[')?;
-            for byte in field {
-                shown.push(char::from(*byte))?;
-            }
-            shown.push(']')?;
-        }
-        shown.push(';')?;
+        push_record(&mut shown, record)?;
     }
     Ok(shown)
 }
@@ -60,7 +70,7 @@ fn first_number(cases: &[(&[u8], Option<u32>)]) -> Option<usize> {
 
 #[test]
 fn numbers(rt: HostRuntime) {
-    let cases: [(&[u8], Option<u32>); 14] = [
+    const CASES: &[(&[u8], Option<u32>)] = &[
         (b"0", Some(0)),
         (b"7", Some(7)),
         (b"4294967295", Some(4_294_967_295)),
@@ -76,7 +86,7 @@ fn numbers(rt: HostRuntime) {
         (b"0x10", None),
         (b"\xD9\xA1", None),
     ];
-    assert_eq!(rt; first_number(&cases), None);
+    assert_eq!(rt; first_number(CASES), None);
 }
 
 // The first of these lines whose fields are shown otherwise, by what they are to be shown as.
@@ -94,7 +104,7 @@ fn first_fields<'a>(
 
 #[test]
 fn fields_of_a_line(rt: HostRuntime) -> Result<(), Fail> {
-    let cases: [(&[u8], &str); 25] = [
+    const CASES: &[(&[u8], &str)] = &[
         (b"", ""),
         (b"CO,14,14,1,2", "[CO][14][14][1][2];"),
         (b" CO ,\t14\t, 14,1\t ,2 ", "[CO][14][14][1][2];"),
@@ -121,7 +131,7 @@ fn fields_of_a_line(rt: HostRuntime) -> Result<(), Fail> {
         (b"\xEF\xBB\xBF1,2", "[1][2];"),
         (b"\x0B1,\xC2\xA02", "[\x0B1][\u{C2}\u{A0}2];"),
     ];
-    assert_eq!(rt; first_fields(rt.alloc(), &cases)?, None);
+    assert_eq!(rt; first_fields(rt.alloc(), CASES)?, None);
     Ok(())
 }
 
@@ -202,12 +212,12 @@ fn three_stations(rt: HostRuntime) -> Result<(), Fail> {
     let shown = "1 14 15;2 14 15;3 14 15;";
     assert!(rt; domains_are(rt.alloc(), THREE_STATIONS, shown)?);
     assert!(rt; has_second(rt.alloc(), THREE_STATIONS));
-    let cases: [(&[u8], &str, u64, u64); 1] = [(
+    const CASES: &[(&[u8], &str, u64, u64)] = &[(
         b"CO,14,14,1,2,3\nCO,14,14,2,3\nCO,15,15,1,2,3\nCO,15,15,2,3\n",
         "1 on 14, 2 on 14;1 on 14, 3 on 14;1 on 15, 2 on 15;1 on 15, 3 on 15;2 on 14, 3 on 14;2 on 15, 3 on 15;",
         0,
         0,
     )];
-    assert_eq!(rt; first_pairs(rt.alloc(), THREE_STATIONS, &cases)?, None);
+    assert_eq!(rt; first_pairs(rt.alloc(), THREE_STATIONS, CASES)?, None);
     Ok(())
 }

@@ -8,7 +8,7 @@ use std::test::Fail;
 
 #[test]
 fn domains_that_are_read(rt: HostRuntime) -> Result<(), Fail> {
-    let cases: [(&[u8], &str); 19] = [
+    const CASES: &[(&[u8], &str)] = &[
         (b"", ""),
         (b"DOMAIN,1\n", "1;"),
         (b"DOMAIN,2,7,14,14,15", "2 14 15;"),
@@ -35,7 +35,7 @@ fn domains_that_are_read(rt: HostRuntime) -> Result<(), Fail> {
         (b"DOMAIN,1,\" 14 \"\n", "1 14;"),
         (b"DOMAIN,1,\"1\"4\n", "1 14;"),
     ];
-    assert_eq!(rt; first_domains(rt.alloc(), &cases)?, None);
+    assert_eq!(rt; first_domains(rt.alloc(), CASES)?, None);
     Ok(())
 }
 
@@ -55,7 +55,7 @@ fn first_read(alloc: Global, cases: &[(&[u8], u64, RowWhy)]) -> Option<usize> {
 
 #[test]
 fn domains_that_are_refused(rt: HostRuntime) {
-    let cases: [(&[u8], u64, RowWhy); 29] = [
+    const CASES: &[(&[u8], u64, RowWhy)] = &[
         (b"DOMAIN", 1, RowWhy::ShortRow),
         (b"DOMAIN,,\n", 1, RowWhy::ShortRow),
         (b"CO\n", 1, RowWhy::ShortRow),
@@ -94,7 +94,7 @@ fn domains_that_are_refused(rt: HostRuntime) {
             RowWhy::ShortRow,
         ),
     ];
-    assert_eq!(rt; first_read(rt.alloc(), &cases), None);
+    assert_eq!(rt; first_read(rt.alloc(), CASES), None);
 }
 
 // How many domains are read of the lines up to this number and these behind them.

@@ -10,7 +10,7 @@ use std::test::Fail;
 #[test]
 fn rows_that_are_read(rt: HostRuntime) -> Result<(), Fail> {
     let file = b"DOMAIN,1,14,15,16\nDOMAIN,2,14,15,16\nDOMAIN,3,14\n";
-    let cases: [(&[u8], &str, u64, u64); 28] = [
+    const CASES: &[(&[u8], &str, u64, u64)] = &[
         (b"", "", 0, 0),
         (b"CO,14,14,1\n", "", 0, 0),
         (b"CO,14,14,1,1,2\n", "1 on 14, 2 on 14;", 1, 0),
@@ -65,7 +65,7 @@ fn rows_that_are_read(rt: HostRuntime) -> Result<(), Fail> {
             1,
         ),
     ];
-    assert_eq!(rt; first_pairs(rt.alloc(), file, &cases)?, None);
+    assert_eq!(rt; first_pairs(rt.alloc(), file, CASES)?, None);
     Ok(())
 }
 
@@ -88,7 +88,7 @@ fn first_read_pairs(alloc: Global, cases: &[(&[u8], u64, RowWhy)]) -> Option<usi
 
 #[test]
 fn rows_that_are_refused(rt: HostRuntime) {
-    let cases: [(&[u8], u64, RowWhy); 35] = [
+    const CASES: &[(&[u8], u64, RowWhy)] = &[
         (b"CO", 1, RowWhy::ShortRow),
         (b"CO,14,14\n", 1, RowWhy::ShortRow),
         (b"CO,14,14,,\n", 1, RowWhy::ShortRow),
@@ -129,20 +129,26 @@ fn rows_that_are_refused(rt: HostRuntime) {
         (b"CO,14,15,1\nCO\n", 1, RowWhy::BadOffset),
         (b"\x8A\x2C\xFE\x0A\x00,\"\x0D\x91,5", 1, RowWhy::ShortRow),
     ];
-    assert_eq!(rt; first_read_pairs(rt.alloc(), &cases), None);
+    assert_eq!(rt; first_read_pairs(rt.alloc(), CASES), None);
 }
 
-// For each s from 1 up to this number the row of s with each station above it up to 2,829.
+// The row of s with each station above it up to 2,829.
+fn row_of(alloc: Global, s: u32) -> Result<String, AllocError> {
+    let mut row = format!(in alloc; "CO,14,14,{s}")?;
+    for t in 1..2_830 {
+        if t > s {
+            row.push_str(format!(in alloc; ",{t}")?.as_str())?;
+        }
+    }
+    row.push('\n')?;
+    Ok(row)
+}
+
+// For each s from 1 up to this number its row.
 fn rows_of_all(alloc: Global, last: u32) -> Result<String, AllocError> {
     let mut text = String::new(alloc);
     for s in 1..=last {
-        text.push_str(format!(in alloc; "CO,14,14,{s}")?.as_str())?;
-        for t in 1..2_830 {
-            if t > s {
-                text.push_str(format!(in alloc; ",{t}")?.as_str())?;
-            }
-        }
-        text.push('\n')?;
+        text.push_str(row_of(alloc, s)?.as_str())?;
     }
     Ok(text)
 }
