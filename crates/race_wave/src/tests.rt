@@ -120,7 +120,7 @@ fn three_stations_are_asked_by_a_worker(rt: HostRuntime) -> Result<(), Fail> {
     Ok(())
 }
 
-// The second worker decides what the first did not.
+// Neither decides the last test, or the first does, or the second what the first did not.
 #[test]
 fn three_stations_are_asked_by_two_workers(rt: HostRuntime) -> Result<(), Fail> {
     assert!(rt; two_freeze(rt.alloc(), 1, 1, By::None)?);
