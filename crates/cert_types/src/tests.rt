@@ -15,6 +15,16 @@ use rup_check::line::Line;
 use std::alloc::{AllocError as NoMemory, Global};
 use std::test::Fail;
 
+const ALL: &[u32] = &[1, 2, 3];
+
+const COUNT: Option<Place> = Some(Place::Count);
+
+const SUBSET: Option<Place> = Some(Place::Subset);
+
+const FIRST: Option<Place> = Some(Place::LineAt(1));
+
+const SECOND: Option<Place> = Some(Place::LineAt(2));
+
 // What the check says of an answer to the test of the first three stations, while 1 is on 15 and 2 on 14.
 fn checked(
     alloc: Global,
@@ -71,39 +81,36 @@ fn wrong_receipt(
 
 #[test]
 fn faults_of_proofs(rt: HostRuntime) -> Result<(), Fail> {
-    let all = &[1, 2, 3];
-    let (count, subset) = (Some(Place::Count), Some(Place::Subset));
-    let (first, second) = (Some(Place::LineAt(1)), Some(Place::LineAt(2)));
-    let cases: [(u32, &[u32], &[Text], Option<Place>); 11] = [
+    const CASES: &[(u32, &[u32], &[Text], Option<Place>)] = &[
         // The number of lines.
-        (1000, all, &[], count),
-        (1, all, &[NOT_ONE, THE_END], count),
-        (2, all, &[NOT_ONE, THE_END], None),
+        (1000, ALL, &[], COUNT),
+        (1, ALL, &[NOT_ONE, THE_END], COUNT),
+        (2, ALL, &[NOT_ONE, THE_END], None),
         // The subset: out of order, one station twice, a stranger; and one whose clauses have other numbers.
-        (2, &[1, 3, 2], &[NOT_ONE, THE_END], subset),
-        (2, &[1, 1, 2], &[NOT_ONE, THE_END], subset),
-        (2, &[1, 2, 4], &[NOT_ONE, THE_END], subset),
-        (2, &[1, 2], &[NOT_ONE, THE_END], first),
+        (2, &[1, 3, 2], &[NOT_ONE, THE_END], SUBSET),
+        (2, &[1, 1, 2], &[NOT_ONE, THE_END], SUBSET),
+        (2, &[1, 2, 4], &[NOT_ONE, THE_END], SUBSET),
+        (2, &[1, 2], &[NOT_ONE, THE_END], FIRST),
         // A line that does not follow, a last line that is not empty, an empty line before the last.
-        (9, all, &[OUT_OF_TURN, THE_END], first),
-        (9, all, &[NOT_ONE, OUT_OF_TURN, THE_END], second),
-        (9, all, &[NOT_ONE], first),
-        (9, all, &[NOT_ONE, THE_END, EMPTY_AGAIN], second),
+        (9, ALL, &[OUT_OF_TURN, THE_END], FIRST),
+        (9, ALL, &[NOT_ONE, OUT_OF_TURN, THE_END], SECOND),
+        (9, ALL, &[NOT_ONE], FIRST),
+        (9, ALL, &[NOT_ONE, THE_END, EMPTY_AGAIN], SECOND),
     ];
-    assert_eq!(rt; wrong_proof(rt.alloc(), &cases)?, None);
+    assert_eq!(rt; wrong_proof(rt.alloc(), CASES)?, None);
     Ok(())
 }
 
 #[test]
 fn faults_of_receipts(rt: HostRuntime) -> Result<(), Fail> {
-    let cases: [(u32, &[Text], Option<Place>); 5] = [
+    const CASES: &[(u32, &[Text], Option<Place>)] = &[
         (1, &[NOT_ONE], None),
         (2, &[NOT_ONE], Some(Place::Count)),
         (1, &[NOT_ONE, NOT_ONE], Some(Place::Count)),
         (1, &[OUT_OF_TURN], Some(Place::LineAt(1))),
         (2, &[NOT_ONE, THE_END], Some(Place::LineAt(2))),
     ];
-    assert_eq!(rt; wrong_receipt(rt.alloc(), &cases)?, None);
+    assert_eq!(rt; wrong_receipt(rt.alloc(), CASES)?, None);
     Ok(())
 }
 
@@ -127,29 +134,26 @@ fn faults_of_fits(rt: HostRuntime) -> Result<(), Fail> {
 
 #[test]
 fn first_of_two_faults(rt: HostRuntime) -> Result<(), Fail> {
-    let all = &[1, 2, 3];
-    let (first, second) = (Some(Place::LineAt(1)), Some(Place::LineAt(2)));
-    let cases: [(u32, &[u32], &[Text], Option<Place>); 4] = [
+    const CASES: &[(u32, &[u32], &[Text], Option<Place>)] = &[
         // Too many lines, over no subset; over no subset, a line that does not follow.
         (1, &[4, 5], &[OUT_OF_TURN, THE_END], Some(Place::Count)),
         (2, &[4, 5], &[OUT_OF_TURN, THE_END], Some(Place::Subset)),
         // A line that does not follow, and behind it an empty one before the last; and the other way round.
-        (3, all, &[OUT_OF_TURN, EMPTY_AGAIN, NOT_ONE], first),
-        (3, all, &[NOT_ONE, THE_END, OUT_OF_TURN], second),
+        (3, ALL, &[OUT_OF_TURN, EMPTY_AGAIN, NOT_ONE], FIRST),
+        (3, ALL, &[NOT_ONE, THE_END, OUT_OF_TURN], SECOND),
     ];
-    assert_eq!(rt; wrong_proof(rt.alloc(), &cases)?, None);
+    assert_eq!(rt; wrong_proof(rt.alloc(), CASES)?, None);
     Ok(())
 }
 
 #[test]
 fn first_of_two_faults_of_receipts(rt: HostRuntime) -> Result<(), Fail> {
-    let (first, second) = (Some(Place::LineAt(1)), Some(Place::LineAt(2)));
-    let cases: [(u32, &[Text], Option<Place>); 3] = [
+    const CASES: &[(u32, &[Text], Option<Place>)] = &[
         (3, &[OUT_OF_TURN, THE_END], Some(Place::Count)),
-        (3, &[OUT_OF_TURN, EMPTY_AGAIN, NOT_ONE], first),
-        (3, &[NOT_ONE, THE_END, OUT_OF_TURN], second),
+        (3, &[OUT_OF_TURN, EMPTY_AGAIN, NOT_ONE], FIRST),
+        (3, &[NOT_ONE, THE_END, OUT_OF_TURN], SECOND),
     ];
-    assert_eq!(rt; wrong_receipt(rt.alloc(), &cases)?, None);
+    assert_eq!(rt; wrong_receipt(rt.alloc(), CASES)?, None);
     Ok(())
 }
 
@@ -175,15 +179,14 @@ fn wrong_walk(
 
 #[test]
 fn faults_of_walks(rt: HostRuntime) -> Result<(), Fail> {
-    let count = Some(Place::Count);
-    let cases: [(u32, &[(u32, u8)], Option<Place>); 12] = [
+    const CASES: &[(u32, &[(u32, u8)], Option<Place>)] = &[
         // From 1, 2 and 3 on 14: 2 and 3 stay on one channel, and then 1 and 2.
         (1, &[(1, 15)], None),
         (2, &[(1, 15), (2, 15)], None),
         // The number of moves.
-        (1, &[], count),
-        (2, &[(1, 15)], count),
-        (1, &[(1, 15), (2, 15)], count),
+        (1, &[], COUNT),
+        (2, &[(1, 15)], COUNT),
+        (1, &[(1, 15), (2, 15)], COUNT),
         // A move onto its own channel, off the domain, and of stations in no violated pair.
         (1, &[(1, 14)], Some(Place::MoveAt(1))),
         (1, &[(1, 16)], Some(Place::MoveAt(1))),
@@ -194,7 +197,7 @@ fn faults_of_walks(rt: HostRuntime) -> Result<(), Fail> {
         // The first of two.
         (2, &[(1, 16), (2, 14)], Some(Place::MoveAt(1))),
     ];
-    assert_eq!(rt; wrong_walk(rt.alloc(), &cases)?, None);
+    assert_eq!(rt; wrong_walk(rt.alloc(), CASES)?, None);
     Ok(())
 }
 

@@ -1,16 +1,38 @@
-ghost use Rattle.std.specs.Prelude.{◌≡◌, ◌∷◌, []};
+ghost use Rattle.std.specs.Prelude.{◌≡◌, ◌≤◌, ◌∷◌, []};
 ghost use Rattle.pack_defs.specs.Scenario.{IsWithinLimits, facilities};
 
 use crate::run::run_auction;
 use crate::samples::{all_on_air, learner, three_bids, three_stations};
 use auction_core::record::{Ending, Record, Shown, Step};
+use cert_types::answer::Refutation;
 use pack_defs::channel_map::ChannelMap;
 use pack_defs::scenario::Scenario;
 use std::alloc::{AllocError as NoMemory, Global};
 use std::test::Fail;
 
-// The round and the station of a test, and whether no worker decided it.
-type Test = (u32, u32, bool);
+// How a test was settled: by a fit, by the proof of a worker, by no worker, or otherwise.
+#[derive(Clone, Copy, PartialEq, Eq)]
+enum By {
+    Fit,
+    Proof(u32),
+    None,
+    Other,
+}
+
+fn settled_by(shown: &Shown) -> By {
+    match shown {
+        Shown::Fits(_) => By::Fit,
+        Shown::Refuted {
+            worker,
+            how: Refutation::Proof { .. },
+        } => By::Proof(*worker),
+        Shown::Undecided(_) => By::None,
+        _ => By::Other,
+    }
+}
+
+// The round and the station of a test, and how it was settled.
+type Test = (u32, u32, By);
 
 // Whether the steps are of these tests, in order.
 fn are_of(steps: &[Step], tests: &[Test]) -> bool {
@@ -19,8 +41,7 @@ fn are_of(steps: &[Step], tests: &[Test]) -> bool {
     }
     for i in 0..steps.len() {
         let step = &steps[i];
-        let undecided = matches!(step.shown, Shown::Undecided(_));
-        if (step.round, step.station, undecided) != tests[i] {
+        if (step.round, step.station, settled_by(&step.shown)) != tests[i] {
             return false;
         }
     }
@@ -57,72 +78,69 @@ fn ends(
     Ok(is_end(&record, ending, total, tests))
 }
 
-// Whether station 3 is frozen at 60 cents, its last test undecided or not.
-fn freezes(alloc: Global, sc: &Scenario, undecided: bool) -> Result<bool, NoMemory>
+// Whether station 3 is frozen at 60 cents, with its last test settled so.
+fn freezes(alloc: Global, sc: &Scenario, last: By) -> Result<bool, NoMemory>
     requires limits { IsWithinLimits sc.now }
     requires stations { facilities sc.now ≡ 1 ∷ 2 ∷ 3 ∷ [] }
 {
     let tests = [
-        (1, 1, false),
-        (1, 2, false),
-        (1, 3, false),
-        (2, 1, false),
-        (2, 3, undecided),
+        (1, 1, By::Fit),
+        (1, 2, By::Fit),
+        (1, 3, By::Fit),
+        (2, 1, By::Fit),
+        (2, 3, last),
     ];
     ends(alloc, sc, Ending::Done, 60, &tests)
 }
 
-#[test]
-fn three_stations_are_asked(rt: HostRuntime) -> Result<(), Fail> {
-    let alloc = rt.alloc();
-    let sc = three_bids(alloc, vec![in alloc; learner(1000)]?)?;
-    let told = freezes(alloc, &sc, false)?;
-    assert!(rt; told);
-    Ok(())
+// The same of the auction by one worker of this budget.
+fn one_freezes(alloc: Global, budget: u32, last: By) -> Result<bool, NoMemory>
+    requires some { 1 ≤ budget }
+    requires few { budget ≤ 1000 }
+{
+    let sc = three_bids(alloc, vec![in alloc; learner(budget)]?)?;
+    freezes(alloc, &sc, last)
+}
+
+// The same of the auction by two workers of these budgets.
+fn two_freeze(alloc: Global, first: u32, second: u32, last: By) -> Result<bool, NoMemory>
+    requires some { 1 ≤ first }
+    requires some_second { 1 ≤ second }
+    requires few { first ≤ 1000 }
+    requires few_second { second ≤ 1000 }
+{
+    let sc = three_bids(alloc, vec![in alloc; learner(first), learner(second)]?)?;
+    freezes(alloc, &sc, last)
 }
 
 #[test]
-fn a_worker_spends_its_budget(rt: HostRuntime) -> Result<(), Fail> {
-    let alloc = rt.alloc();
-    let sc = three_bids(alloc, vec![in alloc; learner(1)]?)?;
-    let told = freezes(alloc, &sc, true)?;
-    assert!(rt; told);
+fn three_stations_are_asked_by_a_worker(rt: HostRuntime) -> Result<(), Fail> {
+    assert!(rt; one_freezes(rt.alloc(), 1000, By::Proof(0))?);
+    assert!(rt; one_freezes(rt.alloc(), 1, By::None)?);
     Ok(())
 }
 
+// Neither decides the last test, or the first does, or the second what the first did not.
 #[test]
-fn two_workers_spend_their_budgets(rt: HostRuntime) -> Result<(), Fail> {
-    let alloc = rt.alloc();
-    let sc = three_bids(alloc, vec![in alloc; learner(1), learner(1)]?)?;
-    let told = freezes(alloc, &sc, true)?;
-    assert!(rt; told);
+fn three_stations_are_asked_by_two_workers(rt: HostRuntime) -> Result<(), Fail> {
+    assert!(rt; two_freeze(rt.alloc(), 1, 1, By::None)?);
+    assert!(rt; two_freeze(rt.alloc(), 1000, 1000, By::Proof(0))?);
+    assert!(rt; two_freeze(rt.alloc(), 1, 1000, By::Proof(1))?);
     Ok(())
 }
 
-// The second worker decides what the first did not.
-#[test]
-fn the_second_worker_decides(rt: HostRuntime) -> Result<(), Fail> {
-    let alloc = rt.alloc();
-    let sc = three_bids(alloc, vec![in alloc; learner(1), learner(1000)]?)?;
-    let told = freezes(alloc, &sc, false)?;
-    assert!(rt; told);
-    Ok(())
+// Whether the auction whose stations all start on air ends so, by one worker of this budget.
+fn start_ends(alloc: Global, budget: u32, ending: Ending) -> Result<bool, NoMemory>
+    requires some { 1 ≤ budget }
+    requires few { budget ≤ 1000 }
+{
+    let sc = all_on_air(alloc, vec![in alloc; learner(budget)]?)?;
+    ends(alloc, &sc, ending, 0, &[])
 }
 
 #[test]
-fn the_start_is_refuted(rt: HostRuntime) -> Result<(), Fail> {
-    let alloc = rt.alloc();
-    let sc = all_on_air(alloc, vec![in alloc; learner(1000)]?)?;
-    let told = ends(alloc, &sc, Ending::StartRefuted, 0, &[])?;
-    assert!(rt; told);
-    Ok(())
-}
-
-#[test]
-fn the_start_is_undecided(rt: HostRuntime) -> Result<(), Fail> {
-    let alloc = rt.alloc();
-    let sc = all_on_air(alloc, vec![in alloc; learner(1)]?)?;
-    let told = ends(alloc, &sc, Ending::StartUndecided, 0, &[])?;
-    assert!(rt; told);
+fn the_start_does_not_fit(rt: HostRuntime) -> Result<(), Fail> {
+    assert!(rt; start_ends(rt.alloc(), 1000, Ending::StartRefuted)?);
+    assert!(rt; start_ends(rt.alloc(), 1, Ending::StartUndecided)?);
     Ok(())
 }

@@ -1,6 +1,6 @@
 //! The text of the summary.
 
-ghost use Rattle.std.specs.Prelude.{◌≡◌, ◌++◌, IfOk, OnOk, count_by};
+ghost use Rattle.std.specs.Prelude.{◌≡◌, ◌≤◌, ◌+◌, ◌++◌, IfOk, OnErr, OnOk, count_by, length, vec_capacity, vec_len};
 ghost use Rattle.pack_defs.specs.Scenario.{IsWithinLimits};
 ghost use Rattle.pack_defs.specs.ClockRule.{clock_rule};
 ghost use Rattle.auction_core.specs.Backed.{IsBacked, undecided_of};
@@ -14,15 +14,32 @@ use itoa::Buffer;
 use pack_defs::book::Book;
 use std::alloc::{AllocError as NoMemory, Global};
 
-/// Adds a name and a number, with a space between, on a line of their own. The only error is want of memory.
+/// Adds a name and a number, with a space between, on a line of their own. The only error is want of memory, and then the
+/// text stays as it was.
 pub fn push_count(text: &mut Vec<u8>, name: &str, n: u64) -> Result<(), NoMemory>
-    ensures { OnOk result (text.new.items ≡ text.old.items ++ count_line name.now n) }
+    ensures added { OnOk result (text.new.items ≡ text.old.items ++ count_line name.now n) }
+    ensures kept { OnErr result (text.new.items ≡ text.old.items) }
 {
     let mut buffer = Buffer::new();
-    text.extend_from_slice(name.as_bytes())?;
-    text.extend_from_slice(b" ")?;
-    text.extend_from_slice(buffer.format(n).as_bytes())?;
-    text.extend_from_slice(b"\n")
+    let number = buffer.format(n);
+    text.reserve(name.len() + number.len() + 2)?;
+    extend_reserved(text, name.as_bytes());
+    extend_reserved(text, b" ");
+    extend_reserved(text, number.as_bytes());
+    extend_reserved(text, b"\n");
+    Ok(())
+}
+
+// Adds these bytes to a text that has room for them.
+fn extend_reserved(text: &mut Vec<u8>, bytes: &[u8])
+    requires { vec_len text.old + length bytes.now ≤ vec_capacity text.old }
+    ensures items { text.new.items ≡ text.old.items ++ bytes.now }
+    ensures len { vec_len text.new ≡ vec_len text.old + length bytes.now }
+    ensures capacity { vec_capacity text.old ≤ vec_capacity text.new }
+{
+    let Ok(()) = text.extend_from_slice(bytes) else {
+        unreachable!();
+    };
 }
 
 // How many of the stations are on air.

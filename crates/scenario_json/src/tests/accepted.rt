@@ -1,82 +1,136 @@
 //! What is read of texts that are accepted.
 
 use crate::scenario::read_scenario;
-use crate::tests::{DECREMENTS, STATIONS, TEXT, changed, refusal, with_lists};
+use crate::tests::{TEXT, WORKERS, changed, first_not, first_value};
 use pack_defs::worker::Kind;
+use std::alloc::{AllocError as NoMemory, Global};
 use std::test::Fail;
 
-#[test]
-fn reads_three_stations(rt: HostRuntime) -> Result<(), Fail> {
-    let scenario = read_scenario(rt.alloc(), TEXT.as_bytes())?;
-    assert_eq!(rt; scenario.version, 1);
-    assert_eq!(rt; scenario.top, 15);
-    assert_eq!(rt; scenario.opening, 100);
-    assert_eq!(rt; scenario.decrements.as_slice(), [40, 40].as_slice());
-    let stations = scenario.stations.as_slice();
-    assert_eq!(rt; stations.len(), 3);
-    let values = [50, 70, 10];
-    for i in 0..3 {
-        assert_eq!(rt; stations[i].id as usize, i + 1);
-        assert_eq!(rt; stations[i].volume, 1);
-        assert_eq!(rt; stations[i].value, Some(values[i]));
-    }
-    Ok(())
+// Whether the text's numbers and decrements are read.
+fn reads_numbers(alloc: Global) -> bool {
+    let Ok(scenario) = read_scenario(alloc, TEXT.as_bytes()) else {
+        return false;
+    };
+    scenario.version == 1
+        && scenario.top == 15
+        && scenario.opening == 100
+        && scenario.decrements.as_slice() == [40, 40].as_slice()
+}
+
+// Whether these stations, with their volumes and values, are read of the text with one part of it changed.
+fn reads_stations(
+    alloc: Global,
+    part: &str,
+    other: &str,
+    stations: &[(u32, u32, Option<u64>)],
+) -> Result<bool, NoMemory> {
+    let Some(text) = changed(alloc, part, other)? else {
+        return Ok(false);
+    };
+    let Ok(scenario) = read_scenario(alloc, text.as_bytes()) else {
+        return Ok(false);
+    };
+    let read = scenario.stations.as_slice();
+    Ok(
+        read.len() == stations.len()
+            && read
+                .iter()
+                .zip(stations)
+                .all(|(x, station)| (x.id, x.volume, x.value) == *station),
+    )
 }
 
 #[test]
-fn reads_workers(rt: HostRuntime) -> Result<(), Fail> {
-    let listed =
+fn reads_three_stations(rt: HostRuntime) -> Result<(), Fail> {
+    assert!(rt; reads_numbers(rt.alloc()));
+    const READ: &[(u32, u32, Option<u64>)] = &[
+        (1, 1, Some(50)),
+        (2, 1, Some(70)),
+        (3, 1, Some(10)),
+    ];
+    assert!(rt; reads_stations(rt.alloc(), "", "", READ)?);
+    Ok(())
+}
+
+// Whether these workers are read of the text with this list of them.
+fn reads_workers(
+    alloc: Global,
+    list: &str,
+    workers: &[(Kind, u32, u64)],
+) -> Result<bool, NoMemory> {
+    let Some(text) = changed(alloc, WORKERS, list)? else {
+        return Ok(false);
+    };
+    let Ok(scenario) = read_scenario(alloc, text.as_bytes()) else {
+        return Ok(false);
+    };
+    let read = scenario.workers.as_slice();
+    Ok(
+        read.len() == workers.len()
+            && read
+                .iter()
+                .zip(workers)
+                .all(|(x, worker)| (x.kind, x.budget, x.seed) == *worker),
+    )
+}
+
+#[test]
+fn reads_four_workers(rt: HostRuntime) -> Result<(), Fail> {
+    const LIST: &str =
         r#"[{"seed":18446744073709551615,"budget":1000000,"kind":"walk"},{"kind":"cdcl","budget":7},{"kind":"walk","budget":1},{"kind":"cdcl","budget":100000,"seed":5}]"#;
-    let text = with_lists(&rt, DECREMENTS, STATIONS, listed)?;
-    let scenario = read_scenario(rt.alloc(), text.as_bytes())?;
-    let workers = scenario.workers.as_slice();
-    assert_eq!(rt; workers.len(), 4);
-    let kinds = [Kind::Walk, Kind::Cdcl, Kind::Walk, Kind::Cdcl];
-    let budgets = [1_000_000, 7, 1, 100_000];
-    let seeds = [18_446_744_073_709_551_615, 0, 0, 5];
-    for i in 0..4 {
-        assert_eq!(rt; workers[i].kind, kinds[i]);
-        assert_eq!(rt; workers[i].budget, budgets[i]);
-        assert_eq!(rt; workers[i].seed, seeds[i]);
-    }
+    const READ: &[(Kind, u32, u64)] = &[
+        (Kind::Walk, 1_000_000, 18_446_744_073_709_551_615),
+        (Kind::Cdcl, 7, 0),
+        (Kind::Walk, 1, 0),
+        (Kind::Cdcl, 100_000, 5),
+    ];
+    assert!(rt; reads_workers(rt.alloc(), LIST, READ)?);
     Ok(())
 }
 
 #[test]
 fn reads_stations_in_any_order(rt: HostRuntime) -> Result<(), Fail> {
-    let text = changed(&rt, r#""id":1"#, r#""id":4294967295"#)?;
-    let scenario = read_scenario(rt.alloc(), text.as_bytes())?;
-    let stations = scenario.stations.as_slice();
-    assert_eq!(rt; stations.len(), 3);
-    assert_eq!(rt; stations[0].id, 2);
-    assert_eq!(rt; stations[1].id, 3);
-    assert_eq!(rt; stations[2].id, 4_294_967_295);
-    assert_eq!(rt; stations[2].value, Some(50));
+    const READ: &[(u32, u32, Option<u64>)] = &[
+        (2, 1, Some(70)),
+        (3, 1, Some(10)),
+        (4_294_967_295, 1, Some(50)),
+    ];
+    let other = r#""id":4294967295"#;
+    assert!(rt; reads_stations(rt.alloc(), r#""id":1"#, other, READ)?);
     Ok(())
+}
+
+// The first row whose value of station 1 isn't read so, by what stands in place of its member.
+fn first_value_otherwise<'a>(
+    alloc: Global,
+    rows: &[(&'a str, Option<u64>)],
+) -> Result<Option<&'a str>, NoMemory> {
+    for (other, value) in rows {
+        let stations = [(1, 1, *value), (2, 1, Some(70)), (3, 1, Some(10))];
+        if !reads_stations(alloc, r#","value":50"#, other, &stations)? {
+            return Ok(Some(other));
+        }
+    }
+    Ok(None)
 }
 
 #[test]
 fn reads_values(rt: HostRuntime) -> Result<(), Fail> {
-    for (other, value) in [
+    const ROWS: &[(&str, Option<u64>)] = &[
         ("", None),
         (r#","value":null"#, None),
         (r#","value":0"#, Some(0)),
         (r#","value":101"#, Some(101)),
         (r#","value":1000000000000000"#, Some(1_000_000_000_000_000)),
         (r#","value":7,"value":null"#, None),
-    ] {
-        let text = changed(&rt, r#","value":50"#, other)?;
-        let scenario = read_scenario(rt.alloc(), text.as_bytes())?;
-        let stations = scenario.stations.as_slice();
-        assert_eq!(rt; stations.len(), 3);
-        assert_eq!(rt; stations[0].value, value, "{other}");
-    }
+    ];
+    assert_eq!(rt; first_value_otherwise(rt.alloc(), ROWS)?, None);
     Ok(())
 }
 
 #[test]
 fn accepts_the_limits_themselves(rt: HostRuntime) -> Result<(), Fail> {
-    for (part, other) in [
+    const ROWS: &[(&str, &str)] = &[
         (r#""top":15"#, r#""top":14"#),
         (r#""top":15"#, r#""top":51"#),
         (r#""opening":100"#, r#""opening":80"#),
@@ -101,28 +155,39 @@ fn accepts_the_limits_themselves(rt: HostRuntime) -> Result<(), Fail> {
             r#""workers":["#,
             r#""workers":[{"kind":"walk","budget":1000000},"#,
         ),
-    ] {
-        let text = changed(&rt, part, other)?;
-        assert_eq!(rt; refusal(&rt, text.as_str()), None, "{other}");
-    }
+    ];
+    assert_eq!(rt; first_not(rt.alloc(), None, ROWS)?, None);
     Ok(())
+}
+
+// The first value that keeps the text from being accepted, as a member of another name ahead of one of these three.
+fn first_not_passed_over<'a>(
+    alloc: Global,
+    values: &[&'a str],
+) -> Result<Option<&'a str>, NoMemory> {
+    for (part, after) in [
+        (r#""version":1"#, r#","version":1"#),
+        (r#""id":2"#, r#","id":2"#),
+        (r#""budget":1000"#, r#","budget":1000"#),
+    ] {
+        let found = first_value(alloc, values, None, part, r#""band":"#, after)?;
+        if found.is_some() {
+            return Ok(found);
+        }
+    }
+    Ok(None)
 }
 
 #[test]
 fn passes_other_members_over(rt: HostRuntime) -> Result<(), Fail> {
-    for value in [
+    const VALUES: &[&str] = &[
         "null",
         "true",
         "-1.5e3",
         r#""UHF""#,
         r#"[1,"two",{}]"#,
         r#"{"top":52}"#,
-    ] {
-        for part in [r#""version":1"#, r#""id":2"#, r#""budget":1000"#] {
-            let other = format!(in rt.alloc(); "\"band\":{value},{part}")?;
-            let text = changed(&rt, part, other.as_str())?;
-            assert_eq!(rt; refusal(&rt, text.as_str()), None, "{text}");
-        }
-    }
+    ];
+    assert_eq!(rt; first_not_passed_over(rt.alloc(), VALUES)?, None);
     Ok(())
 }
