@@ -1,5 +1,5 @@
 -- Blanks at the start and at the end of a field, and empty fields at the end of a record.
-use Rattle.std.proofs.Common.{◌≡◌, ◌∙◌, ◌<◌, ◌≤◌, ◌+◌, ◌-◌, add-one, ◌++◌, ◌∷◌, [], ℕ, List, Bool, Option, Some, None, true, false, zero, suc, refl, sym, ap, arith, length, take, drop, get_or, map, reverse, cond}
+use Rattle.std.proofs.Common.{◌≡◌, ◌∙◌, ◌<◌, ◌≤◌, ◌+◌, ◌-◌, add-one, ◌++◌, ◌∷◌, [], ℕ, List, Bool, Some, None, true, false, zero, suc, refl, sym, ap, arith, length, take, drop, get_or, map, reverse, cond}
 use Rattle.std.specs.Option.{option_map, option_map_or}
 use Rattle.std.proofs.lemmas.List.{drop_all, drop_more, reverse-append, reverse-reverse, take_more}
 use Rattle.pack_defs.specs.Lists.{is_empty}

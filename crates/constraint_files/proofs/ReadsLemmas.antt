@@ -1,10 +1,9 @@
 -- A refusal, or want of memory, passes on.
-use Rattle.std.proofs.Common.{◌≡◌, ◌∙◌, ◌<◌, ◌+◌, ◌∷◌, ℕ, List, Result, Ok, Err, ap, refl, length, get_or, drop}
+use Rattle.std.proofs.Common.{◌≡◌, ◌∙◌, ◌<◌, ◌+◌, ◌∷◌, ℕ, List, Result, Err, ap, refl, length, get_or, drop}
 use Rattle.constraint_files.specs.Records.{after_lines, after_records, line_records, lines_of, past_line}
 use Rattle.constraint_files.proofs.LineLemmas.{after-next, line-next}
 use Rattle.constraint_files.specs.Reads.{Changes, Takes}
 use Rattle.constraint_files.specs.Steps.{◌>>=◌}
-use Rattle.constraint_files.specs.declared.error.ReadErr.{ReadErr}
 use Rattle.constraint_files.specs.declared.error.ReadErr.TheVariants.{Row}
 use Rattle.constraint_files.specs.declared.error.RowErr.{RowErr}
 use Rattle.constraint_files.specs.declared.error.RowErr.TheVariants.{NoMemory, Refused}

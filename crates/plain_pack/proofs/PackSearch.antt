@@ -1,5 +1,5 @@
 -- One step of the depth-first search: an entry more beside those chosen, and what it leaves.
-use Rattle.std.proofs.Common.{◌≡◌, ◌∙◌, ℕ, Bool, true, false, not, ◌&&◌, ◌||◌, ◌==◌, inl, inr, List, [], ◌∷◌, ◌++◌, map, refl, sym, ap, subst, append_assoc, Contains, IsTrue}
+use Rattle.std.proofs.Common.{◌≡◌, ◌∙◌, ℕ, Bool, true, false, not, ◌&&◌, ◌||◌, ◌==◌, inl, inr, List, [], ◌∷◌, ◌++◌, map, refl, sym, ap, subst, append_assoc, Contains}
 use Rattle.std.specs.List.{list_any, list_all, flat_map}
 use Rattle.std.proofs.lemmas.Bool.{cases_Bool, both_ways, not-true, and_parts, and_from}
 use Rattle.std.proofs.Math.Bool.{or_comm}
@@ -9,7 +9,7 @@ use Rattle.pack_defs.specs.declared.pair.Pair.{Pair}
 use Rattle.pack_defs.specs.Book.{BookView, domain_of, is_forbidden, joins}
 use Rattle.pack_defs.specs.Packing.{IsPacking, assignments, fits, is_apart}
 use Rattle.pack_defs.proofs.FitsLaws.{assignments-gives, is_apart-gives, is_apart-from}
-use Rattle.pack_defs.proofs.Members.{Contains-here, Contains-there, Contains-cons_cases, Contains-nil, Contains-map, Contains-from_map, Contains-flat_map, Contains-from_flat_map, list_any-from, list_all-from, list_all-gives}
+use Rattle.pack_defs.proofs.Members.{Contains-here, Contains-cons_cases, Contains-nil, Contains-map, Contains-from_map, Contains-flat_map, Contains-from_flat_map, list_any-from, list_all-from, list_all-gives}
 use Rattle.pack_defs.proofs.Words.{list_any-from_each}
 use Rattle.plain_pack.specs.Search.{Extends, NoneExtends, NoneExtendsBy, stands_with}
 

@@ -1,8 +1,8 @@
 ghost use Rattle.std.specs.Prelude.{◌≡◌, ◌≤◌, map};
 ghost use Rattle.std.specs.List.{list_any};
 ghost use Rattle.serde_json.specs.View.{view};
-ghost use Rattle.pack_defs.specs.Scenario.{most_budget};
-ghost use Rattle.scenario_json.specs.ScenarioOf.{is_prover, kind_in, kind_named, seed_in, worker_in, workers_in};
+ghost use Rattle.pack_defs.specs.Scenario.{is_prover, most_budget};
+ghost use Rattle.scenario_json.specs.ScenarioOf.{kind_in, kind_named, seed_in, worker_in, workers_in};
 ghost use Rattle.scenario_json.specs.Steps.{Reads, each_from};
 
 use crate::error::ScenarioErr;

@@ -40,6 +40,21 @@ fn members_that_are_missing(rt: HostRuntime) -> Result<(), Fail> {
             Some(Fault::Missing(Name::Decrements, 0)),
         ),
         (
+            r#""decrements":[40,40]"#,
+            r#""rate":400,"floor":200"#,
+            Some(Fault::Missing(Name::Decrements, 0)),
+        ),
+        (
+            r#""version":1"#,
+            r#""version":2,"floor":200"#,
+            Some(Fault::Missing(Name::Rate, 0)),
+        ),
+        (
+            r#""version":1"#,
+            r#""version":2,"rate":400"#,
+            Some(Fault::Missing(Name::Floor, 0)),
+        ),
+        (
             r#""stations""#,
             r#""Stations""#,
             Some(Fault::Missing(Name::Stations, 0)),
@@ -84,6 +99,18 @@ fn numbers_of_the_wrong_kind(rt: HostRuntime) -> Result<(), Fail> {
             Fault::Wrong(Name::Opening, 0),
         ),
         ("[40,40", "[40,", "", Fault::Wrong(Name::Decrements, 2)),
+        (
+            r#""version":1"#,
+            r#""version":2,"floor":0,"rate":"#,
+            "",
+            Fault::Wrong(Name::Rate, 0),
+        ),
+        (
+            r#""version":1"#,
+            r#""version":2,"rate":1,"floor":"#,
+            "",
+            Fault::Wrong(Name::Floor, 0),
+        ),
         (r#""id":2"#, r#""id":"#, "", Fault::Wrong(Name::Id, 2)),
         (
             r#""volume":1"#,
@@ -127,6 +154,16 @@ fn members_of_the_wrong_kind(rt: HostRuntime) -> Result<(), Fail> {
             r#""opening":100"#,
             r#""opening":null"#,
             Some(Fault::Wrong(Name::Opening, 0)),
+        ),
+        (
+            r#""version":1"#,
+            r#""version":2,"rate":null,"floor":0"#,
+            Some(Fault::Wrong(Name::Rate, 0)),
+        ),
+        (
+            r#""version":1"#,
+            r#""version":2,"rate":1,"floor":null"#,
+            Some(Fault::Wrong(Name::Floor, 0)),
         ),
         ("[40,40]", "null", Some(Fault::Wrong(Name::Decrements, 0))),
         ("[40,40]", "[null]", Some(Fault::Wrong(Name::Decrements, 1))),

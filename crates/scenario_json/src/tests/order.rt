@@ -16,7 +16,7 @@ fn members_of_the_whole_in_order(rt: HostRuntime) -> Result<(), Fail> {
         ),
         (
             r#""version":1,"top":15"#,
-            r#""top":52,"version":2"#,
+            r#""top":52,"version":3"#,
             Some(Fault::Outside(Name::Version, 0)),
         ),
         (
@@ -28,6 +28,31 @@ fn members_of_the_whole_in_order(rt: HostRuntime) -> Result<(), Fail> {
             r#"100,"decrements":[40,40]"#,
             r#"0,"decrements":[0]"#,
             Some(Fault::Outside(Name::Opening, 0)),
+        ),
+        (
+            r#""version":1,"top":15"#,
+            r#""version":2,"rate":0,"top":52"#,
+            Some(Fault::Outside(Name::Top, 0)),
+        ),
+        (
+            r#""version":1,"top":15,"opening":100"#,
+            r#""version":2,"rate":0,"top":15,"opening":0"#,
+            Some(Fault::Outside(Name::Opening, 0)),
+        ),
+        (
+            r#""version":1"#,
+            r#""version":2,"floor":1001,"rate":0"#,
+            Some(Fault::Outside(Name::Rate, 0)),
+        ),
+        (
+            r#"[40,40],"stations":["#,
+            r#"[40,40],"version":2,"rate":1,"floor":1001,"stations":[null,"#,
+            Some(Fault::Outside(Name::Floor, 0)),
+        ),
+        (
+            r#"[40,40],"stations":["#,
+            r#"[40,"x"],"version":2,"rate":1,"floor":0,"stations":[null,"#,
+            Some(Fault::Wrong(Name::Stations, 1)),
         ),
         (
             r#"[40,40],"stations":["#,

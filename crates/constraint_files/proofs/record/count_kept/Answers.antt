@@ -1,4 +1,4 @@
-use Rattle.std.proofs.Common.{◌≡◌, ◌∙◌, ◌≤◌, ◌-◌, [], arith, length, map, sym}
+use Rattle.std.proofs.Common.{◌∙◌, ◌-◌, [], arith, map, sym}
 use Rattle.std.proofs.lemmas.List.{length-map}
 use Rattle.csv.specs.Records.{fields_of}
 use Rattle.pack_defs.specs.Lists.{is_empty}

@@ -1,4 +1,4 @@
-use Rattle.std.proofs.Common.{◌≡◌, ◌∙◌, ◌∷◌, [], ℕ, List, Vec, Global, get_or, arith, refl}
+use Rattle.std.proofs.Common.{◌≡◌, ◌∙◌, ◌∷◌, [], ℕ, Vec, Global, get_or, arith, refl}
 use Rattle.std.proofs.lemmas.List.{map-append, take_more}
 use Rattle.constraint_files.proofs.FieldLemmas.{field-at}
 use Rattle.constraint_files.proofs.Whole.{some_is}

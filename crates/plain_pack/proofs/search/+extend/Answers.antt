@@ -3,8 +3,7 @@ use Rattle.std.proofs.Math.Seq.{take-append_seam}
 use Rattle.std.proofs.lemmas.List.{length-append, take_more, take_all}
 use Rattle.std.proofs.lemmas.List.Elements.{Contains-get_or}
 use Rattle.pack_defs.specs.Book.{domain_of}
-use Rattle.pack_defs.specs.Packing.{is_apart}
-use Rattle.plain_pack.specs.Search.{Extends, NoneExtends, NoneExtendsBy, stands_with}
+use Rattle.plain_pack.specs.Search.{Extends, stands_with}
 use Rattle.pack_defs.proofs.Words.{entry}
 use Rattle.plain_pack.proofs.PackSearch.{beside, extends-by, extends-nil, none-beyond, none-by, none-whole, not-beside}
 use Rattle.plain_pack.proofs.search.+extend.Goals as goal

@@ -1,6 +1,3 @@
-use Rattle.std.proofs.Common.{◌≡◌, ◌∙◌, List, [], map, refl, sym, ap, rules}
-use Rattle.pack_defs.specs.Packing.{IsPacking, is_apart}
-use Rattle.plain_pack.specs.Search.{Extends, NoneExtends}
 use Rattle.plain_pack.proofs.PackSearch.{fits-none, nothing-apart, packs}
 use Rattle.plain_pack.proofs.search.fits.Goals as goal
 
