@@ -3,6 +3,7 @@ use Rattle.std.proofs.Common.{◌≡◌, ◌≢◌, ◌∙◌, ℕ, zero, suc, �
 use Rattle.std.specs.Option.{option_map_or}
 use Rattle.std.proofs.lemmas.Bool.{cases_Bool, cond-true, cond-false, false≢true, true≢false, or_cases, or_left, or_right, both_ways, eq-eqb, eqb-true}
 use Rattle.std.proofs.lemmas.List.{length-map}
+use Rattle.pack_defs.specs.declared.order.Order.TheVariants.{ByFacility}
 use Rattle.pack_defs.specs.declared.scenario.Scenario.{Scenario}
 use Rattle.pack_defs.specs.declared.station.Station.{Station}
 use Rattle.pack_defs.specs.Book.{BookView, IsInOrder, domain_of}
@@ -14,6 +15,7 @@ use Rattle.assign_check.specs.Fault.{IsCleanOn}
 use Rattle.pack_defs.specs.Scenario.{IsWithinLimits, StationsAscend, facilities}
 use Rattle.pack_defs.specs.Prices.{bidders, declines, last_round, prices, start_set}
 use Rattle.pack_defs.specs.ClockRule.{ClockTest, ClockState, asked_set, clock_tests, is_active, is_on_air, on_air_set, tests_of}
+use Rattle.pack_defs.proofs.Falls.{rounds-within}
 use Rattle.pack_defs.proofs.MapLemmas.{overlaid-all}
 use Rattle.pack_defs.proofs.Words.{ascending-from, list_any-map, same-ascending, station-in}
 use Rattle.pack_defs.proofs.Members.{is_in-from, is_in-gives}
@@ -36,7 +38,7 @@ use Rattle.auction_core.proofs.Overlay.{its-channel}
 
 -- ---- how many tests there are
 
-tests-most : (xs : List ℕ) (r n : ℕ) → length xs ≤ 4096 → length (tests_of xs r n) ≤ 4096 * n
+tests-most : (xs : List ℕ) (r n : ℕ) → length xs ≤ 8192 → length (tests_of xs r n) ≤ 8192 * n
 tests-most xs r zero few = omega arith
 tests-most xs r (suc n) few =
     let test : ℕ → ClockTest = λ s. record { round = r; station = s } in
@@ -53,19 +55,19 @@ kept_at_most p (x ∷ xs) =
       | false ↦ let rest = kept_at_most p xs in omega (arith, rest)
     ]
 
-tests-few : (sc : Scenario) → IsWithinLimits sc → length (clock_tests sc) ≤ 4100096
+tests-few : (sc : Scenario) → IsWithinLimits sc → length (clock_tests sc ByFacility) ≤ 8200192
 tests-few sc l =
     let bids = kept_at_most (λ s. not (declines sc s 0)) (facilities sc) in
     let all = length-map sc.stations (λ (x : Station). x.id) in
     let stations = l.stations in
-    let rounds = l.rounds in
-    let few : length (bidders sc) ≤ 4096 = omega (arith, bids, all, stations) in
+    let rounds = rounds-within sc l in
+    let few : length (bidders sc) ≤ 8192 = omega (arith, bids, all, stations) in
     let last : last_round sc ≤ 1001 = omega (arith, rounds) in
     let most = tests-most (bidders sc) 1 (last_round sc) few in
     omega (arith, most, last)
 
 -- so the number of the next query fits
-pub number-fits : (sc : Scenario) (number left : ℕ) → IsWithinLimits sc → number + left ≤ length (clock_tests sc) + 2 → number + 1 < 2 ^ 64
+pub number-fits : (sc : Scenario) (number left : ℕ) → IsWithinLimits sc → number + left ≤ length (clock_tests sc ByFacility) + 2 → number + 1 < 2 ^ 64
 number-fits sc number left l h = let few = tests-few sc l in omega (arith, few, h)
 
 -- ---- the stations that a verdict gives channels
@@ -154,14 +156,14 @@ pub begun-state : (sc : Scenario) (book : BookView) (old : CourseView) (shown : 
 begun-state sc book old shown n fresh h room =
     let mid : CourseView = record old { start = Some shown; map = record { stations = old.map.stations; entries = overlaid old.map.entries (delta_of shown) } } in
     let idle = h.idle (ap start_fits fresh) in
-    let all : left_of sc mid ≡ clock_tests sc = cond-true (shows_room shown) _ _ room ∙ (ap₂ (tests_left sc) idle.1.0 idle.1.1 ∙ left-all sc) in
+    let all : left_of sc mid ≡ clock_tests sc ByFacility = cond-true (shows_room shown) _ _ room ∙ (ap₂ (tests_left sc) idle.1.0 idle.1.1 ∙ left-all sc) in
     let on : CoreState = record (core_state sc old n) { start = Some shown; map = overlaid old.map.entries (delta_of shown) } in
     let clock : clock_of sc mid ≡ clock_of sc old = ap (λ xs. (after_steps sc (after_start sc shown) xs).clock) idle.0 ∙ sym (ap (λ xs. (after_steps sc (after_start sc (shown_start old.start)) xs).clock) idle.0) in
     let at : CoreState = record (core_state sc mid n) { clock = clock_of sc old } in
     ap (λ z. go_on sc book (left_of sc mid) (record (core_state sc mid n) { clock = z })) clock
     ∙ (go_on-left sc book (left_of sc mid) (left_of sc mid) on
     ∙ (ap (λ l. go_on sc book l on) all
-    ∙ sym (cond-true (shows_room shown) (go_on sc book (clock_tests sc) on) (record (core_state sc old n) { start = Some shown }) room)))
+    ∙ sym (cond-true (shows_room shown) (go_on sc book (clock_tests sc ByFacility) on) (record (core_state sc old n) { start = Some shown }) room)))
 
 -- ---- how many tests are left
 
@@ -178,17 +180,17 @@ go_on-fewer sc book (t ∷ ts) state =
       | false ↦ let rest = go_on-fewer sc book ts state in omega (arith, rest)
     ]
 
-pub started-fewer : (sc : Scenario) (book : BookView) (state : CoreState) (shown : Shown) → state.left ≡ [] → length (started sc book state shown).left ≤ length (clock_tests sc)
+pub started-fewer : (sc : Scenario) (book : BookView) (state : CoreState) (shown : Shown) → state.left ≡ [] → length (started sc book state shown).left ≤ length (clock_tests sc ByFacility)
 started-fewer sc book state shown none =
-    elim (shows_room shown) as (λ b. length (cond b (go_on sc book (clock_tests sc) (record state { start = Some shown; map = overlaid state.map (delta_of shown) })) (record state { start = Some shown })).left ≤ length (clock_tests sc)) [
-      | true ↦ go_on-fewer sc book (clock_tests sc) (record state { start = Some shown; map = overlaid state.map (delta_of shown) })
+    elim (shows_room shown) as (λ b. length (cond b (go_on sc book (clock_tests sc ByFacility) (record state { start = Some shown; map = overlaid state.map (delta_of shown) })) (record state { start = Some shown })).left ≤ length (clock_tests sc ByFacility)) [
+      | true ↦ go_on-fewer sc book (clock_tests sc ByFacility) (record state { start = Some shown; map = overlaid state.map (delta_of shown) })
       | false ↦ let nought : length state.left ≡ 0 = ap length none in omega (arith, nought)
     ]
 
 pub started-start : (sc : Scenario) (book : BookView) (state : CoreState) (shown : Shown) → (started sc book state shown).start ≡ Some shown
 started-start sc book state shown =
-    elim (shows_room shown) as (λ b. (cond b (go_on sc book (clock_tests sc) (record state { start = Some shown; map = overlaid state.map (delta_of shown) })) (record state { start = Some shown })).start ≡ Some shown) [
-      | true ↦ (go-on-start sc book (clock_tests sc) (record state { start = Some shown; map = overlaid state.map (delta_of shown) })).0
+    elim (shows_room shown) as (λ b. (cond b (go_on sc book (clock_tests sc ByFacility) (record state { start = Some shown; map = overlaid state.map (delta_of shown) })) (record state { start = Some shown })).start ≡ Some shown) [
+      | true ↦ (go-on-start sc book (clock_tests sc ByFacility) (record state { start = Some shown; map = overlaid state.map (delta_of shown) })).0
       | false ↦ refl
     ]
 
@@ -267,9 +269,9 @@ pub opening-some : (sc : Scenario) (book : BookView) (shown : Shown) → start_u
 unfolding opening
 opening-some sc book shown e = sym (ap (λ o. option_map_or (started sc book (before_start sc)) o (before_start sc)) e)
 
-opening-fewer : (sc : Scenario) (book : BookView) → length (opening sc book).left ≤ length (clock_tests sc)
+opening-fewer : (sc : Scenario) (book : BookView) → length (opening sc book).left ≤ length (clock_tests sc ByFacility)
 unfolding opening
-opening-fewer sc book = elim (start_unasked sc book) as (λ o. length (option_map_or (started sc book (before_start sc)) o (before_start sc)).left ≤ length (clock_tests sc)) [
+opening-fewer sc book = elim (start_unasked sc book) as (λ o. length (option_map_or (started sc book (before_start sc)) o (before_start sc)).left ≤ length (clock_tests sc ByFacility)) [
   | None ↦ omega arith
   | Some shown ↦ started-fewer sc book (before_start sc) shown refl
 ]

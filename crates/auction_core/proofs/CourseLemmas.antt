@@ -6,13 +6,14 @@ use Rattle.std.proofs.lemmas.Bool.{cond-true, false≢true, not-true, or_cases, 
 use Rattle.std.proofs.Math.Nat.{mul-le-mul}
 use Rattle.std.proofs.lemmas.List.{drop_more, drop_all, length-append, length-map}
 use Rattle.std.proofs.lemmas.List.Sums.{sum_by-append}
+use Rattle.pack_defs.specs.declared.order.Order.TheVariants.{ByFacility}
 use Rattle.pack_defs.specs.declared.scenario.Scenario.{Scenario}
 use Rattle.pack_defs.specs.declared.station.Station.{Station}
 use Rattle.pack_defs.specs.Book.{BookView, domain_of}
 use Rattle.pack_defs.specs.ChannelMap.{overlaid}
 use Rattle.pack_defs.specs.Lists.{is_in, is_empty, without}
 use Rattle.pack_defs.specs.Scenario.{IsStationWithinLimits, IsWithinLimits, facilities, volume_in}
-use Rattle.pack_defs.specs.Prices.{bidders, declines, last_round, offer, prices, prices_from}
+use Rattle.pack_defs.specs.Prices.{falls, bidders, declines, last_round, offer, prices, prices_from}
 use Rattle.pack_defs.specs.ClockRule.{ClockTest, ClockState, FrozenAt, after_answer, exits, goes_on_air, is_active, is_on_air, opening_state, tests_of, clock_tests}
 use Rattle.pack_defs.proofs.Members.{Contains-from_filter, is_in-gives}
 use Rattle.auction_core.specs.declared.clock.Standing.{Standing}
@@ -46,7 +47,7 @@ volume_at_most (x ∷ xs) s h =
 -- an offer is at most 10^12 cents
 offer_at_most : (sc : Scenario) (s r : ℕ) → IsWithinLimits sc → offer sc s r ≤ most_paid
 offer_at_most sc s r h =
-    let price = price_at_most sc.opening sc.decrements r in
+    let price = price_at_most sc.opening (falls sc) r in
     let volume = volume_at_most sc.stations s h.each_station in
     let opening : get_or (prices sc) r 0 ≤ 1000000 = omega (arith, price, h.opening) in
     mul-le-mul opening volume
@@ -58,7 +59,7 @@ paid_at_most sc t true h =
 paid_at_most sc t false h = offer_at_most sc t.station (t.round - 1) h
 
 -- and the total stays within 64 bits
-fits_total : (total pay frozen active stations : ℕ) → total ≤ most_paid * frozen → frozen + active ≤ stations → stations ≤ 4096 → pay ≤ most_paid → total + pay < 2 ^ 64
+fits_total : (total pay frozen active stations : ℕ) → total ≤ most_paid * frozen → frozen + active ≤ stations → stations ≤ 8192 → pay ≤ most_paid → total + pay < 2 ^ 64
 fits_total total pay frozen active stations a b c d = omega arith
 
 pub total-fits : (sc : Scenario) (c : CourseView) (t : ClockTest) (fits : Bool) → IsWithinLimits sc → IsCourse sc c → c.total + paid (answered_standing sc t fits) < 2 ^ 64
@@ -243,10 +244,10 @@ left-over sc =
     ∙ ap (tests_of (bidders sc) (last_round sc + 1)) zero_left
 
 -- all are left at the beginning
-pub left-all : (sc : Scenario) → tests_left sc 1 0 ≡ clock_tests sc
+pub left-all : (sc : Scenario) → tests_left sc 1 0 ≡ clock_tests sc ByFacility
 left-all sc =
-    let rounds : last_round sc ≡ suc (length sc.decrements) = omega arith in
-    let less : last_round sc - 1 ≡ length sc.decrements = omega arith in
+    let rounds : last_round sc ≡ suc (length (falls sc)) = omega arith in
+    let less : last_round sc - 1 ≡ length (falls sc) = omega arith in
     ap (λ n. map (λ s. (let t : ClockTest = record { round = 1; station = s } in t)) (bidders sc) ++ tests_of (bidders sc) 2 n) less
     ∙ ap (tests_of (bidders sc) 1) (sym rounds)
 

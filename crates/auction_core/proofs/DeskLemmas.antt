@@ -1,6 +1,7 @@
 -- What is noted is no part of a query, and a settled query leaves none noted.
 use Rattle.std.proofs.Common.{◌≡◌, ℕ, ◌+◌, Bool, true, false, if◌then◌else◌, List, [], ◌∷◌, Option, Some, None, is_none, refl, sym, ap, ◌∙◌, subst, MatchOption}
 use Rattle.std.specs.Option.{option_map_or}
+use Rattle.pack_defs.specs.declared.order.Order.TheVariants.{ByFacility}
 use Rattle.pack_defs.specs.Book.{BookView}
 use Rattle.pack_defs.specs.declared.scenario.Scenario.{Scenario}
 use Rattle.pack_defs.specs.ClockRule.{ClockTest, clock_tests}
@@ -31,8 +32,8 @@ started-none : (sc : Scenario) (book : BookView) (state : CoreState) (shown : Sh
 started-none sc book state shown e =
     let on : CoreState = record state { start = Some shown; map = overlaid state.map (delta_of shown) } in
     let off : CoreState = record state { start = Some shown } in
-    let go : (b : Bool) → (if b then go_on sc book (clock_tests sc) on else off).noted ≡ [] = λ b. elim b as (λ b. (if b then go_on sc book (clock_tests sc) on else off).noted ≡ []) [
-      | true ↦ (go-on-start sc book (clock_tests sc) on).1 ∙ e
+    let go : (b : Bool) → (if b then go_on sc book (clock_tests sc ByFacility) on else off).noted ≡ [] = λ b. elim b as (λ b. (if b then go_on sc book (clock_tests sc ByFacility) on else off).noted ≡ []) [
+      | true ↦ (go-on-start sc book (clock_tests sc ByFacility) on).1 ∙ e
       | false ↦ e
     ] in
     go (shows_room shown)

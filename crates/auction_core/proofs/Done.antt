@@ -2,6 +2,7 @@
 use Rattle.std.proofs.Common.{◌≡◌, Bool, true, false, not, ◌==◌, ◌&&◌, ◌||◌, if◌then◌else◌, List, [], ◌∷◌, ◌++◌, map, Some, None, Contains, refl, sym, ap, ◌∙◌, subst, ⊎_elim, inl, inr, eq-eqb}
 use Rattle.std.specs.List.{cons_option}
 use Rattle.std.proofs.lemmas.Bool.{and_from, and_right, both_ways, cond-true, false_from_ne_true, cases_Bool}
+use Rattle.pack_defs.specs.declared.order.Order.TheVariants.{ByFacility}
 use Rattle.pack_defs.specs.Book.{BookView}
 use Rattle.pack_defs.specs.Packing.{fits}
 use Rattle.pack_defs.specs.declared.scenario.Scenario.{Scenario}
@@ -136,12 +137,12 @@ done-room (Refuted w how) e = cc
 done-room (Undecided receipts) e = cc
 
 -- the map of a record that is backed and Done
-pub done-map : (sc : Scenario) (book : BookView) (rec : Record) → IsAuction sc book → IsBacked sc book rec → rec.ending ≡ Done → IsOf sc book (clock_rule sc book (undecided_of rec.steps)) rec.map
+pub done-map : (sc : Scenario) (book : BookView) (rec : Record) → IsAuction sc book → IsBacked sc book rec → rec.ending ≡ Done → IsOf sc book (clock_rule sc book ByFacility (undecided_of rec.steps)) rec.map
 unfolding clock_rule asked_tests
 done-map sc book rec a b done =
     let carried : IsCarriedThrough sc book rec = subst (IsEnded sc book rec) done b.rest in
     let U : List ClockTest = undecided_of rec.steps in
     let room : shows_room rec.start ≡ true = done-room rec.start (sym b.ending ∙ done) in
-    let apart : TestsApart (map test_of rec.steps) = subst TestsApart (sym carried.tests) (asked-apart sc book U (clock_tests sc) (opening_state sc) (clock_apart sc a.stations)) in
-    subst (IsOf sc book (after_tests sc book U (clock_tests sc) (opening_state sc))) (sym carried.map)
-    (walk sc book U (clock_tests sc) [] (after_start sc rec.start) rec.steps a refl (start-map sc book rec.start a b.start room) carried.tests carried.shown (listed-shown rec.steps apart))
+    let apart : TestsApart (map test_of rec.steps) = subst TestsApart (sym carried.tests) (asked-apart sc book U (clock_tests sc ByFacility) (opening_state sc) (clock_apart sc ByFacility a.stations)) in
+    subst (IsOf sc book (after_tests sc book U (clock_tests sc ByFacility) (opening_state sc))) (sym carried.map)
+    (walk sc book U (clock_tests sc ByFacility) [] (after_start sc rec.start) rec.steps a refl (start-map sc book rec.start a b.start room) carried.tests carried.shown (listed-shown rec.steps apart))

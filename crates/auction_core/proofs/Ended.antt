@@ -1,5 +1,6 @@
 -- The record of a state that keeps the rule and has ended is backed.
 use Rattle.std.proofs.Common.{◌≡◌, true, false, if◌then◌else◌, List, [], ◌∷◌, ◌++◌, Option, Some, None, is_none, sum_by, refl, sym, ap, ◌∙◌, append-nil}
+use Rattle.pack_defs.specs.declared.order.Order.TheVariants.{ByFacility}
 use Rattle.pack_defs.specs.Book.{BookView}
 use Rattle.pack_defs.specs.Lists.{is_empty}
 use Rattle.pack_defs.specs.declared.scenario.Scenario.{Scenario}
@@ -34,8 +35,8 @@ record_from sc state shown = record {
 carried : (sc : Scenario) (book : BookView) (state : CoreState) (shown : Shown) → IsUnderWay sc book shown state → state.left ≡ [] → IsCarriedThrough sc book (record_from sc state shown)
 unfolding clock_rule asked_tests
 carried sc book state shown u e =
-    let all : u.before ≡ clock_tests sc = sym (append-nil u.before) ∙ (ap (λ l. u.before ++ l) (sym e) ∙ u.parts) in
-    let clock : state.clock ≡ after_tests sc book (undecided_of state.steps) (clock_tests sc) (opening_state sc) = u.clock ∙ ap (λ ts. after_tests sc book (undecided_of state.steps) ts (opening_state sc)) all in
+    let all : u.before ≡ clock_tests sc ByFacility = sym (append-nil u.before) ∙ (ap (λ l. u.before ++ l) (sym e) ∙ u.parts) in
+    let clock : state.clock ≡ after_tests sc book (undecided_of state.steps) (clock_tests sc ByFacility) (opening_state sc) = u.clock ∙ ap (λ ts. after_tests sc book (undecided_of state.steps) ts (opening_state sc)) all in
     record {
       tests = u.tests ∙ ap (λ ts. asked_from sc book (undecided_of state.steps) ts (opening_state sc)) all;
       shown = u.shown;

@@ -4,6 +4,7 @@ use Rattle.std.specs.Prelude.{slice_get}
 use Rattle.std.specs.Option.{option_map_or}
 use Rattle.std.proofs.lemmas.Bool.{both_ways, leb-false, cases_Bool}
 use Rattle.assign_check.proofs.Faultless.{clean-stations}
+use Rattle.pack_defs.specs.declared.order.Order.TheVariants.{ByFacility}
 use Rattle.pack_defs.specs.Book.{BookView, domain_of}
 use Rattle.pack_defs.specs.ChannelMap.{overlaid}
 use Rattle.pack_defs.specs.Lists.{is_in, is_empty, is_ascending}
@@ -140,14 +141,14 @@ started-keeps : (sc : Scenario) (book : BookView) (shown : Shown) (state : CoreS
 started-keeps sc book shown state a h n k =
     let on : CoreState = record state { start = Some shown; map = overlaid state.map (delta_of shown) } in
     let off : CoreState = record state { start = Some shown } in
-    let go : (b : Bool) → shows_room shown ≡ b → IsKept sc book (if b then go_on sc book (clock_tests sc) on else off) = λ b. elim b as (λ b. shows_room shown ≡ b → IsKept sc book (if b then go_on sc book (clock_tests sc) on else off)) [
+    let go : (b : Bool) → shows_room shown ≡ b → IsKept sc book (if b then go_on sc book (clock_tests sc ByFacility) on else off) = λ b. elim b as (λ b. shows_room shown ≡ b → IsKept sc book (if b then go_on sc book (clock_tests sc ByFacility) on else off)) [
       | true ↦ λ r.
-          let s = go-on-start sc book (clock_tests sc) on in
-          from-parts sc book (go_on sc book (clock_tests sc) on) (Some shown) s.0 k
-          (in-case (IsUnderWay sc book shown (go_on sc book (clock_tests sc) on)) (IsAtStart sc book (go_on sc book (clock_tests sc) on)) (shows_room shown)
-          (λ _. go-on-keeps sc book shown (clock_tests sc) on [] a (first-walk sc book shown state a h k r) refl)
+          let s = go-on-start sc book (clock_tests sc ByFacility) on in
+          from-parts sc book (go_on sc book (clock_tests sc ByFacility) on) (Some shown) s.0 k
+          (in-case (IsUnderWay sc book shown (go_on sc book (clock_tests sc ByFacility) on)) (IsAtStart sc book (go_on sc book (clock_tests sc ByFacility) on)) (shows_room shown)
+          (λ _. go-on-keeps sc book shown (clock_tests sc ByFacility) on [] a (first-walk sc book shown state a h k r) refl)
           (λ no. absurd (both_ways (shows_room shown) no r)))
-          (none-noted sc book (go_on sc book (clock_tests sc) on) a (s.1 ∙ n))
+          (none-noted sc book (go_on sc book (clock_tests sc ByFacility) on) a (s.1 ∙ n))
       | false ↦ λ r.
           from-parts sc book off (Some shown) refl k
           (in-case (IsUnderWay sc book shown off) (IsAtStart sc book off) (shows_room shown)
@@ -211,7 +212,7 @@ settled-test sc book start state t ts shown a u r k e f s =
     let task : task_of sc book state ≡ Some (test_task sc book state t) = task-is sc book state (Some start) (t ∷ ts) e f in
     let valid : IsSettledBy sc book (test_task sc book state t) shown = subst (λ o. MatchOption o ⊥ (λ task. IsSettledBy sc book task shown)) task s in
     let query : IsQuery book state (t ∷ ts) = subst (IsQuery book state) f u.query in
-    let parts : clock_tests sc ≡ u.before ++ t ∷ ts = sym u.parts ∙ ap (λ l. u.before ++ l) f in
+    let parts : clock_tests sc ByFacility ≡ u.before ++ t ∷ ts = sym u.parts ∙ ap (λ l. u.before ++ l) f in
     let w : IsWalked sc book start next u.before = record { clock = u.clock; tests = u.tests; shown = u.shown; same_clock = u.same_clock; same_map = u.same_map; clean = u.clean; stations = u.stations } in
     let step : IsStepShown sc book state (step_of t shown) = for-false (shown ≡ NoChannel t.station) (IsSettledBy sc book (test_task sc book state t) shown) (is_empty (domain_of book t.station)) query.1 valid in
     let after : CoreState = settled sc next t shown in

@@ -3,6 +3,7 @@ use Rattle.std.proofs.Common.{◌≡◌, ℕ, ◌-◌, Bool, true, false, List, 
 use Rattle.std.proofs.Math.Seq.{take-append_seam}
 use Rattle.std.specs.Option.{option_map_or}
 use Rattle.std.proofs.lemmas.Bool.{both_ways, cond-true, cond-false}
+use Rattle.pack_defs.specs.declared.order.Order.TheVariants.{ByFacility}
 use Rattle.pack_defs.specs.Book.{BookView}
 use Rattle.pack_defs.specs.ChannelMap.{overlaid}
 use Rattle.pack_defs.specs.Packing.{IsClean, IsPacking}
@@ -28,7 +29,7 @@ pub record IsAtStart (sc : Scenario) (book : BookView) (state : CoreState) : Typ
 -- which is clean and of those on air.
 pub record IsUnderWay (sc : Scenario) (book : BookView) (start : Shown) (state : CoreState) : Type 0 where
   pub before : List ClockTest
-  pub parts : before ++ state.left ≡ clock_tests sc
+  pub parts : before ++ state.left ≡ clock_tests sc ByFacility
   pub clock : state.clock ≡ after_tests sc book (undecided_of state.steps) before (opening_state sc)
   pub tests : map test_of state.steps ≡ asked_from sc book (undecided_of state.steps) before (opening_state sc)
   pub shown : AreShown sc book (after_start sc start) state.steps
@@ -76,11 +77,11 @@ done-is : (sc : Scenario) (state : CoreState) (before : List ClockTest) → befo
 done-is sc state before e =
     ap (λ (all : List ClockTest). take (length all - length state.left) all) (sym e) ∙ seam before state.left
 
-due-true : (sc : Scenario) (state : CoreState) → is_running state ≡ true → tests_due sc state ≡ clock_tests sc
-due-true sc state r = cond-true (is_running state) (clock_tests sc) [] r
+due-true : (sc : Scenario) (state : CoreState) → is_running state ≡ true → tests_due sc state ≡ clock_tests sc ByFacility
+due-true sc state r = cond-true (is_running state) (clock_tests sc ByFacility) [] r
 
 due-false : (sc : Scenario) (state : CoreState) → is_running state ≡ false → tests_due sc state ≡ []
-due-false sc state r = cond-false (is_running state) (clock_tests sc) [] r
+due-false sc state r = cond-false (is_running state) (clock_tests sc ByFacility) [] r
 
 -- where the start does not fit, it gives the map nothing
 no-delta : (o : Option Shown) → option_map_or shows_room o false ≡ false → delta_of (shown_start o) ≡ []

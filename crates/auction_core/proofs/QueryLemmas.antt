@@ -4,6 +4,7 @@ use Rattle.std.specs.Prelude.{⊤}
 use Rattle.std.specs.List.{list_all}
 use Rattle.std.specs.Option.{option_map_or}
 use Rattle.std.proofs.lemmas.Bool.{and_from, cases_Bool, eqb-true, or_cases, true≢false}
+use Rattle.pack_defs.specs.declared.order.Order.TheVariants.{ByFacility}
 use Rattle.pack_defs.specs.declared.scenario.Scenario.{Scenario}
 use Rattle.pack_defs.specs.Book.{BookView, domain_of}
 use Rattle.pack_defs.specs.ChannelMap.{overlaid}
@@ -131,8 +132,8 @@ go_on-number sc book (t ∷ ts) state =
 started-number : (sc : Scenario) (book : BookView) (state : CoreState) (shown : Shown) → (started sc book state shown).number ≡ state.number
 started-number sc book state shown =
     let on : CoreState = record state { start = Some shown; map = overlaid state.map (delta_of shown) } in
-    elim (shows_room shown) as (λ b. (cond b (go_on sc book (clock_tests sc) on) (record state { start = Some shown })).number ≡ state.number) [
-      | true ↦ go_on-number sc book (clock_tests sc) on
+    elim (shows_room shown) as (λ b. (cond b (go_on sc book (clock_tests sc ByFacility) on) (record state { start = Some shown })).number ≡ state.number) [
+      | true ↦ go_on-number sc book (clock_tests sc ByFacility) on
       | false ↦ refl
     ]
 
@@ -149,11 +150,11 @@ answered-number sc book state shown =
       | false ↦ past state.left
     ]
 
-started-most : (sc : Scenario) (book : BookView) (state : CoreState) (shown : Shown) → length (started sc book state shown).left ≤ length (clock_tests sc) + length state.left
+started-most : (sc : Scenario) (book : BookView) (state : CoreState) (shown : Shown) → length (started sc book state shown).left ≤ length (clock_tests sc ByFacility) + length state.left
 started-most sc book state shown =
     let on : CoreState = record state { start = Some shown; map = overlaid state.map (delta_of shown) } in
-    elim (shows_room shown) as (λ b. length (cond b (go_on sc book (clock_tests sc) on) (record state { start = Some shown })).left ≤ length (clock_tests sc) + length state.left) [
-      | true ↦ let few = go_on-fewer sc book (clock_tests sc) on in omega (arith, few)
+    elim (shows_room shown) as (λ b. length (cond b (go_on sc book (clock_tests sc ByFacility) on) (record state { start = Some shown })).left ≤ length (clock_tests sc ByFacility) + length state.left) [
+      | true ↦ let few = go_on-fewer sc book (clock_tests sc ByFacility) on in omega (arith, few)
       | false ↦ omega arith
     ]
 
@@ -162,10 +163,10 @@ started-most sc book state shown =
 pub answered-fewer : (sc : Scenario) (book : BookView) (state : CoreState) (shown : Shown) → has_ended state ≡ false → queries_left sc (answered sc book state shown) < queries_left sc state
 answered-fewer sc book state shown on =
     let next : CoreState = record state { noted = []; number = state.number + 1 } in
-    let go : (o : Option Shown) (l : List ClockTest) → state.start ≡ o → state.left ≡ l → cond (is_none o) false (is_empty l) ≡ false → queries_left sc (cond (is_none o) (started sc book next shown) (past_first sc book next shown l)) < length l + cond (is_none o) (length (clock_tests sc) + 1) 0 = λ o l. elim o as (λ o. state.start ≡ o → state.left ≡ l → cond (is_none o) false (is_empty l) ≡ false → queries_left sc (cond (is_none o) (started sc book next shown) (past_first sc book next shown l)) < length l + cond (is_none o) (length (clock_tests sc) + 1) 0) [
+    let go : (o : Option Shown) (l : List ClockTest) → state.start ≡ o → state.left ≡ l → cond (is_none o) false (is_empty l) ≡ false → queries_left sc (cond (is_none o) (started sc book next shown) (past_first sc book next shown l)) < length l + cond (is_none o) (length (clock_tests sc ByFacility) + 1) 0 = λ o l. elim o as (λ o. state.start ≡ o → state.left ≡ l → cond (is_none o) false (is_empty l) ≡ false → queries_left sc (cond (is_none o) (started sc book next shown) (past_first sc book next shown l)) < length l + cond (is_none o) (length (clock_tests sc ByFacility) + 1) 0) [
       | None ↦ λ e f k.
           let begun : is_none (started sc book next shown).start ≡ false = ap is_none (started-start sc book next shown) in
-          let rest : cond (is_none (started sc book next shown).start) (length (clock_tests sc) + 1) 0 ≡ 0 = ap (λ b. cond b (length (clock_tests sc) + 1) 0) begun in
+          let rest : cond (is_none (started sc book next shown).start) (length (clock_tests sc ByFacility) + 1) 0 ≡ 0 = ap (λ b. cond b (length (clock_tests sc ByFacility) + 1) 0) begun in
           let few = started-most sc book next shown in
           let old : length state.left ≡ length l = ap length f in
           omega (arith, rest, few, old)
@@ -173,7 +174,7 @@ answered-fewer sc book state shown on =
         | [] ↦ λ e f k. absurd (true≢false k)
         | t ∷ ts ↦ λ e f k.
             let same : is_none (go_on sc book ts (settled sc next t shown)).start ≡ false = ap is_none ((go-on-start sc book ts (settled sc next t shown)).0 ∙ e) in
-            let rest : cond (is_none (go_on sc book ts (settled sc next t shown)).start) (length (clock_tests sc) + 1) 0 ≡ 0 = ap (λ b. cond b (length (clock_tests sc) + 1) 0) same in
+            let rest : cond (is_none (go_on sc book ts (settled sc next t shown)).start) (length (clock_tests sc ByFacility) + 1) 0 ≡ 0 = ap (λ b. cond b (length (clock_tests sc ByFacility) + 1) 0) same in
             let few = go_on-fewer sc book ts (settled sc next t shown) in
             omega (arith, rest, few)
       ]

@@ -4,6 +4,7 @@ use Rattle.std.specs.List.{list_any, cons_option}
 use Rattle.std.proofs.lemmas.Bool.{and_parts, and_from, or_cases, or_left, or_right, both_ways, false_from_ne_true, cases_Bool}
 use Rattle.std.proofs.lemmas.List.Sums.{sum_by-cons}
 use Rattle.pack_defs.proofs.Members.{is_in-gives}
+use Rattle.pack_defs.specs.declared.order.Order.TheVariants.{ByFacility}
 use Rattle.pack_defs.specs.Book.{BookView}
 use Rattle.pack_defs.specs.Lists.{is_in}
 use Rattle.pack_defs.specs.Packing.{IsClean}
@@ -94,10 +95,10 @@ pub record IsWalked (sc : Scenario) (book : BookView) (start : Shown) (state : C
   pub stations : map (λ x. x.0) state.map ≡ on_air_set sc state.clock
 
 -- the next test isn't one of the undecided ones
-pub new-test : (sc : Scenario) (book : BookView) (start : Shown) (state : CoreState) (before after : List ClockTest) (t : ClockTest) → IsAuction sc book → IsWalked sc book start state before → clock_tests sc ≡ before ++ t ∷ after → is_listed (undecided_of state.steps) t ≡ false
+pub new-test : (sc : Scenario) (book : BookView) (start : Shown) (state : CoreState) (before after : List ClockTest) (t : ClockTest) → IsAuction sc book → IsWalked sc book start state before → clock_tests sc ByFacility ≡ before ++ t ∷ after → is_listed (undecided_of state.steps) t ≡ false
 new-test sc book start state before after t a w parts =
     false_from_ne_true (is_listed (undecided_of state.steps) t) (λ yes.
-    both_ways (is_listed before t) (no_test_twice sc before after t a.stations parts)
+    both_ways (is_listed before t) (no_test_twice sc ByFacility before after t a.stations parts)
     (listed-asked sc book (undecided_of state.steps) before (opening_state sc) t
     (subst (λ us. is_listed us t ≡ true) w.tests (listed-undecided state.steps t yes))))
 

@@ -4,6 +4,7 @@ use Rattle.std.specs.Prelude.{slice_get}
 use Rattle.std.specs.Option.{option_map_or}
 use Rattle.std.proofs.lemmas.Bool.{both_ways, false_from_ne_true, cases_Bool}
 use Rattle.std.proofs.lemmas.List.Folds.{list_any-append, list_any_at}
+use Rattle.pack_defs.specs.declared.order.Order.TheVariants.{ByFacility}
 use Rattle.pack_defs.specs.Book.{BookView, domain_of}
 use Rattle.pack_defs.specs.ChannelMap.{overlaid}
 use Rattle.pack_defs.specs.Lists.{is_empty}
@@ -103,16 +104,16 @@ agree U before t u new c =
     or-false false = refl
 
 -- the undecided tests after the step agree with those before on the tests before
-still : (sc : Scenario) (book : BookView) (start : Shown) (state : CoreState) (before after : List ClockTest) (t : ClockTest) (shown : Shown) → IsAuction sc book → IsWalked sc book start state before → clock_tests sc ≡ before ++ t ∷ after →
+still : (sc : Scenario) (book : BookView) (start : Shown) (state : CoreState) (before after : List ClockTest) (t : ClockTest) (shown : Shown) → IsAuction sc book → IsWalked sc book start state before → clock_tests sc ByFacility ≡ before ++ t ∷ after →
     (u : ClockTest) → Contains before u → is_listed (undecided_of (state.steps ++ step_of t shown ∷ [])) u ≡ is_listed (undecided_of state.steps) u
 still sc book start state before after t shown a w parts u c =
     ⊎_elim
-    (λ yes. ap (λ V. is_listed V u) (undecided-push-true state.steps (step_of t shown) yes) ∙ agree (undecided_of state.steps) before t u (no_test_twice sc before after t a.stations parts) c)
+    (λ yes. ap (λ V. is_listed V u) (undecided-push-true state.steps (step_of t shown) yes) ∙ agree (undecided_of state.steps) before t u (no_test_twice sc ByFacility before after t a.stations parts) c)
     (λ no. ap (λ V. is_listed V u) (undecided-push-false state.steps (step_of t shown) no))
     (cases_Bool (is_undecided shown))
 
 -- the clock after the step
-step-clock : (sc : Scenario) (book : BookView) (start : Shown) (state : CoreState) (before after : List ClockTest) (t : ClockTest) (shown : Shown) → IsAuction sc book → IsWalked sc book start state before → clock_tests sc ≡ before ++ t ∷ after → is_active state.clock t.station ≡ true → IsStepShown sc book state (step_of t shown) →
+step-clock : (sc : Scenario) (book : BookView) (start : Shown) (state : CoreState) (before after : List ClockTest) (t : ClockTest) (shown : Shown) → IsAuction sc book → IsWalked sc book start state before → clock_tests sc ByFacility ≡ before ++ t ∷ after → is_active state.clock t.station ≡ true → IsStepShown sc book state (step_of t shown) →
     after_answer sc state.clock t (shows_room shown) ≡ after_tests sc book (undecided_of (state.steps ++ step_of t shown ∷ [])) (before ++ t ∷ []) (opening_state sc)
 step-clock sc book start state before after t shown a w parts active h =
     let U : List ClockTest = undecided_of state.steps in
@@ -122,7 +123,7 @@ step-clock sc book start state before after t shown a w parts active h =
     ⊎_elim
     (λ yes.
     ap (after_answer sc st t) (no-room shown yes) ∙
-    (sym (undecided_in_turn sc book U before t (opening_state sc) active' (no_test_twice sc before after t a.stations parts)) ∙
+    (sym (undecided_in_turn sc book U before t (opening_state sc) active' (no_test_twice sc ByFacility before after t a.stations parts)) ∙
     ap (λ V. after_tests sc book V (before ++ t ∷ []) (opening_state sc)) (sym (undecided-push-true state.steps (step_of t shown) yes))))
     (λ no.
     let answer : fits book (asked_set sc st t.station) ≡ shows_room shown = subst (λ c. fits book (asked_set sc c t.station) ≡ shows_room shown) w.clock (room sc book state t shown (ready sc book (undecided_of state.steps) before state t.station a w.clock (w.clean, w.stations) active) h no) in
@@ -132,7 +133,7 @@ step-clock sc book start state before after t shown a w parts active h =
     (cases_Bool (is_undecided shown))
 
 -- the tests asked after the step
-step-tests : (sc : Scenario) (book : BookView) (start : Shown) (state : CoreState) (before after : List ClockTest) (t : ClockTest) (shown : Shown) → IsAuction sc book → IsWalked sc book start state before → clock_tests sc ≡ before ++ t ∷ after → is_active state.clock t.station ≡ true →
+step-tests : (sc : Scenario) (book : BookView) (start : Shown) (state : CoreState) (before after : List ClockTest) (t : ClockTest) (shown : Shown) → IsAuction sc book → IsWalked sc book start state before → clock_tests sc ByFacility ≡ before ++ t ∷ after → is_active state.clock t.station ≡ true →
     map test_of (state.steps ++ step_of t shown ∷ []) ≡ asked_from sc book (undecided_of (state.steps ++ step_of t shown ∷ [])) (before ++ t ∷ []) (opening_state sc)
 step-tests sc book start state before after t shown a w parts active =
     let U : List ClockTest = undecided_of state.steps in
@@ -147,7 +148,7 @@ step-tests sc book start state before after t shown a w parts active =
     sym (asked_in_turn sc book V before (t ∷ []) op)))
 
 -- the step of an active station's test, shown as it has to be, goes on where the rule goes
-pub walk-step : (sc : Scenario) (book : BookView) (start : Shown) (state : CoreState) (before after : List ClockTest) (t : ClockTest) (shown : Shown) → IsAuction sc book → IsWalked sc book start state before → clock_tests sc ≡ before ++ t ∷ after → is_active state.clock t.station ≡ true → IsStepShown sc book state (step_of t shown) → IsWalked sc book start (settled sc state t shown) (before ++ t ∷ [])
+pub walk-step : (sc : Scenario) (book : BookView) (start : Shown) (state : CoreState) (before after : List ClockTest) (t : ClockTest) (shown : Shown) → IsAuction sc book → IsWalked sc book start state before → clock_tests sc ByFacility ≡ before ++ t ∷ after → is_active state.clock t.station ≡ true → IsStepShown sc book state (step_of t shown) → IsWalked sc book start (settled sc state t shown) (before ++ t ∷ [])
 walk-step sc book start state before after t shown a w parts active h =
     let walked : CoreState = after_steps sc (after_start sc start) state.steps in
     let of = new-map sc book state t shown (ready sc book (undecided_of state.steps) before state t.station a w.clock (w.clean, w.stations) active) h in
@@ -183,7 +184,7 @@ by_bool P Q true e h = h
 by_bool P Q false e h = cc
 
 -- the state at the next query, or at the end, stands where the rule comes to
-pub go-on-keeps : (sc : Scenario) (book : BookView) (start : Shown) (ts : List ClockTest) (state : CoreState) (before : List ClockTest) → IsAuction sc book → IsWalked sc book start state before → clock_tests sc ≡ before ++ ts → IsUnderWay sc book start (go_on sc book ts state)
+pub go-on-keeps : (sc : Scenario) (book : BookView) (start : Shown) (ts : List ClockTest) (state : CoreState) (before : List ClockTest) → IsAuction sc book → IsWalked sc book start state before → clock_tests sc ByFacility ≡ before ++ ts → IsUnderWay sc book start (go_on sc book ts state)
 go-on-keeps sc book start [] state before a w parts = record {
   before = before;
   parts = sym parts;
@@ -197,7 +198,7 @@ go-on-keeps sc book start [] state before a w parts = record {
   query = tt;
 }
 go-on-keeps sc book start (t ∷ ts) state before a w parts =
-    let parts' : clock_tests sc ≡ (before ++ t ∷ []) ++ ts = parts ∙ sym (append_assoc before (t ∷ []) ts) in
+    let parts' : clock_tests sc ByFacility ≡ (before ++ t ∷ []) ++ ts = parts ∙ sym (append_assoc before (t ∷ []) ts) in
     let at : CoreState = record state { left = t ∷ ts } in
     let inner : (c : Bool) → is_active state.clock t.station ≡ true → is_empty (domain_of book t.station) ≡ c → IsUnderWay sc book start (option_map_or (go_on sc book ts) (option_map (settled sc state t) (if c then Some (NoChannel t.station) else None)) at) = λ c. elim c as (λ c. is_active state.clock t.station ≡ true → is_empty (domain_of book t.station) ≡ c → IsUnderWay sc book start (option_map_or (go_on sc book ts) (option_map (settled sc state t) (if c then Some (NoChannel t.station) else None)) at)) [
       | true ↦ λ active bare.

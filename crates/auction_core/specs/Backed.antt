@@ -1,6 +1,7 @@
 -- When a finished record is backed: its steps are the tests of the clock rule, which is that of Milgrom and Segal (2020),
 -- and each is shown. What the record holds, and that it is checked against the rule, is this project's own.
 use Rattle.std.specs.Prelude.{ℕ, Bool, true, false, slice_get, ◌≡◌, if◌then◌else◌, List, [], ◌∷◌, map, filter_map, sum_by, Option, Some, None, MatchOption, MatchBool}
+use Rattle.pack_defs.specs.declared.order.Order.TheVariants.{ByFacility}
 use Rattle.pack_defs.specs.declared.worker.Worker.{Worker}
 use Rattle.pack_defs.specs.Book.{BookView, domain_of}
 use Rattle.assign_check.specs.Fault.{IsCleanOn}
@@ -97,10 +98,10 @@ ending_of (Undecided receipts) = StartUndecided
 -- The auction was carried through: with U the steps shown undecided, the steps are in order the tests that the clock rule
 -- asks, each is shown, the map is what they leave, and the total is the sum of the rule's payments.
 pub record IsCarriedThrough (sc : Scenario) (book : BookView) (rec : Record) : Type 0 where
-  pub tests : map test_of rec.steps ≡ asked_tests sc book (undecided_of rec.steps)
+  pub tests : map test_of rec.steps ≡ asked_tests sc book ByFacility (undecided_of rec.steps)
   pub shown : AreShown sc book (after_start sc rec.start) rec.steps
   pub map : rec.map ≡ (after_steps sc (after_start sc rec.start) rec.steps).map
-  pub total : rec.total ≡ sum_by (λ x. x.price) (clock_rule sc book (undecided_of rec.steps)).frozen
+  pub total : rec.total ≡ sum_by (λ x. x.price) (clock_rule sc book ByFacility (undecided_of rec.steps)).frozen
 
 -- the auction ended at its start: nothing else was done
 pub record IsStopped (rec : Record) : Type 0 where

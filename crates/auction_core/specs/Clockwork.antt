@@ -1,5 +1,6 @@
 -- An auction between two queries, as the program keeps it.
 use Rattle.std.specs.Prelude.{ℕ, ◌≡◌, ◌+◌, ◌≤◌, List, length, None, true}
+use Rattle.pack_defs.specs.declared.order.Order.TheVariants.{ByFacility}
 use Rattle.pack_defs.specs.Book.{BookView, IsInOrder, stations_of}
 use Rattle.pack_defs.specs.declared.scenario.Scenario.{Scenario}
 use Rattle.pack_defs.specs.Scenario.{IsWithinLimits, facilities}
@@ -30,4 +31,4 @@ pub record IsClockwork (sc : Scenario) (book : BookView) (schedule : List ℕ) (
   pub rest : start_fits c.start ≡ true → IsAtRest sc book c
   pub rule : KeepsTheRule sc book (core_state sc c number)
   pub first : c.start ≡ None → number ≡ 1
-  pub tests : number + length (left_of sc c) ≤ length (clock_tests sc) + 2
+  pub tests : number + length (left_of sc c) ≤ length (clock_tests sc ByFacility) + 2

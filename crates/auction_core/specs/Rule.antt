@@ -1,5 +1,6 @@
 -- What every list of postings keeps: the state is one that the clock rule comes to.
 use Rattle.std.specs.Prelude.{ℕ, Bool, true, false, ◌<◌, ◌-◌, ◌≡◌, if◌then◌else◌, List, [], ◌∷◌, ◌++◌, length, map, take, Option, Some, None, MatchOption, MatchBool}
+use Rattle.pack_defs.specs.declared.order.Order.TheVariants.{ByFacility}
 use Rattle.pack_defs.specs.Book.{BookView, IsInOrder, domain_of}
 use Rattle.pack_defs.specs.Lists.{is_empty, is_ascending}
 use Rattle.pack_defs.specs.Packing.{IsPacking}
@@ -48,7 +49,7 @@ is_running state = start_fits state.start
 
 -- the tests to go through: the clock's once it runs, and none before
 abbrev pub tests_due : Scenario → CoreState → List ClockTest
-tests_due sc state = if is_running state then clock_tests sc else []
+tests_due sc state = if is_running state then clock_tests sc ByFacility else []
 
 -- the tests before the standing one; every test where none is left
 abbrev pub tests_done : Scenario → CoreState → List ClockTest

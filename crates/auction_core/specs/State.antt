@@ -3,6 +3,7 @@
 -- a test of a station without a channel needs no query, and how queries are numbered, is this project's own.
 use Rattle.std.specs.Prelude.{ℕ, Bool, true, false, ◌+◌, if◌then◌else◌, List, [], ◌∷◌, ◌++◌, filter, find, length, Option, Some, None, option_map, is_none}
 use Rattle.std.specs.Option.{option_map_or}
+use Rattle.pack_defs.specs.declared.order.Order.TheVariants.{ByFacility}
 use Rattle.pack_defs.specs.Book.{BookView, domain_of}
 use Rattle.pack_defs.specs.ChannelMap.{overlaid}
 use Rattle.pack_defs.specs.Lists.{is_in, is_empty}
@@ -82,7 +83,7 @@ go_on sc book (t ∷ ts) state =
 abbrev pub started : Scenario → BookView → CoreState → Shown → CoreState
 started sc book state shown =
     if shows_room shown
-    then go_on sc book (clock_tests sc) (record state { start = Some shown; map = overlaid state.map (delta_of shown) })
+    then go_on sc book (clock_tests sc ByFacility) (record state { start = Some shown; map = overlaid state.map (delta_of shown) })
     else record state { start = Some shown }
 
 -- the state while the start test stands
@@ -141,4 +142,4 @@ answered sc book state shown =
 
 -- how many queries there may be yet
 abbrev pub queries_left : Scenario → CoreState → ℕ
-queries_left sc state = length state.left + (if is_none state.start then length (clock_tests sc) + 1 else 0)
+queries_left sc state = length state.left + (if is_none state.start then length (clock_tests sc ByFacility) + 1 else 0)

@@ -6,7 +6,7 @@ ghost use Rattle.pack_defs.specs.Prices.{last_round, prices};
 ghost use Rattle.pack_defs.specs.ClockRule.{exits, opening_state};
 ghost use Rattle.auction_core.specs.Clock.{AreStandings, answered_standing, declines_offer, opening_standing, stands_active, stands_on_air};
 
-use offer_sched::offers::{last_round, offer};
+use offer_sched::offers::offer;
 use pack_defs::scenario::Scenario;
 use pack_defs::station::Station;
 use std::alloc::{AllocError as NoMemory, Global};
@@ -50,28 +50,33 @@ impl Model for Clock {
     ghost view = { λ c. c.standings.items };
 }
 
-// Whether the station would sooner stay on air than take this offer, in cents: it has no value, or one above it.
-fn declines(station: &Station, offer: u64) -> bool
-    ensures { result ≡ declines_offer offer station.now }
+// Whether the station declines this offer, in cents, in this round: it has no value, or one above it; or, where the owners
+// say round by round what they do, no line says that it stays.
+fn declines(sc: &Scenario, station: &Station, round: u32, offer: u64) -> bool
+    ensures { result ≡ declines_offer sc.now round offer station.now }
 {
+    if let Some(owners) = &sc.owners {
+        return !owners.stays(round, station.id);
+    }
     match station.value {
         Some(value) => offer < value,
         None => true,
     }
 }
 
-/// Whether the station declines the opening offer at this price, in cents per unit of volume.
-pub fn declines_opening(price: u32, station: &Station) -> bool
-    ensures { result ≡ declines_offer (price * station.now.volume) station.now }
+/// Whether the station declines the opening offer.
+pub fn declines_opening(sc: &Scenario, station: &Station) -> bool
+    ensures { result ≡ declines_offer sc.now 0 (sc.now.opening * station.now.volume) station.now }
 {
-    declines(station, u64::from(price) * u64::from(station.volume))
+    let offer = u64::from(sc.opening) * u64::from(station.volume);
+    declines(sc, station, 0, offer)
 }
 
-// Where a station stands once the clock opens at this price, in cents per unit of volume.
-fn opening(price: u32, station: &Station) -> Standing
-    ensures { result ≡ opening_standing price station.now }
+// Where a station stands once the clock opens.
+fn opening(sc: &Scenario, station: &Station) -> Standing
+    ensures { result ≡ opening_standing sc.now station.now }
 {
-    if declines_opening(price, station) {
+    if declines_opening(sc, station) {
         return Standing::OnAir { round: 0 };
     }
     Standing::Active
@@ -87,7 +92,9 @@ fn exits(sc: &Scenario, schedule: &[u32], i: usize, round: u32) -> bool
         exits sc.now (record { round = round; station = slice_index (facilities sc.now) i }) }
 {
     let station = &sc.stations.as_slice()[i];
-    round == last_round(sc) || declines(station, offer(schedule, station.volume, round))
+    // The last round comes after the last price.
+    round as usize == schedule.len()
+        || declines(sc, station, round, offer(schedule, station.volume, round))
 }
 
 impl Clock {
@@ -100,7 +107,7 @@ impl Clock {
         let stations = sc.stations.as_slice();
         let mut standings = Vec::with_capacity(alloc, stations.len())?;
         for station in stations {
-            standings.push(opening(sc.opening, station))?;
+            standings.push(opening(sc, station))?;
         }
         Ok(Clock { standings })
     }
@@ -167,6 +174,7 @@ impl Clock {
 mod tests {
     use super::*;
     use offer_sched::offers::schedule;
+    use pack_defs::fall::Fall;
     use pack_defs::items::Items;
     use pack_defs::worker::{Kind, Worker};
     use std::test::Fail;
@@ -194,9 +202,10 @@ mod tests {
             version: 1,
             top: 16,
             opening: 100,
-            decrements: Items::from_vec(vec![in alloc; 70]?),
+            fall: Fall::Listed(Items::from_vec(vec![in alloc; 70]?)),
             stations: Items::from_vec(vec![in alloc; first, second]?),
             workers: Items::from_vec(vec![in alloc; worker]?),
+            owners: None,
         })
     }
 

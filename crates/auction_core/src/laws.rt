@@ -1,6 +1,7 @@
 ghost use Rattle.std.specs.Prelude.{◌≡◌, List, [], ◌∷◌, ◌++◌, Some, None, true, map};
 ghost use Rattle.pack_defs.specs.Examples.{three_stations, lone_station, lone_bid, row, test};
 ghost use Rattle.pack_defs.specs.ResultRows.{Outcome};
+ghost use Rattle.pack_defs.specs.declared.order.Order.TheVariants.{ByFacility};
 ghost use Rattle.pack_defs.specs.Book.{BookView};
 ghost use Rattle.pack_defs.specs.Packing.{IsClean};
 ghost use Rattle.pack_defs.specs.declared.scenario.Scenario.{Scenario};
@@ -75,7 +76,7 @@ pub fn an_ended_record_is_backed()
 /// The map of a backed record of an auction that was carried through is clean, and of exactly the stations on air once the
 /// clock rule has gone through every test, with those that its steps show undecided left open.
 pub fn a_done_record_has_a_clean_map()
-    ensures { (sc : Scenario) (book : BookView) (rec : Record) → IsAuction sc book → IsBacked sc book rec → rec.ending ≡ Ending.Done → IsClean book rec.map × (map (λ x. x.0) rec.map ≡ on_air_set sc (clock_rule sc book (undecided_of rec.steps))) }
+    ensures { (sc : Scenario) (book : BookView) (rec : Record) → IsAuction sc book → IsBacked sc book rec → rec.ending ≡ Ending.Done → IsClean book rec.map × (map (λ x. x.0) rec.map ≡ on_air_set sc (clock_rule sc book ByFacility (undecided_of rec.steps))) }
 {}
 
 /// The records of the example: its total is 60 cents, and with two budgets of one line its last test is undecided.

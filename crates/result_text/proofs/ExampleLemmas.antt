@@ -1,6 +1,7 @@
 -- The records that the tests build are backed.
-use Rattle.std.proofs.Common.{◌≡◌, ℕ, zero, suc, ◌+◌, ◌<◌, ◌≤◌, true, List, [], ◌∷◌, ◌++◌, length, Some, refl, sym, ap, ◌∙◌, subst, rules, arith}
+use Rattle.std.proofs.Common.{◌≡◌, ℕ, zero, suc, ◌+◌, ◌<◌, ◌≤◌, true, List, [], ◌∷◌, ◌++◌, length, Some, None, refl, sym, ap, ◌∙◌, subst, rules, arith}
 use Rattle.std.specs.Prelude.{slice_index}
+use Rattle.pack_defs.specs.declared.fall.Fall.TheVariants.{Listed}
 use Rattle.pack_defs.specs.declared.scenario.Scenario.{Scenario}
 use Rattle.pack_defs.specs.declared.station.Station.{Station}
 use Rattle.pack_defs.specs.declared.worker.Worker.{Worker}
@@ -41,7 +42,7 @@ three-auction : (budget : ℕ) → IsAuction (auction_of_three (learner budget �
 unfolding three_stations three_bids
 three-auction budget = record {
   stations = three;
-  in_order = record { domains = record { stations = refl; channels = refl }; pairs = refl; on_domains = refl };
+  in_order = record { domains = record { stations = refl; channels = refl }; pairs = refl; of_two = refl; on_domains = refl };
   workers = omega arith;
 }
 
@@ -90,15 +91,15 @@ three-limits budget some most = record {
   top = omega arith;
   some_opening = omega arith;
   opening = omega arith;
-  rounds = omega arith;
-  decrements = search rules;
-  falls = omega arith;
+  version = refl;
+  fall = record { rounds = omega arith; each = search rules; falls = omega arith };
   stations = omega arith;
   ascend = three;
   each_station = search rules;
   some_worker = omega arith;
   workers = omega arith;
   each_worker = search rules;
+  prover = refl;
 }
 
 pub none-limits : IsWithinLimits no_station
@@ -108,22 +109,22 @@ none-limits = record {
   top = omega arith;
   some_opening = omega arith;
   opening = omega arith;
-  rounds = omega arith;
-  decrements = search rules;
-  falls = omega arith;
+  version = refl;
+  fall = record { rounds = omega arith; each = search rules; falls = omega arith };
   stations = omega arith;
   ascend = λ k l. absurd (omega arith);
   each_station = search rules;
   some_worker = omega arith;
   workers = omega arith;
   each_worker = search rules;
+  prover = refl;
 }
 
 -- ---- what the tests build
 
 -- an auction of these stations
 pub scenario-is : (budget : ℕ) (decrements : List ℕ) (stations : List Station) (workers : List Worker) → decrements ≡ 40 ∷ 40 ∷ [] → workers ≡ learner budget ∷ [] →
-    record { version = 1; top = 15; opening = 100; decrements = decrements; stations = stations; workers = workers } ≡ record (auction_of_three (learner budget ∷ [])) { stations = stations }
+    record { version = 1; top = 15; opening = 100; fall = Listed decrements; stations = stations; workers = workers; owners = None } ≡ record (auction_of_three (learner budget ∷ [])) { stations = stations }
 unfolding three_bids
 scenario-is budget decrements stations workers e f = rw (e, f) refl
 

@@ -3,6 +3,7 @@ use Rattle.std.proofs.Common.{◌≡◌, ◌∙◌, ℕ, zero, suc, ◌+◌, ◌
 use Rattle.std.proofs.lemmas.Bool.{true≢false}
 use Rattle.std.proofs.lemmas.List.{length-map, take_all}
 use Rattle.pack_defs.specs.Lists.{is_in}
+use Rattle.pack_defs.specs.declared.order.Order.TheVariants.{ByFacility}
 use Rattle.pack_defs.specs.declared.scenario.Scenario.{Scenario}
 use Rattle.pack_defs.specs.declared.station.Station.{Station}
 use Rattle.pack_defs.specs.Scenario.{IsWithinLimits, StationsAscend, facilities}
@@ -47,7 +48,7 @@ next-standings {sc} {rec} {steps} {k} {x} {v} i next ascend are h at =
     (answer-standings i (test_of x) (shows_room x.shown) ascend are h at next.active)
 
 -- after a backed record's last step the standings are the rule's
-pub last-standings : {sc : Scenario} {v : List Standing} (book : BookView) (rec : Record) (steps : List Step) (k : ℕ) → IsAuction sc book → IsBacked sc book rec → rec.ending ≡ Done → steps ≡ rec.steps → length steps ≤ k → AreStandings sc (after_steps sc (after_start sc rec.start) (take k steps)).clock v → AreStandings sc (clock_rule sc book (undecided_of rec.steps)) v
+pub last-standings : {sc : Scenario} {v : List Standing} (book : BookView) (rec : Record) (steps : List Step) (k : ℕ) → IsAuction sc book → IsBacked sc book rec → rec.ending ≡ Done → steps ≡ rec.steps → length steps ≤ k → AreStandings sc (after_steps sc (after_start sc rec.start) (take k steps)).clock v → AreStandings sc (clock_rule sc book ByFacility (undecided_of rec.steps)) v
 last-standings {sc} {v} book rec steps k a backed done same h are =
     subst (λ z. AreStandings sc z v) (ap (λ ys. (after_steps sc (after_start sc rec.start) ys).clock) (take_all k steps h ∙ same) ∙ backed-clock sc book rec a backed done) are
 

@@ -2,6 +2,7 @@
 use Rattle.std.proofs.Common.{◌≡◌, ℕ, zero, suc, ◌+◌, ◌<◌, ◌≤◌, Bool, true, false, if◌then◌else◌, inl, inr, List, [], ◌∷◌, ◌++◌, map, take, length, get_or, refl, sym, ap, ◌∙◌, subst, arith, Contains}
 use Rattle.std.proofs.lemmas.List.{take_more}
 use Rattle.std.proofs.lemmas.List.Elements.{Contains-append_cases, Contains-get_or}
+use Rattle.pack_defs.specs.declared.order.Order.TheVariants.{ByFacility}
 use Rattle.pack_defs.specs.declared.scenario.Scenario.{Scenario}
 use Rattle.pack_defs.specs.Scenario.{facilities}
 use Rattle.pack_defs.specs.Book.{BookView}
@@ -38,7 +39,7 @@ tests_of-has xs r (suc n) t h =
     ]
 
 -- a test of the clock is of a station of the scenario, in one of its rounds
-clock_tests-has : (sc : Scenario) (t : ClockTest) → Contains (clock_tests sc) t → Contains (facilities sc) t.station × (1 ≤ t.round) × (t.round ≤ last_round sc)
+clock_tests-has : (sc : Scenario) (t : ClockTest) → Contains (clock_tests sc ByFacility) t → Contains (facilities sc) t.station × (1 ≤ t.round) × (t.round ≤ last_round sc)
 clock_tests-has sc t h =
     let has = tests_of-has (bidders sc) 1 (last_round sc) t h in
     ((Contains-from_filter _ (facilities sc) t.station has.0).0, has.1, omega (arith, has.2))
@@ -134,14 +135,14 @@ carried-through sc book rec backed done = subst (IsEnded sc book rec) done backe
 record-listed : (sc : Scenario) (book : BookView) (rec : Record) → IsAuction sc book → IsCarriedThrough sc book rec → AreListed (undecided_of rec.steps) rec.steps
 unfolding asked_tests
 record-listed sc book rec a carried =
-    listed-shown rec.steps (subst TestsApart (sym carried.tests) (asked-apart sc book (undecided_of rec.steps) (clock_tests sc) (opening_state sc) (clock_apart sc a.stations)))
+    listed-shown rec.steps (subst TestsApart (sym carried.tests) (asked-apart sc book (undecided_of rec.steps) (clock_tests sc ByFacility) (opening_state sc) (clock_apart sc ByFacility a.stations)))
 
-record-follows : (sc : Scenario) (book : BookView) (rec : Record) → IsAuction sc book → IsBacked sc book rec → rec.ending ≡ Done → FollowsRule sc book (undecided_of rec.steps) (clock_tests sc) (after_start sc rec.start) rec.steps
+record-follows : (sc : Scenario) (book : BookView) (rec : Record) → IsAuction sc book → IsBacked sc book rec → rec.ending ≡ Done → FollowsRule sc book (undecided_of rec.steps) (clock_tests sc ByFacility) (after_start sc rec.start) rec.steps
 unfolding asked_tests
 record-follows sc book rec a backed done =
     let carried = carried-through sc book rec backed done in
     let room : shows_room rec.start ≡ true = done-room rec.start (sym backed.ending ∙ done) in
-    follows sc book (undecided_of rec.steps) (clock_tests sc) [] (after_start sc rec.start) rec.steps a refl (record {
+    follows sc book (undecided_of rec.steps) (clock_tests sc ByFacility) [] (after_start sc rec.start) rec.steps a refl (record {
       on_air = start-map sc book rec.start a backed.start room;
       tests = carried.tests;
       shown = carried.shown;
@@ -149,7 +150,7 @@ record-follows sc book rec a backed done =
     })
 
 -- the clock after its steps is that of the rule
-pub backed-clock : (sc : Scenario) (book : BookView) (rec : Record) → IsAuction sc book → IsBacked sc book rec → rec.ending ≡ Done → (after_steps sc (after_start sc rec.start) rec.steps).clock ≡ clock_rule sc book (undecided_of rec.steps)
+pub backed-clock : (sc : Scenario) (book : BookView) (rec : Record) → IsAuction sc book → IsBacked sc book rec → rec.ending ≡ Done → (after_steps sc (after_start sc rec.start) rec.steps).clock ≡ clock_rule sc book ByFacility (undecided_of rec.steps)
 unfolding clock_rule
 backed-clock sc book rec a backed done = (record-follows sc book rec a backed done).clock
 
@@ -159,9 +160,9 @@ backed-step : (sc : Scenario) (book : BookView) (rec : Record) (k : ℕ) (d : St
 unfolding asked_tests
 backed-step sc book rec k d carried h =
     let U : List ClockTest = undecided_of rec.steps in
-    let asked : Contains (asked_tests sc book U) (test_of (get_or rec.steps k d)) =
+    let asked : Contains (asked_tests sc book ByFacility U) (test_of (get_or rec.steps k d)) =
     subst (λ ts. Contains ts (test_of (get_or rec.steps k d))) carried.tests (Contains-map test_of rec.steps (get_or rec.steps k d) (Contains-get_or rec.steps k d h)) in
-    clock_tests-has sc (test_of (get_or rec.steps k d)) (asked_from-has sc book U (clock_tests sc) (opening_state sc) (test_of (get_or rec.steps k d)) asked)
+    clock_tests-has sc (test_of (get_or rec.steps k d)) (asked_from-has sc book U (clock_tests sc ByFacility) (opening_state sc) (test_of (get_or rec.steps k d)) asked)
 
 -- what is known of the step after the first k of a record
 pub record IsNext (sc : Scenario) (rec : Record) (steps : List Step) (k : ℕ) (x : Step) : Type 0 where

@@ -2,6 +2,7 @@
 
 ghost use Rattle.std.specs.Prelude.{◌≡◌, ◌≤◌, ◌+◌, ◌++◌, IfOk, OnErr, OnOk, count_by, length, vec_capacity, vec_len};
 ghost use Rattle.pack_defs.specs.Scenario.{IsWithinLimits};
+ghost use Rattle.pack_defs.specs.declared.order.Order.TheVariants.{ByFacility};
 ghost use Rattle.pack_defs.specs.ClockRule.{clock_rule};
 ghost use Rattle.auction_core.specs.Backed.{IsBacked, undecided_of};
 ghost use Rattle.auction_core.specs.Clock.{stands_frozen, stands_on_air};
@@ -79,7 +80,7 @@ pub fn summary(alloc: Global, rec: &Record, book: &Book) -> Result<Vec<u8>, NoMe
     requires limits { IsWithinLimits rec.now.scenario }
     ensures { IfOk result
         (λ v. let tests = undecided_of rec.now.steps in
-        v.items ≡ summary_text rec.now.scenario (clock_rule rec.now.scenario book.now tests) tests) }
+        v.items ≡ summary_text rec.now.scenario (clock_rule rec.now.scenario book.now ByFacility tests) tests) }
 {
     let outcomes = final_outcomes(alloc, rec, book)?;
     let standings = outcomes.clock.standings();

@@ -4,6 +4,7 @@ ghost use Rattle.std.specs.Prelude.{◌≡◌, ◌<◌, IfOk, IsFalse, MatchOpti
 ghost use Rattle.std.specs.List.Sorted.{IsStrictlyIncreasing};
 ghost use Rattle.pack_defs.specs.Lists.{is_in};
 ghost use Rattle.pack_defs.specs.Scenario.{IsWithinLimits, facilities};
+ghost use Rattle.pack_defs.specs.declared.order.Order.TheVariants.{ByFacility};
 ghost use Rattle.pack_defs.specs.ClockRule.{clock_rule};
 ghost use Rattle.auction_core.specs.Backed.{IsBacked, is_undecided, undecided_of};
 ghost use Rattle.auction_core.specs.Clock.{AreStandings};
@@ -50,7 +51,7 @@ pub(crate) fn final_outcomes(alloc: Global, rec: &Record, book: &Book) -> Result
     requires limits { IsWithinLimits rec.now.scenario }
     ensures standings { IfOk result
         (λ o. let tests = undecided_of rec.now.steps in
-        AreStandings rec.now.scenario (clock_rule rec.now.scenario book.now tests) o.clock) }
+        AreStandings rec.now.scenario (clock_rule rec.now.scenario book.now ByFacility tests) o.clock) }
     ensures undecided { IfOk result
         (λ o. o.undecided.items ≡ each_frozen_by (undecided_of rec.now.steps) (facilities rec.now.scenario) o.clock) }
 {

@@ -13,6 +13,7 @@ use clause_db::lit::Lit;
 use pack_defs::book::Book;
 use pack_defs::channel_map::ChannelMap;
 use pack_defs::domain::Domain;
+use pack_defs::fall::Fall;
 use pack_defs::items::Items;
 use pack_defs::pair::Pair;
 use pack_defs::scenario::Scenario;
@@ -167,9 +168,10 @@ fn scenario(alloc: Global, budget: u32, stations: Vec<Station>) -> Result<Scenar
         version: 1,
         top: 15,
         opening: 100,
-        decrements: Items::from_vec(vec![in alloc; 40, 40]?),
+        fall: Fall::Listed(Items::from_vec(vec![in alloc; 40, 40]?)),
         stations: Items::from_vec(stations),
         workers: Items::from_vec(vec![in alloc; worker]?),
+        owners: None,
     })
 }
 

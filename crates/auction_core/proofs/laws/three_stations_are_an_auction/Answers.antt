@@ -16,6 +16,6 @@ pub returns : goal.returns
 unfolding three_stations three_bids
 returns c = record {
   stations = three;
-  in_order = record { domains = record { stations = refl; channels = refl }; pairs = refl; on_domains = refl };
+  in_order = record { domains = record { stations = refl; channels = refl }; pairs = refl; of_two = refl; on_domains = refl };
   workers = omega arith;
 }
