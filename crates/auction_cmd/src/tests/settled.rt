@@ -167,6 +167,14 @@ fn other_clocks_and_stations(rt: HostRuntime) -> Result<(), Fail> {
         counts: [3, 2, 1, 100],
     };
     assert!(rt; settles_changed(alloc, &one_round)?);
+    // By rate the prices are 100, 60, 36, 16 and 0.
+    let by_rate = Changed {
+        part: "1,\"top\":15,\"opening\":100,\"decrements\":[40,40],\"stations\":[{\"id\":1,\"volume\":1,\"value\":50}",
+        other: "2,\"top\":15,\"opening\":100,\"rate\":400,\"floor\":200,\"stations\":[{\"id\":1,\"volume\":1,\"value\":30}",
+        rows: "1,exit,3,0\n2,exit,1,0\n3,frozen,3,36\n",
+        counts: [3, 2, 1, 36],
+    };
+    assert!(rt; settles_changed(alloc, &by_rate)?);
     // A station that starts on air goes on air in round 0.
     let starts = Changed {
         part: "\"value\":70",
