@@ -1,6 +1,7 @@
 -- How the program ends: at which status, with which record, and what it leaves outside.
 use Rattle.std.specs.Prelude.{◌≡◌, ◌≢◌, ◌<◌, ℕ, true, if◌then◌else◌, IsFalse, IsTrue, List, length, Option, Some, None, Ok, Err}
 use Rattle.pack_defs.specs.Lists.{is_empty}
+use Rattle.pack_defs.specs.declared.order.Order.TheVariants.{ByFacility}
 use Rattle.pack_defs.specs.ClockRule.{ClockState, ClockTest, clock_rule, on_air_set}
 use Rattle.pack_defs.specs.Packing.{IsPacking, fits}
 use Rattle.pack_defs.specs.Prices.{start_set}
@@ -31,7 +32,7 @@ use Rattle.auction_cmd.specs.Words.{InputNames, RunNames}
 
 -- the clock rule's state at the end, with these tests left open
 abbrev pub outcome : Inputs → List ClockTest → ClockState
-outcome inputs undecided = clock_rule inputs.scenario inputs.book undecided
+outcome inputs undecided = clock_rule inputs.scenario inputs.book ByFacility undecided
 
 -- the text of the result, and that of the summary
 abbrev pub result_of : Inputs → List ClockTest → List ℕ

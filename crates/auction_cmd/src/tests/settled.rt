@@ -69,6 +69,12 @@ fn three_stations_are_settled(rt: HostRuntime) -> Result<(), Fail> {
             "[]",
             "status 0; said: stations 3\non-air 2\nfrozen 1\nundecided 0\ntotal 100\n; out.csv: facility,outcome,round,price\n1,exit,1,0\n2,exit,1,0\n3,frozen,1,100\n",
         ),
+        // By rate the prices are 100, 60, 36, 16 and 0.
+        (
+            "1,\"top\":15,\"opening\":100,\"decrements\":[40,40],\"stations\":[{\"id\":1,\"volume\":1,\"value\":50}",
+            "2,\"top\":15,\"opening\":100,\"rate\":400,\"floor\":200,\"stations\":[{\"id\":1,\"volume\":1,\"value\":30}",
+            "status 0; said: stations 3\non-air 2\nfrozen 1\nundecided 0\ntotal 36\n; out.csv: facility,outcome,round,price\n1,exit,3,0\n2,exit,1,0\n3,frozen,3,36\n",
+        ),
         // A station that starts on air goes on air in round 0.
         (
             "\"value\":70",
