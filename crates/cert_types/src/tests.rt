@@ -6,8 +6,8 @@ use crate::answer::{Answer, CertifyFault, CertifyWhy, Place, Receipt, Refutation
 use crate::certified::Certified;
 use crate::certify::certify;
 use crate::samples::{
-    EMPTY_AGAIN, NOT_ONE, OUT_OF_TURN, THE_END, Text, crowded_stations, fit, four_stations,
-    learner, on_one, proof, receipt, task, walk, walker,
+    EMPTY_AGAIN, NOT_ONE, OUT_OF_TURN, PADDED, PADDED_LINE, THE_END, Text, crowded_stations, fit,
+    four_stations, learner, on_one, proof, receipt, task, walk, walker,
 };
 use crate::start::start_map;
 use pack_defs::pair::Pair;
@@ -111,6 +111,20 @@ fn faults_of_receipts(rt: HostRuntime) -> Result<(), Fail> {
         (2, &[NOT_ONE, THE_END], Some(Place::LineAt(2))),
     ];
     assert_eq!(rt; wrong_receipt(rt.alloc(), CASES)?, None);
+    Ok(())
+}
+
+// A line of which a clause or an earlier line is a subset.
+#[test]
+fn receipts_that_say_nothing_new(rt: HostRuntime) -> Result<(), Fail> {
+    let (first, second) = (Some(Place::LineAt(1)), Some(Place::LineAt(2)));
+    let cases: [(u32, &[Text], Option<Place>); 4] = [
+        (1, &[PADDED], first),
+        (2, &[NOT_ONE, NOT_ONE], second),
+        (2, &[NOT_ONE, PADDED_LINE], second),
+        (2, &[PADDED, THE_END], first),
+    ];
+    assert_eq!(rt; wrong_receipt(rt.alloc(), &cases)?, None);
     Ok(())
 }
 
