@@ -37,7 +37,7 @@ fn checked(
 }
 
 // Where the answer is at fault.
-fn fault(alloc: Global, budget: u32, answer: Answer) -> Result<Option<Place>, NoMemory> {
+pub(crate) fn fault(alloc: Global, budget: u32, answer: Answer) -> Result<Option<Place>, NoMemory> {
     place(checked(alloc, budget, answer)?)
 }
 
@@ -66,19 +66,6 @@ fn wrong_proof(
     Ok(None)
 }
 
-// The same of receipts.
-fn wrong_receipt(
-    alloc: Global,
-    cases: &[(u32, &[Text], Option<Place>)],
-) -> Result<Option<usize>, NoMemory> {
-    for (i, (budget, lines, want)) in cases.iter().enumerate() {
-        if fault(alloc, *budget, receipt(alloc, lines)?)? != *want {
-            return Ok(Some(i));
-        }
-    }
-    Ok(None)
-}
-
 #[test]
 fn faults_of_proofs(rt: HostRuntime) -> Result<(), Fail> {
     const CASES: &[(u32, &[u32], &[Text], Option<Place>)] = &[
@@ -98,19 +85,6 @@ fn faults_of_proofs(rt: HostRuntime) -> Result<(), Fail> {
         (9, ALL, &[NOT_ONE, THE_END, EMPTY_AGAIN], SECOND),
     ];
     assert_eq!(rt; wrong_proof(rt.alloc(), CASES)?, None);
-    Ok(())
-}
-
-#[test]
-fn faults_of_receipts(rt: HostRuntime) -> Result<(), Fail> {
-    const CASES: &[(u32, &[Text], Option<Place>)] = &[
-        (1, &[NOT_ONE], None),
-        (2, &[NOT_ONE], Some(Place::Count)),
-        (1, &[NOT_ONE, NOT_ONE], Some(Place::Count)),
-        (1, &[OUT_OF_TURN], Some(Place::LineAt(1))),
-        (2, &[NOT_ONE, THE_END], Some(Place::LineAt(2))),
-    ];
-    assert_eq!(rt; wrong_receipt(rt.alloc(), CASES)?, None);
     Ok(())
 }
 
@@ -143,17 +117,6 @@ fn first_of_two_faults(rt: HostRuntime) -> Result<(), Fail> {
         (3, ALL, &[NOT_ONE, THE_END, OUT_OF_TURN], SECOND),
     ];
     assert_eq!(rt; wrong_proof(rt.alloc(), CASES)?, None);
-    Ok(())
-}
-
-#[test]
-fn first_of_two_faults_of_receipts(rt: HostRuntime) -> Result<(), Fail> {
-    const CASES: &[(u32, &[Text], Option<Place>)] = &[
-        (3, &[OUT_OF_TURN, THE_END], Some(Place::Count)),
-        (3, &[OUT_OF_TURN, EMPTY_AGAIN, NOT_ONE], FIRST),
-        (3, &[NOT_ONE, THE_END, OUT_OF_TURN], SECOND),
-    ];
-    assert_eq!(rt; wrong_receipt(rt.alloc(), CASES)?, None);
     Ok(())
 }
 
