@@ -1,5 +1,5 @@
 -- How passes are made and joined, and what is left once one pass has taken in every other.
-use Rattle.std.proofs.Common.{◌≡◌, ◌≢◌, ◌∙◌, ◌⊎◌, ℕ, ◌+◌, ◌^◌, ◌<◌, ◌==◌, List, [], ◌∷◌, ◌++◌, length, map, set, true, false, Option, Some, None, refl, sym, ap, subst, arith, inl, inr, ⊎_elim, suc, length-set, length-append, eq-eqb, ne_eqb}
+use Rattle.std.proofs.Common.{◌≡◌, ◌≢◌, ◌∙◌, ◌⊎◌, ℕ, ◌+◌, ◌^◌, ◌<◌, ◌==◌, List, [], ◌∷◌, ◌++◌, length, map, set, false, Option, Some, None, refl, sym, ap, subst, arith, inl, inr, ⊎_elim, suc, length-set, length-append, eq-eqb, ne_eqb}
 use Rattle.std.specs.Prelude.{if◌then◌else◌, unwrap_or, option_map}
 use mathlib.Core.Option.{some, some-injective}
 use lib.ListN.{get_elem?}

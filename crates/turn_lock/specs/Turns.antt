@@ -5,7 +5,7 @@
 -- served may have the turn. Where nobody has it the value lies in the slot, and stands for the counted history. Who has it has seen all of that
 -- history. Each pass has seen a beginning of it; the entries after the first history that have a pass's number are its own, in order; and no two
 -- passes have one number.
-use Rattle.std.specs.Prelude.{◌≡◌, ◌≢◌, ◌⊎◌, ℕ, zero, suc, ◌+◌, ◌%◌, ◌^◌, ◌<◌, ◌≤◌, ◌==◌, List, [], ◌∷◌, ◌++◌, length, Bool, true, false, Option, Some, None, IfSome, option_map, unwrap_or, if◌then◌else◌, ⊤, IsSome}
+use Rattle.std.specs.Prelude.{◌≡◌, ◌≢◌, ◌⊎◌, ℕ, zero, suc, ◌+◌, ◌%◌, ◌^◌, ◌<◌, ◌≤◌, ◌==◌, List, [], ◌∷◌, ◌++◌, length, Bool, true, false, Option, Some, None, IfSome, option_map, unwrap_or, if◌then◌else◌, ⊤}
 use mathlib.Core.Option.{some}
 use lib.ListN.{get_elem?}
 use Rattle.atomic_table.specs.Table.{State, Me, Step}

@@ -1,7 +1,6 @@
 //! Threads that take turns at a list of numbers, passes that are used one after another, and locks that are closed.
 
 ghost use Rattle.std.specs.Prelude.{◌≡◌, ◌<◌, length, map};
-ghost use Rattle.std.specs.Thread.{IsSync};
 ghost use Rattle.turn_lock.specs.NumberLists.{numbers_of, title_of};
 ghost use Rattle.turn_lock.specs.Passes.{AreAllOf, IsIdle, IsPassOf, standing};
 ghost use Rattle.turn_lock.specs.Turns.{AllOf};
@@ -78,7 +77,7 @@ fn all_count<R: Threads + Wait + Sync>(
     ensures idle { AllOf IsIdle passes.new }
 {
     let part = |_: usize, pass: &mut Pass<NumberList>|
-        requires { IsSync R.row × IsPassOf title_of numbers_of lock.now pass.now × IsIdle pass.now }
+        requires { IsPassOf title_of numbers_of lock.now pass.now × IsIdle pass.now }
         ensures { IsIdle pass.exit.now × (standing pass.exit.now ≡ standing pass.entry.now) }
     { add_all(rt, lock, pass, 0, each) };
     thread::for_each_mut(rt, passes, 4, &part);
@@ -177,6 +176,7 @@ fn add_there<R: Wait>(
 ) -> Pass<NumberList>
     requires own { IsPassOf title_of numbers_of lock.now pass }
     requires idle { IsIdle pass }
+    ensures own { IsPassOf title_of numbers_of lock.now result }
     ensures idle { IsIdle result }
     ensures standing { standing result ≡ standing pass }
 {
@@ -191,13 +191,14 @@ fn passes_go_to_other_threads_between_two_turns(rt: HostRuntime) -> Result<(), F
     let Ok((lock, mut passes)) = TurnLock::make(alloc, list, 2) else {
         return Err(NoMemory)?;
     };
-    add_in_turn(&rt, &lock, &mut passes, &[(0, 0), (1, 0)]);
     let Some(second) = passes.pop() else {
         unreachable!()
     };
     let Some(first) = passes.pop() else {
         unreachable!()
     };
+    let first = add_there(&rt, &lock, first, 0);
+    let second = add_there(&rt, &lock, second, 0);
     let (one, two) = thread::join(
         &rt,
         || add_there(&rt, &lock, first, 1),
