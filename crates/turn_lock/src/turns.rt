@@ -74,11 +74,12 @@ impl<T: Chronicle> TurnLock<T> {
     ///
     /// The value in hand stands for that longer history already. So it is asked once for each entry, after the entry was added to the
     /// value and before the next: an entry that was counted can't be taken back, and one that wasn't keeps the turn from being left.
-    /// The value must have fewer than 2^64 entries in all, as the word counts them. That its base is the lock's is asked by `leave`.
+    /// The value must be of the lock's base, and have fewer than 2^64 entries in all, as the word counts them.
     pub fn commit(&self, pass: &mut Pass<T>, turn: &mut Turn<T>)
         requires own { IsPassOf T.base T.entries self.now pass.old }
         requires turn { HasTurn pass.old }
         requires entry { (e : ℕ × T.Entry) × (T.entries turn.old.value ≡ seen_of pass.old ++ e ∷ []) × (e.0 ≡ number_of pass.old) }
+        requires base { T.base turn.old.value ≡ T.base (made_over self.now) }
         requires few { length (seen_of pass.old) + 1 < 2 ^ 64 }
         ensures own { IsPassOf T.base T.entries self.now pass.new }
         ensures value { turn.new ≡ turn.old }
