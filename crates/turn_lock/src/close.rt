@@ -1,0 +1,69 @@
+//! How a lock ends: all its passes are joined into one, which then knows that nobody has the turn.
+
+ghost use Rattle.std.specs.Prelude.{◌≡◌, ◌<◌, ◌∷◌, [], IsSome, length, map, unwrap_or, ℕ};
+ghost use Rattle.turn_lock.specs.Passes.{AreAllOf, IsIdle, IsPassOf, known_of, made_over, standing};
+ghost use Rattle.turn_lock.specs.Turns.{AllOf, IsWhole, Knows, joined};
+
+use crate::chronicle::Chronicle;
+use crate::lock::{Pass, TurnLock};
+use crate::rule::Both;
+
+impl<T: Chronicle> TurnLock<T> {
+    /// Ends the lock, with all its passes, and gives the value. Its history begins with what each pass has seen, and consists of the
+    /// first history and each pass's own entries, each once. It doesn't wait.
+    ///
+    /// Every pass must be there, idle, and the first one in front, as `make` gave them; the others may stand in any order.
+    pub fn close(self, passes: Vec<Pass<T>>) -> T
+        requires all { AreAllOf T.base T.entries self (map standing passes.items) }
+        requires idle { AllOf IsIdle passes.items }
+        ensures base { T.base result ≡ T.base (made_over self) }
+        ensures whole { IsWhole (length passes.items) (T.entries (made_over self)) (T.entries result) (map known_of passes.items) }
+    {
+        let mut rest = passes.into_iter();
+        let Some(mut one) = rest.next() else {
+            unreachable!()
+        };
+        for other in rest {
+            self.absorb(&mut one, other);
+        }
+        self.close_by(one)
+    }
+
+    // Joins the other pass into this one, which then knows both.
+    fn absorb(&self, pass: &mut Pass<T>, other: Pass<T>)
+        requires own { IsPassOf T.base T.entries self.now pass.old × IsPassOf T.base T.entries self.now other }
+        requires idle { IsIdle pass.old × IsIdle other }
+        ensures own { IsPassOf T.base T.entries self.now pass.new }
+        ensures both { pass.new.seat.me ≡ (joined pass.old.seat.me.0 other.seat.me.0, []) }
+    {
+        let Pass {
+            seat,
+            ticket: _,
+            number: _,
+        } = other;
+        self.table.shared.join_seat::<Both>(&mut pass.seat, seat);
+    }
+
+    // The value, once all passes were joined into this one.
+    fn close_by(self, pass: Pass<T>) -> T
+        requires own { IsPassOf T.base T.entries self pass }
+        requires idle { IsIdle pass }
+        requires makes { IsSome pass.seat.me.0.made }
+        requires many { length (pass.seat.me.0.own ∷ pass.seat.me.0.joined) ≡ unwrap_or pass.seat.me.0.made 0 }
+        requires all { (p : ℕ) → p < unwrap_or pass.seat.me.0.made 0 → Knows p (map (λ k. k.number) (pass.seat.me.0.own ∷ pass.seat.me.0.joined)) }
+        ensures base { T.base result ≡ T.base (made_over self) }
+        ensures whole { IsWhole (unwrap_or pass.seat.me.0.made 0) (T.entries (made_over self)) (T.entries result) (pass.seat.me.0.own ∷ pass.seat.me.0.joined) }
+    {
+        let TurnLock { table } = self;
+        let Pass {
+            seat,
+            ticket: _,
+            number: _,
+        } = pass;
+        let mut closed = table.close_with(seat);
+        let slot = closed.take(0);
+        closed.free();
+        let Some(value) = slot else { unreachable!() };
+        value
+    }
+}

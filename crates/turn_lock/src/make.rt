@@ -1,0 +1,106 @@
+//! How a lock is made, with all the passes that it will ever have.
+
+ghost use Rattle.std.specs.Prelude.{◌≡◌, ◌<◌, ◌∷◌, [], IfErr, IfOk, Some, map};
+ghost use Rattle.turn_lock.specs.Passes.{AreAllOf, IsIdle, IsPassOf, known_of, made_over, standing};
+ghost use Rattle.turn_lock.specs.Turns.{AllOf, copy_of, each_new, founder, one_more};
+
+use crate::chronicle::Chronicle;
+use crate::lock::{Pass, TurnLock};
+use crate::rule::Part;
+use atomic_table::{Refused, Table};
+use std::alloc::{AllocError as NoMemory, Global};
+use std::snapshot::Snapshot;
+
+// The value that comes back from a table that was not made.
+fn returned<T>(mut slots: Vec<Option<T>>, value: &Snapshot<T>) -> T
+    requires { slots.items ≡ Some value.now.value ∷ [] }
+    ensures { result ≡ value.now.value }
+{
+    let _ = value;
+    let Some(slot) = slots.pop() else {
+        unreachable!()
+    };
+    slots.destroy_empty();
+    let Some(back) = slot else { unreachable!() };
+    back
+}
+
+impl<T: Chronicle> TurnLock<T> {
+    /// A lock over the value, and `n` passes, of which pass `i` of the list has the number `i`. Each has seen the value's history, and
+    /// has no entry of its own. The only error is want of memory, and the value comes back.
+    ///
+    /// From here to `close` no `?` may stand: the lock can't be dropped, and `close` asks for every pass. So take what memory is needed
+    /// before, or keep an error in a variable until the lock is closed.
+    pub fn make(
+        alloc: Global,
+        value: T,
+        n: u32,
+    ) -> Result<(TurnLock<T>, Vec<Pass<T>>), (NoMemory, T)>
+        requires some { 0 < n }
+        ensures key { IfOk result (λ r. made_over r.0 ≡ value) }
+        ensures all { IfOk result (λ r. AreAllOf T.base T.entries r.0 (map standing r.1.items)) }
+        ensures idle { IfOk result (λ r. AllOf IsIdle r.1.items) }
+        ensures new { IfOk result (λ r. map known_of r.1.items ≡ each_new (T.entries value) n) }
+        ensures back { IfErr result (λ e. e.1 ≡ value) }
+    {
+        let mut passes = match Vec::with_capacity(alloc, n as usize) {
+            Ok(passes) => passes,
+            Err(_) => return Err((NoMemory, value)),
+        };
+        let (lock, mut first) = match TurnLock::open(alloc, value) {
+            Ok(pair) => pair,
+            Err(refused) => return Err(refused),
+        };
+        for number in 1..n {
+            let pass = lock.another(&mut first, number);
+            passes.push_reserved(pass);
+        }
+        passes.push_reserved(first);
+        passes.rotate_right(1);
+        Ok((lock, passes))
+    }
+
+    // A lock over the value, and its first pass.
+    fn open(alloc: Global, value: T) -> Result<(TurnLock<T>, Pass<T>), (NoMemory, T)>
+        ensures own { IfOk result (λ r. r.1.seat.table_id ≡ r.0.table.shared.table_id) }
+        ensures key { IfOk result (λ r. made_over r.0 ≡ value) }
+        ensures pass { IfOk result (λ r. r.1.seat.me ≡ (founder (T.base value) (T.entries value), [])) }
+        ensures back { IfErr result (λ e. e.1 ≡ value) }
+    {
+        let count = value.count();
+        let key = Snapshot::of(&value);
+        let mut slots = match Vec::with_capacity(alloc, 1) {
+            Ok(slots) => slots,
+            Err(_) => return Err((NoMemory, value)),
+        };
+        slots.push_reserved(Some(value));
+        match Table::new(alloc, &[0, 0, count], slots, &key) {
+            Ok((table, seat)) => {
+                let first = Pass {
+                    seat,
+                    ticket: 0,
+                    number: 0,
+                };
+                Ok((TurnLock { table }, first))
+            }
+            Err(Refused { slots }) => Err((NoMemory, returned(slots, &key))),
+        }
+    }
+
+    // A new pass, of the next number. The first pass counts those that were made.
+    fn another(&self, pass: &mut Pass<T>, number: u32) -> Pass<T>
+        requires own { IsPassOf T.base T.entries self.now pass.old }
+        requires idle { IsIdle pass.old }
+        requires makes { pass.old.seat.me.0.made ≡ Some number }
+        ensures own { (pass.new.seat.table_id ≡ self.now.table.shared.table_id) × (result.seat.table_id ≡ self.now.table.shared.table_id) }
+        ensures pass { pass.new.seat.me ≡ (one_more pass.old.seat.me.0, []) }
+        ensures new { result.seat.me ≡ (copy_of pass.old.seat.me.0, []) }
+    {
+        let seat = self.table.shared.split_seat::<Part>(&mut pass.seat);
+        Pass {
+            seat,
+            ticket: 0,
+            number,
+        }
+    }
+}

@@ -1,0 +1,57 @@
+//! The plainest use of the lock: a titled list of numbers, to which passes add. `append` is one whole turn, as a caller writes it.
+
+ghost use Rattle.std.specs.Prelude.{◌≡◌, ◌++◌, ◌∷◌, [], MatchBool};
+ghost use Rattle.turn_lock.specs.NumberLists.{numbers_of, title_of};
+ghost use Rattle.turn_lock.specs.Passes.{IsIdle, IsPassOf, mine_of, number_of, standing};
+
+use crate::chronicle::Chronicle;
+use crate::lock::{Pass, TurnLock};
+use std::sync::Wait;
+
+/// Numbers under a title, each with the pass that added it.
+#[derive(Drop)]
+pub struct NumberList {
+    pub title: u32,
+    pub numbers: Vec<(u64, u32)>,
+}
+
+impl Chronicle for NumberList {
+    type Base = u32;
+
+    type Entry = u32;
+
+    ghost base = { title_of };
+
+    ghost entries = { numbers_of };
+
+    fn count(&self) -> u64 {
+        self.numbers.len() as u64
+    }
+}
+
+/// Adds a number in a turn of its own, and says whether there was memory for it; where there was none the turn changes nothing. It waits
+/// for the turn.
+pub fn append<R: Wait>(
+    rt: &R,
+    lock: &TurnLock<NumberList>,
+    pass: &mut Pass<NumberList>,
+    number: u32,
+) -> bool
+    requires own { IsPassOf title_of numbers_of lock.now pass.old }
+    requires idle { IsIdle pass.old }
+    ensures own { IsPassOf title_of numbers_of lock.now pass.new }
+    ensures idle { IsIdle pass.new }
+    ensures standing { standing pass.new ≡ standing pass.old }
+    ensures mine { MatchBool result (mine_of pass.new ≡ mine_of pass.old ++ (number_of pass.old, number) ∷ []) (mine_of pass.new ≡ mine_of pass.old) }
+{
+    let mut turn = lock.enter(rt, pass);
+    if turn.value.numbers.reserve(1).is_err() {
+        lock.leave(pass, turn);
+        return false;
+    }
+    let by = pass.number() as u64;
+    turn.value.numbers.push_reserved((by, number));
+    lock.commit(pass, &mut turn);
+    lock.leave(pass, turn);
+    true
+}

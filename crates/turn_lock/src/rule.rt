@@ -1,0 +1,78 @@
+//! The rule of the lock, and what each step on its words tells the pass that takes it. The meanings stand in `specs/Turns.antt`. No
+//! value of these types is made; `make`, `turns` and `close` name them at their steps.
+
+ghost use Rattle.std.specs.Prelude.{ℕ, Option, None};
+ghost use Rattle.turn_lock.specs.Turns.{Kept, copy_of, counted, drawn, founder, joined, left, looked, nobody, one_more};
+
+use crate::chronicle::{Chronicle, View};
+use atomic_table::{Join, Play, Split, TableRule};
+use std::marker::{Brand, PhantomData};
+use std::snapshot::Snapshot;
+
+/// The rule: what holds of the words, the slot and all views, whenever nobody is in the middle of a step.
+pub struct InTurn<T> {
+    marker: PhantomData<T>,
+}
+
+impl<T: Chronicle> TableRule<Option<T>, View<T::Base, T::Entry>, Snapshot<T>> for InTurn<T> {
+    ghost holds = { λ key. Kept (T.base key.value) (T.entries key.value) T.base T.entries };
+
+    ghost first = { λ key. founder (T.base key.value) (T.entries key.value) };
+}
+
+/// A ticket is drawn.
+pub struct Draw;
+
+impl<T: Chronicle> Play<Option<T>, View<T::Base, T::Entry>> for Draw {
+    ghost then = { drawn T.base T.entries };
+}
+
+/// The ticket that is served is looked at; where it is the pass's own, the pass has the turn.
+pub struct Look;
+
+impl<T: Chronicle> Play<Option<T>, View<T::Base, T::Entry>> for Look {
+    ghost then = { looked T.base T.entries };
+}
+
+/// The entry that a step adds.
+pub trait Said<E> {
+    ghost said: { Option (ℕ × E) };
+}
+
+impl<E> Said<E> for Brand {
+    ghost said = { None };
+}
+
+/// The history is counted one longer, by the entry that `W` says.
+pub struct Count<W> {
+    marker: PhantomData<W>,
+}
+
+impl<T: Chronicle, W: Said<T::Entry>> Play<Option<T>, View<T::Base, T::Entry>> for Count<W> {
+    ghost then = { counted T.base T.entries W.said };
+}
+
+/// The turn is given to the next ticket.
+pub struct Leave;
+
+impl<T: Chronicle> Play<Option<T>, View<T::Base, T::Entry>> for Leave {
+    ghost then = { left T.base T.entries };
+}
+
+/// A pass is made.
+pub struct Part;
+
+impl<B, E> Split<View<B, E>> for Part {
+    ghost left = { one_more };
+
+    ghost right = { copy_of };
+}
+
+/// Two passes become one.
+pub struct Both;
+
+impl<B, E> Join<View<B, E>> for Both {
+    ghost both = { joined };
+
+    ghost spent = { nobody };
+}
