@@ -9,7 +9,7 @@ use Rattle.std.proofs.Math.Seq.{drop-append_seam, take-append_seam}
 use Rattle.atomic_table.proofs.Lists.{at_set}
 use Rattle.turn_lock.specs.declared.chronicle.View.{View}
 use Rattle.turn_lock.specs.declared.chronicle.Known.{Known}
-use Rattle.turn_lock.specs.Turns.{AllOf, IsLegalFor, by, last, one_if, waiting_in}
+use Rattle.turn_lock.specs.Turns.{AllOf, IsLegalFor, StartsWith, by, last, one_if, waiting_in}
 
 pub some_is : {A : Type 0} {a b : A} → Some a ≡ Some b → a ≡ b
 some_is e = cc
@@ -135,3 +135,7 @@ legal_more start k j e its same seen mine h = record {
   seen_is = seen ∙ (ap (λ l. l ++ e ∷ []) h.seen_is ∙ append_assoc start h.tail (e ∷ []));
   mine_is = ap (λ n. by n (h.tail ++ e ∷ [])) same ∙ (by_more k.number h.tail e its ∙ (ap (λ l. l ++ e ∷ []) h.mine_is ∙ sym mine));
 }
+
+-- what begins so still does with one entry more
+pub starts_more : {X : Type 0} (old seen new : List X) (e : X) → StartsWith seen old → new ≡ seen ++ e ∷ [] → StartsWith new old
+starts_more old seen new e begins is = (begins.0 ++ e ∷ [], is ∙ (ap (λ l. l ++ e ∷ []) begins.1 ∙ append_assoc old begins.0 (e ∷ [])))

@@ -3,8 +3,8 @@
 -- Word 0 is the next ticket and word 1 the ticket that is served, both modulo 2 ^ 64. Word 2 is the length of the history that the value stands for.
 -- Each number from the ticket served up to, and without, the next ticket is the ticket of exactly one view, and only the view with the ticket
 -- served may have the turn. Where nobody has it the value lies in the slot, and stands for the counted history. Who has it has seen all of that
--- history. Each pass has seen a beginning of it; the entries after the first history that have a pass's number are its own, in order; and no two
--- passes have one number.
+-- history. Each pass has seen a beginning of it; the entries after the first history that have a pass's number are its own, in order; and no
+-- number is known at two views.
 use Rattle.std.specs.Prelude.{◌≡◌, ◌≢◌, ◌⊎◌, ℕ, zero, suc, ◌+◌, ◌%◌, ◌^◌, ◌<◌, ◌≤◌, ◌==◌, List, [], ◌∷◌, ◌++◌, length, Bool, true, false, Option, Some, None, IfSome, option_map, unwrap_or, if◌then◌else◌, ⊤}
 use mathlib.Core.Option.{some}
 use lib.ListN.{get_elem?}

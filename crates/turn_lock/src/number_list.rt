@@ -1,8 +1,9 @@
 //! The plainest use of the lock: a titled list of numbers, to which passes add. `append` is one whole turn, as a caller writes it.
 
-ghost use Rattle.std.specs.Prelude.{◌≡◌, ◌++◌, ◌∷◌, [], MatchBool};
+ghost use Rattle.std.specs.Prelude.{◌≡◌, ◌++◌, ◌∷◌, [], MatchBool, Some, ⊤};
 ghost use Rattle.turn_lock.specs.NumberLists.{numbers_of, title_of};
-ghost use Rattle.turn_lock.specs.Passes.{IsIdle, IsPassOf, mine_of, number_of, standing};
+ghost use Rattle.turn_lock.specs.Passes.{IsIdle, IsLegal, IsPassOf, mine_of, number_of, seen_of, standing};
+ghost use Rattle.turn_lock.specs.Turns.{StartsWith, last};
 
 use crate::chronicle::Chronicle;
 use crate::lock::{Pass, TurnLock};
@@ -29,8 +30,8 @@ impl Chronicle for NumberList {
     }
 }
 
-/// Adds a number in a turn of its own, and says whether there was memory for it; where there was none the turn changes nothing. It waits
-/// for the turn.
+/// Adds a number in a turn of its own, and says whether there was memory for it; where there was none the pass adds nothing. What the
+/// pass has seen then ends with its number, or else is what was there at its turn. It waits for the turn.
 pub fn append<R: Wait>(
     rt: &R,
     lock: &TurnLock<NumberList>,
@@ -42,6 +43,9 @@ pub fn append<R: Wait>(
     ensures own { IsPassOf title_of numbers_of lock.now pass.new }
     ensures idle { IsIdle pass.new }
     ensures standing { standing pass.new ≡ standing pass.old }
+    ensures legal { IsLegal pass.new }
+    ensures seen { StartsWith (seen_of pass.new) (seen_of pass.old) }
+    ensures last { MatchBool result (last (seen_of pass.new) ≡ Some (number_of pass.old, number)) ⊤ }
     ensures mine { MatchBool result (mine_of pass.new ≡ mine_of pass.old ++ (number_of pass.old, number) ∷ []) (mine_of pass.new ≡ mine_of pass.old) }
 {
     let mut turn = lock.enter(rt, pass);

@@ -1,9 +1,9 @@
 //! What a pass does between `make` and `close`, as often as it likes: it waits for its turn (`enter`), counts what it does to the value
 //! in hand (`commit`, any number of times), and gives the value back (`leave`).
 
-ghost use Rattle.std.specs.Prelude.{◌≡◌, ◌+◌, ◌<◌, ◌^◌, ◌++◌, ◌∷◌, [], List, Some, length, ℕ};
+ghost use Rattle.std.specs.Prelude.{◌≡◌, ◌+◌, ◌<◌, ◌^◌, ◌++◌, ◌∷◌, [], Some, length, ℕ};
 ghost use Rattle.turn_lock.specs.Passes.{HasTurn, IsIdle, IsLegal, IsPassOf, known_of, made_over, mine_of, number_of, seen_of, standing};
-ghost use Rattle.turn_lock.specs.Turns.{StartsWith, last};
+ghost use Rattle.turn_lock.specs.Turns.{StartsWith};
 
 use crate::chronicle::Chronicle;
 use crate::lock::{Pass, Turn, TurnLock};
@@ -23,7 +23,7 @@ impl<T: Chronicle> Pass<T> {
 
 impl<T: Chronicle> TurnLock<T> {
     /// Draws a ticket and waits until it is served; then the value is in hand. It stands for the whole history that was counted, which
-    /// begins with all that the pass had seen; since the pass was here last only others have added to it.
+    /// begins with all that the pass had seen; the pass's own entries are what they were.
     ///
     /// The pass must be idle: one that has the turn would wait for itself. No contract says that the turn comes: it doesn't where another
     /// pass never leaves, nor where two threads each wait for the other's turn at another lock.
@@ -73,7 +73,7 @@ impl<T: Chronicle> TurnLock<T> {
     /// The event: the history is one entry longer, by this pass's. Nothing else adds to it.
     ///
     /// The value in hand stands for that longer history already. So it is asked once for each entry, after the entry was added to the
-    /// value and before the next: an entry that was counted can't be taken back, and one that wasn't keeps the turn from being left.
+    /// value and before the next: the turn is left with neither more nor fewer entries than were counted.
     /// The value must be of the lock's base, and have fewer than 2^64 entries in all, as the word counts them.
     pub fn commit(&self, pass: &mut Pass<T>, turn: &mut Turn<T>)
         requires own { IsPassOf T.base T.entries self.now pass.old }
@@ -95,8 +95,8 @@ impl<T: Chronicle> TurnLock<T> {
     /// Puts the value back, and gives the turn to the next ticket. The pass is idle again, and may go to another thread.
     ///
     /// The value must be of the lock's base and stand for just what was counted: neither one entry longer nor an older one, since
-    /// the next pass is told that it does. Every `enter` is followed by this: a turn can't be dropped, so that no `?` may stand
-    /// between the two.
+    /// the next pass is told that it does. Every `enter` is followed by this, so that no `?` may stand between the two: a turn can't be
+    /// dropped, and where it is taken apart its pass has the turn for good, which `close` doesn't take.
     pub fn leave(&self, pass: &mut Pass<T>, turn: Turn<T>)
         requires own { IsPassOf T.base T.entries self.now pass.old }
         requires turn { HasTurn pass.old }
