@@ -1,19 +1,15 @@
 -- Every list of postings keeps the clock rule.
-use Rattle.std.proofs.Common.{◌≡◌, ℕ, zero, suc, ◌+◌, ◌<◌, Bool, true, false, not, ◌==◌, nat_le, if◌then◌else◌, List, [], ◌∷◌, ◌++◌, map, length, find, Option, Some, None, option_map, option_and_then, is_none, refl, sym, ap, ap₂, ◌∙◌, subst, ⊎_elim, arith, MatchBool, MatchOption, append_assoc}
+use Rattle.std.proofs.Common.{◌≡◌, ℕ, zero, suc, ◌+◌, ◌<◌, Bool, true, false, not, ◌==◌, nat_le, if◌then◌else◌, List, [], ◌∷◌, ◌++◌, map, length, Option, Some, None, option_map, option_and_then, is_none, refl, sym, ap, ap₂, ◌∙◌, subst, ⊎_elim, arith, MatchBool, MatchOption, append_assoc}
 use Rattle.std.specs.Prelude.{slice_get}
 use Rattle.std.specs.Option.{option_map_or}
 use Rattle.std.proofs.lemmas.Bool.{both_ways, leb-false, cases_Bool}
-use Rattle.assign_check.proofs.Faultless.{clean-stations}
-use Rattle.pack_defs.specs.declared.order.Order.TheVariants.{ByFacility}
-use Rattle.pack_defs.specs.Book.{BookView, domain_of}
+use Rattle.pack_defs.specs.Book.{BookView}
 use Rattle.pack_defs.specs.ChannelMap.{overlaid}
-use Rattle.pack_defs.specs.Lists.{is_in, is_empty, is_ascending}
+use Rattle.pack_defs.specs.Lists.{is_empty, is_ascending}
 use Rattle.pack_defs.specs.Packing.{IsClean}
+use Rattle.pack_defs.specs.declared.order.Order.{Order}
 use Rattle.pack_defs.specs.declared.scenario.Scenario.{Scenario}
-use Rattle.pack_defs.specs.Scenario.{facilities}
-use Rattle.pack_defs.specs.Prices.{start_set, declines}
-use Rattle.pack_defs.specs.ClockRule.{ClockTest, OnAirSince, clock_tests, opening_state, is_active, is_on_air, on_air_set}
-use Rattle.pack_defs.proofs.Words.{list_any-map, ascending-from, same-ascending}
+use Rattle.pack_defs.specs.ClockRule.{ClockTest, clock_tests, opening_state, is_active, on_air_set}
 use Rattle.cert_types.specs.declared.task.Task.{Task}
 use Rattle.cert_types.specs.declared.answer.Answer.{Answer}
 use Rattle.cert_types.specs.declared.answer.Answer.TheVariants.{Fit, Refuted as Refutes', Spent}
@@ -21,18 +17,18 @@ use Rattle.pack_defs.specs.declared.worker.Worker.{Worker}
 use Rattle.cert_types.specs.Valid.{answer_fault, IsValid}
 use Rattle.cert_types.proofs.Meaning.{fit-means}
 use Rattle.auction_core.specs.declared.record.Shown.{Shown}
-use Rattle.auction_core.specs.declared.record.Shown.TheVariants.{Empty, Fits, NoChannel, Refuted, Undecided}
+use Rattle.auction_core.specs.declared.record.Shown.TheVariants.{Fits, Refuted, Undecided}
 use Rattle.auction_core.specs.declared.posting.Reply.TheVariants.{Ended, WrongQuery, Stranger}
-use Rattle.auction_core.specs.State.{CoreState, NotedSpent, shows_room, delta_of, settled, settled_unasked, go_on, started, before_start, start_unasked, opening, has_ended, test_task, start_task, first_task, task_of, past_first, answered}
+use Rattle.auction_core.specs.State.{CoreState, NotedSpent, test_of, shows_room, start_delta, settled, settled_unasked, go_on, started, before_start, start_unasked, opening, has_ended, test_task, start_task, first_task, task_of, past_first, answered}
 use Rattle.auction_core.specs.Take.{PostingView, fault_of, turned_away, take, after_postings}
-use Rattle.auction_core.specs.Backed.{test_of, IsValidOf, IsSettledBy, IsStartShown, IsStepShown, after_steps, AreShown, after_start}
+use Rattle.auction_core.specs.Backed.{IsValidOf, IsSettledBy, IsStartShown, IsStepShown, after_steps, AreShown, after_start}
 use Rattle.auction_core.specs.Rule.{Answers, SettlesQuery, AreValid, AreNoted, IsQuery, IsStartKept, IsAuction}
+use Rattle.auction_core.specs.Walked.{IsWalked}
 use Rattle.auction_core.proofs.Kept.{IsAtStart, IsUnderWay, Stands, IsKept, in-case, match-true, match-false}
 use Rattle.auction_core.proofs.Cases.{take-cases, with_noted, all_spent, noted_as}
-use Rattle.auction_core.proofs.Answers.{filter-in, in-filter, filter-ascending}
-use Rattle.auction_core.proofs.Overlay.{overlaid-ascending}
-use Rattle.auction_core.proofs.Steps.{step_of, IsWalked}
-use Rattle.auction_core.proofs.Room.{IsOf, no-element}
+use Rattle.auction_core.proofs.Sets.{step_of, fits-stand-first, fits-stand-same}
+use Rattle.auction_core.proofs.Starts.{start-map}
+use Rattle.auction_core.proofs.Done.{under-way-fits}
 use Rattle.auction_core.proofs.Noted.{noted-more, noted-last}
 use Rattle.auction_core.proofs.Walk.{shown-number, IsStepShown-same, walk-step, go-on-keeps}
 
@@ -47,20 +43,20 @@ go-on-start sc book (t ∷ ts) state =
       | None ↦ (refl, refl)
       | Some shown ↦ go-on-start sc book ts (settled sc state t shown)
     ] in
-    let outer : (b : Bool) → ((option_map_or (go_on sc book ts) (if b then option_map (settled sc state t) (settled_unasked book state t) else Some state) at).start ≡ state.start) × ((option_map_or (go_on sc book ts) (if b then option_map (settled sc state t) (settled_unasked book state t) else Some state) at).noted ≡ state.noted) = λ b. elim b as (λ b. ((option_map_or (go_on sc book ts) (if b then option_map (settled sc state t) (settled_unasked book state t) else Some state) at).start ≡ state.start) × ((option_map_or (go_on sc book ts) (if b then option_map (settled sc state t) (settled_unasked book state t) else Some state) at).noted ≡ state.noted)) [
-      | true ↦ inner (settled_unasked book state t)
+    let outer : (b : Bool) → ((option_map_or (go_on sc book ts) (if b then option_map (settled sc state t) (settled_unasked sc book state t) else Some state) at).start ≡ state.start) × ((option_map_or (go_on sc book ts) (if b then option_map (settled sc state t) (settled_unasked sc book state t) else Some state) at).noted ≡ state.noted) = λ b. elim b as (λ b. ((option_map_or (go_on sc book ts) (if b then option_map (settled sc state t) (settled_unasked sc book state t) else Some state) at).start ≡ state.start) × ((option_map_or (go_on sc book ts) (if b then option_map (settled sc state t) (settled_unasked sc book state t) else Some state) at).noted ≡ state.noted)) [
+      | true ↦ inner (settled_unasked sc book state t)
       | false ↦ go-on-start sc book ts state
     ] in
     outer (is_active state.clock t.station)
 
-none-noted : (sc : Scenario) (book : BookView) (state : CoreState) → IsAuction sc book → state.noted ≡ [] → AreNoted sc book state
+pub none-noted : (sc : Scenario) (book : BookView) (state : CoreState) → IsAuction sc book → state.noted ≡ [] → AreNoted sc book state
 none-noted sc book state a e = record {
   distinct = subst (λ ns. is_ascending (map (λ n. n.worker) ns) ≡ true) (sym e) refl;
   fewer = subst (λ ns. length ns < length sc.workers) (sym e) a.workers;
   valid = subst (λ ns. AreValid sc book state ns) (sym e) tt;
 }
 
-from-parts : (sc : Scenario) (book : BookView) (state : CoreState) (o : Option Shown) → state.start ≡ o → IsStartKept sc book o → Stands sc book state o → AreNoted sc book state → IsKept sc book state
+pub from-parts : (sc : Scenario) (book : BookView) (state : CoreState) (o : Option Shown) → state.start ≡ o → IsStartKept sc book o → Stands sc book state o → AreNoted sc book state → IsKept sc book state
 from-parts sc book state o e k s n = record {
   start = subst (IsStartKept sc book) (sym e) k;
   stands = subst (Stands sc book state) (sym e) s;
@@ -69,86 +65,41 @@ from-parts sc book state o e k s n = record {
 
 -- ---- the start
 
-pub is-start : (sc : Scenario) → is_ascending (facilities sc) ≡ true → start_set sc ≡ on_air_set sc (opening_state sc)
-is-start sc a =
-    let p : ℕ → Bool = λ s. declines sc s 0 in
-    let on : (f : ℕ) → is_on_air (opening_state sc) f ≡ is_in (start_set sc) f = λ f. list_any-map (λ (x : OnAirSince). x.station == f) (λ s. record { station = s; round = 0 }) (start_set sc) in
-    same-ascending (start_set sc) (on_air_set sc (opening_state sc)) (filter-ascending p (facilities sc) a) (filter-ascending (λ f. is_on_air (opening_state sc) f) (facilities sc) a)
-    (λ z h. in-filter (λ f. is_on_air (opening_state sc) f) (facilities sc) z (filter-in p (facilities sc) z h).0 (on z ∙ h))
-    (λ z h. sym (on z) ∙ (filter-in (λ f. is_on_air (opening_state sc) f) (facilities sc) z h).1)
-
-nothing : (book : BookView) → IsClean book []
-nothing book = record { on_domain = λ x c. absurd (omega (arith, c.1)); apart = λ x y c d. absurd (omega (arith, c.1)) }
-
--- the map that a fit of the start leaves
-start-fit : (sc : Scenario) (book : BookView) (shown : Shown) → IsAuction sc book → IsSettledBy sc book (start_task sc (before_start sc)) shown → shows_room shown ≡ true → IsOf sc book (opening_state sc) (overlaid [] (delta_of shown))
-start-fit sc book Empty a e r = absurd e
-start-fit sc book (Fits delta) a e r =
-    let rises = ascending-from (facilities sc) a.stations in
-    let f = clean-stations book (start_set sc) (overlaid [] delta) (filter-ascending (λ s. declines sc s 0) (facilities sc) rises) (overlaid-ascending [] delta refl) e in
-    (e.clean, f ∙ is-start sc rises)
-start-fit sc book (NoChannel s) a e r = cc
-start-fit sc book (Refuted w how) a e r = cc
-start-fit sc book (Undecided xs) a e r = cc
-
-unasked-room : (sc : Scenario) (book : BookView) (shown : Shown) → start_unasked sc book ≡ Some shown → shows_room shown ≡ true → (shown ≡ Empty) × (is_empty (start_set sc) ≡ true)
-unasked-room sc book shown e r =
-    let bare : Option ℕ = find (λ s. is_empty (domain_of book s)) (start_set sc) in
-    let inner : (o : Option ℕ) → option_map NoChannel o ≡ Some shown → (shown ≡ Empty) × (is_empty (start_set sc) ≡ true) = λ o. elim o as (λ o. option_map NoChannel o ≡ Some shown → (shown ≡ Empty) × (is_empty (start_set sc) ≡ true)) [
-      | None ↦ λ f. cc
-      | Some s ↦ λ f. let same : NoChannel s ≡ shown = cc in let no : false ≡ true = ap shows_room same ∙ r in cc
-    ] in
-    let outer : (b : Bool) → is_empty (start_set sc) ≡ b → (if b then Some Empty else option_map NoChannel bare) ≡ Some shown → (shown ≡ Empty) × (is_empty (start_set sc) ≡ true) = λ b. elim b as (λ b. is_empty (start_set sc) ≡ b → (if b then Some Empty else option_map NoChannel bare) ≡ Some shown → (shown ≡ Empty) × (is_empty (start_set sc) ≡ true)) [
-      | true ↦ λ m f. let same : Empty ≡ shown = cc in (sym same, m)
-      | false ↦ λ m f. inner bare f
-    ] in
-    outer (is_empty (start_set sc)) refl e
-
-pub start-map : (sc : Scenario) (book : BookView) (shown : Shown) → IsAuction sc book → IsStartShown sc book shown → shows_room shown ≡ true → IsOf sc book (opening_state sc) (overlaid [] (delta_of shown))
-start-map sc book shown a h r =
-    let go : (o : Option Shown) → start_unasked sc book ≡ o → MatchOption o (IsSettledBy sc book (start_task sc (before_start sc)) shown) (λ unasked. shown ≡ unasked) → IsOf sc book (opening_state sc) (overlaid [] (delta_of shown)) = λ o. elim o as (λ o. start_unasked sc book ≡ o → MatchOption o (IsSettledBy sc book (start_task sc (before_start sc)) shown) (λ unasked. shown ≡ unasked) → IsOf sc book (opening_state sc) (overlaid [] (delta_of shown))) [
-      | None ↦ λ e k. start-fit sc book shown a k r
-      | Some u ↦ λ e k.
-          let x = unasked-room sc book shown (e ∙ ap Some (sym k)) r in
-          subst (λ z. IsOf sc book (opening_state sc) (overlaid [] (delta_of z))) (sym x.0)
-          (nothing book, sym (no-element (start_set sc) x.1) ∙ is-start sc (ascending-from (facilities sc) a.stations))
-    ] in
-    go (start_unasked sc book) refl h
-
 -- nothing was done
-record IsBare (sc : Scenario) (state : CoreState) : Type 0 where
-  clock : state.clock ≡ opening_state sc
-  left : state.left ≡ []
-  map : state.map ≡ []
-  steps : state.steps ≡ []
+pub record IsBare (sc : Scenario) (state : CoreState) : Type 0 where
+  pub clock : state.clock ≡ opening_state sc
+  pub left : state.left ≡ []
+  pub map : state.map ≡ []
+  pub steps : state.steps ≡ []
 
 -- the state at the first test, once the start set was shown to fit
-first-walk : (sc : Scenario) (book : BookView) (shown : Shown) (state : CoreState) → IsAuction sc book → IsBare sc state → IsStartShown sc book shown → shows_room shown ≡ true → IsWalked sc book shown (record state { start = Some shown; map = overlaid state.map (delta_of shown) }) []
+pub first-walk : (sc : Scenario) (book : BookView) (shown : Shown) (state : CoreState) → IsAuction sc book → IsBare sc state → IsStartShown sc book shown → shows_room shown ≡ true → IsWalked sc book shown (record state { start = Some shown; map = overlaid state.map (start_delta shown) }) []
 first-walk sc book shown state a h k r =
     let of = start-map sc book shown a k r in
     record {
       clock = h.clock;
       tests = ap (map test_of) h.steps;
-      shown = subst (λ xs. AreShown sc book (after_start sc shown) xs) (sym h.steps) tt;
-      same_clock = ap (λ xs. (after_steps sc (after_start sc shown) xs).clock) h.steps ∙ sym h.clock;
-      same_map = ap (λ xs. (after_steps sc (after_start sc shown) xs).map) h.steps ∙ ap (λ m. overlaid m (delta_of shown)) (sym h.map);
-      clean = subst (λ m. IsClean book (overlaid m (delta_of shown))) (sym h.map) of.0;
-      stations = ap (λ m. map (λ x. x.0) (overlaid m (delta_of shown))) h.map ∙ (of.1 ∙ ap (on_air_set sc) (sym h.clock));
+      shown = subst (λ xs. AreShown sc book (after_start sc state.order shown) xs) (sym h.steps) tt;
+      same_clock = ap (λ xs. (after_steps sc (after_start sc state.order shown) xs).clock) h.steps ∙ sym h.clock;
+      same_map = ap (λ xs. (after_steps sc (after_start sc state.order shown) xs).map) h.steps ∙ ap (λ m. overlaid m (start_delta shown)) (sym h.map);
+      clean = subst (λ m. IsClean book (overlaid m (start_delta shown))) (sym h.map) of.0;
+      stations = ap (λ m. map (λ x. x.0) (overlaid m (start_delta shown))) h.map ∙ (of.1 ∙ ap (on_air_set sc) (sym h.clock));
+      fits = fits-stand-first sc book (record state { start = Some shown; map = overlaid state.map (start_delta shown) }) h.clock h.steps;
     }
 
 -- a start that is shown as it has to be keeps the rule
 started-keeps : (sc : Scenario) (book : BookView) (shown : Shown) (state : CoreState) → IsAuction sc book → IsBare sc state → state.noted ≡ [] → IsStartShown sc book shown → IsKept sc book (started sc book state shown)
 started-keeps sc book shown state a h n k =
-    let on : CoreState = record state { start = Some shown; map = overlaid state.map (delta_of shown) } in
+    let on : CoreState = record state { start = Some shown; map = overlaid state.map (start_delta shown) } in
     let off : CoreState = record state { start = Some shown } in
-    let go : (b : Bool) → shows_room shown ≡ b → IsKept sc book (if b then go_on sc book (clock_tests sc ByFacility) on else off) = λ b. elim b as (λ b. shows_room shown ≡ b → IsKept sc book (if b then go_on sc book (clock_tests sc ByFacility) on else off)) [
+    let go : (b : Bool) → shows_room shown ≡ b → IsKept sc book (if b then go_on sc book (clock_tests sc state.order) on else off) = λ b. elim b as (λ b. shows_room shown ≡ b → IsKept sc book (if b then go_on sc book (clock_tests sc state.order) on else off)) [
       | true ↦ λ r.
-          let s = go-on-start sc book (clock_tests sc ByFacility) on in
-          from-parts sc book (go_on sc book (clock_tests sc ByFacility) on) (Some shown) s.0 k
-          (in-case (IsUnderWay sc book shown (go_on sc book (clock_tests sc ByFacility) on)) (IsAtStart sc book (go_on sc book (clock_tests sc ByFacility) on)) (shows_room shown)
-          (λ _. go-on-keeps sc book shown (clock_tests sc ByFacility) on [] a (first-walk sc book shown state a h k r) refl)
+          let s = go-on-start sc book (clock_tests sc state.order) on in
+          from-parts sc book (go_on sc book (clock_tests sc state.order) on) (Some shown) s.0 k
+          (in-case (IsUnderWay sc book shown (go_on sc book (clock_tests sc state.order) on)) (IsAtStart sc book (go_on sc book (clock_tests sc state.order) on)) (shows_room shown)
+          (λ _. go-on-keeps sc book shown (clock_tests sc state.order) on [] a (first-walk sc book shown state a h k r) refl)
           (λ no. absurd (both_ways (shows_room shown) no r)))
-          (none-noted sc book (go_on sc book (clock_tests sc ByFacility) on) a (s.1 ∙ n))
+          (none-noted sc book (go_on sc book (clock_tests sc state.order) on) a (s.1 ∙ n))
       | false ↦ λ r.
           from-parts sc book off (Some shown) refl k
           (in-case (IsUnderWay sc book shown off) (IsAtStart sc book off) (shows_room shown)
@@ -158,17 +109,17 @@ started-keeps sc book shown state a h n k =
     ] in
     go (shows_room shown) refl
 
-at-start : (sc : Scenario) (book : BookView) → start_unasked sc book ≡ None → IsAtStart sc book (before_start sc)
-at-start sc book e = record { clock = refl; left = refl; map = refl; steps = refl; query = λ _. e }
+at-start : (sc : Scenario) (book : BookView) (order : Order) → start_unasked sc book ≡ None → IsAtStart sc book (before_start sc order)
+at-start sc book order e = record { clock = refl; left = refl; map = refl; steps = refl; query = λ _. e }
 
 -- the opening state keeps the rule
-pub opening-keeps : (sc : Scenario) (book : BookView) → IsAuction sc book → IsKept sc book (opening sc book)
+pub opening-keeps : (sc : Scenario) (book : BookView) (order : Order) → IsAuction sc book → IsKept sc book (opening sc book order)
 unfolding opening
-opening-keeps sc book a =
-    let go : (o : Option Shown) → start_unasked sc book ≡ o → IsKept sc book (option_map_or (started sc book (before_start sc)) o (before_start sc)) = λ o. elim o as (λ o. start_unasked sc book ≡ o → IsKept sc book (option_map_or (started sc book (before_start sc)) o (before_start sc))) [
-      | None ↦ λ e. from-parts sc book (before_start sc) None refl tt (at-start sc book e) (none-noted sc book (before_start sc) a refl)
-      | Some shown ↦ λ e. started-keeps sc book shown (before_start sc) a (record { clock = refl; left = refl; map = refl; steps = refl }) refl
-          (subst (λ o. MatchOption o (IsSettledBy sc book (start_task sc (before_start sc)) shown) (λ unasked. shown ≡ unasked)) (sym e) refl)
+opening-keeps sc book order a =
+    let go : (o : Option Shown) → start_unasked sc book ≡ o → IsKept sc book (option_map_or (started sc book (before_start sc order)) o (before_start sc order)) = λ o. elim o as (λ o. start_unasked sc book ≡ o → IsKept sc book (option_map_or (started sc book (before_start sc order)) o (before_start sc order))) [
+      | None ↦ λ e. from-parts sc book (before_start sc order) None refl tt (at-start sc book order e) (none-noted sc book (before_start sc order) a refl)
+      | Some shown ↦ λ e. started-keeps sc book shown (before_start sc order) a (record { clock = refl; left = refl; map = refl; steps = refl }) refl
+          (subst (λ o. MatchOption o (IsSettledBy sc book (start_task sc 1) shown) (λ unasked. shown ≡ unasked)) (sym e) refl)
     ] in
     go (start_unasked sc book) refl
 
@@ -188,22 +139,18 @@ not-ended sc state w number e =
     ] in
     go (has_ended state) (number == state.number) (nat_le (length sc.workers) w) refl e
 
-pub task-is : (sc : Scenario) (book : BookView) (state : CoreState) (o : Option Shown) (l : List ClockTest) → state.start ≡ o → state.left ≡ l → task_of sc book state ≡ (if is_none o then Some (start_task sc state) else first_task sc book state l)
+pub task-is : (sc : Scenario) (book : BookView) (state : CoreState) (o : Option Shown) (l : List ClockTest) → state.start ≡ o → state.left ≡ l → task_of sc book state ≡ (if is_none o then Some (start_task sc state.number) else first_task sc book state l)
 unfolding task_of
-task-is sc book state o l e f = ap₂ (λ o l. if is_none o then Some (start_task sc state) else first_task sc book state l) e f
+task-is sc book state o l e f = ap₂ (λ o l. if is_none o then Some (start_task sc state.number) else first_task sc book state l) e f
 
 -- a settled start
 settled-start : (sc : Scenario) (book : BookView) (state : CoreState) (shown : Shown) → IsAuction sc book → IsAtStart sc book state → state.start ≡ None → SettlesQuery sc book state shown → IsKept sc book (started sc book (record state { noted = []; number = state.number + 1 }) shown)
 settled-start sc book state shown a h e s =
-    let task : task_of sc book state ≡ Some (start_task sc state) = task-is sc book state None state.left e refl in
-    let k : IsSettledBy sc book (start_task sc state) shown = subst (λ o. MatchOption o ⊥ (λ task. IsSettledBy sc book task shown)) task s in
-    let k' : IsSettledBy sc book (start_task sc (before_start sc)) shown = shown-number sc book (start_task sc state) 1 shown k in
+    let task : task_of sc book state ≡ Some (start_task sc state.number) = task-is sc book state None state.left e refl in
+    let k : IsSettledBy sc book (start_task sc state.number) shown = subst (λ o. MatchOption o ⊥ (λ task. IsSettledBy sc book task shown)) task s in
+    let k' : IsSettledBy sc book (start_task sc 1) shown = shown-number sc book (start_task sc state.number) 1 shown k in
     started-keeps sc book shown (record state { noted = []; number = state.number + 1 }) a (record { clock = h.clock; left = h.left; map = h.map; steps = h.steps }) refl
-    (subst (λ o. MatchOption o (IsSettledBy sc book (start_task sc (before_start sc)) shown) (λ unasked. shown ≡ unasked)) (sym (h.query e)) k')
-
-for-false : (P Q : Type 0) (b : Bool) → b ≡ false → Q → MatchBool b P Q
-for-false P Q true e h = cc
-for-false P Q false e h = h
+    (subst (λ o. MatchOption o (IsSettledBy sc book (start_task sc 1) shown) (λ unasked. shown ≡ unasked)) (sym (h.query e)) k')
 
 -- a settled test
 settled-test : (sc : Scenario) (book : BookView) (start : Shown) (state : CoreState) (t : ClockTest) (ts : List ClockTest) (shown : Shown) → IsAuction sc book → IsUnderWay sc book start state → shows_room start ≡ true → IsStartShown sc book start → state.start ≡ Some start → state.left ≡ t ∷ ts → SettlesQuery sc book state shown → IsKept sc book (go_on sc book ts (settled sc (record state { noted = []; number = state.number + 1 }) t shown))
@@ -211,12 +158,12 @@ settled-test sc book start state t ts shown a u r k e f s =
     let next : CoreState = record state { noted = []; number = state.number + 1 } in
     let task : task_of sc book state ≡ Some (test_task sc book state t) = task-is sc book state (Some start) (t ∷ ts) e f in
     let valid : IsSettledBy sc book (test_task sc book state t) shown = subst (λ o. MatchOption o ⊥ (λ task. IsSettledBy sc book task shown)) task s in
-    let query : IsQuery book state (t ∷ ts) = subst (IsQuery book state) f u.query in
-    let parts : clock_tests sc ByFacility ≡ u.before ++ t ∷ ts = sym u.parts ∙ ap (λ l. u.before ++ l) f in
-    let w : IsWalked sc book start next u.before = record { clock = u.clock; tests = u.tests; shown = u.shown; same_clock = u.same_clock; same_map = u.same_map; clean = u.clean; stations = u.stations } in
-    let step : IsStepShown sc book state (step_of t shown) = for-false (shown ≡ NoChannel t.station) (IsSettledBy sc book (test_task sc book state t) shown) (is_empty (domain_of book t.station)) query.1 valid in
+    let query : IsQuery sc book state (t ∷ ts) = subst (IsQuery sc book state) f u.query in
+    let parts : clock_tests sc state.order ≡ u.before ++ t ∷ ts = sym u.parts ∙ ap (λ l. u.before ++ l) f in
+    let w : IsWalked sc book start next u.before = record { clock = u.clock; tests = u.tests; shown = u.shown; same_clock = u.same_clock; same_map = u.same_map; clean = u.clean; stations = u.stations; fits = fits-stand-same sc book state next refl refl refl (under-way-fits sc book start state a k r u) } in
+    let step : IsStepShown sc book state (step_of t shown) = subst (λ o. MatchOption o (IsSettledBy sc book (test_task sc book state t) shown) (λ unasked. shown ≡ unasked)) (sym query.1) valid in
     let after : CoreState = settled sc next t shown in
-    let w' : IsWalked sc book start after (u.before ++ t ∷ []) = walk-step sc book start next u.before ts t shown a w parts query.0 (IsStepShown-same sc book next state (step_of t shown) refl refl step) in
+    let w' : IsWalked sc book start after (u.before ++ t ∷ []) = walk-step sc book start next u.before ts t shown a w parts query.0 (IsStepShown-same sc book next state (step_of t shown) refl refl refl step) in
     let g = go-on-start sc book ts after in
     from-parts sc book (go_on sc book ts after) (Some start) (g.0 ∙ e) k
     (in-case (IsUnderWay sc book start (go_on sc book ts after)) (IsAtStart sc book (go_on sc book ts after)) (shows_room start)
@@ -259,7 +206,7 @@ within-list (x ∷ xs) (suc i) h e = within-list xs i (omega arith) e
 -- where an auction hasn't ended, a query stands
 some-query : (sc : Scenario) (book : BookView) (state : CoreState) → has_ended state ≡ false → task_of sc book state ≡ None → ⊥
 some-query sc book state on e =
-    let go : (o : Option Shown) (l : List ClockTest) → (if is_none o then false else is_empty l) ≡ false → (if is_none o then Some (start_task sc state) else first_task sc book state l) ≡ None → ⊥ = λ o l. elim o as (λ o. (if is_none o then false else is_empty l) ≡ false → (if is_none o then Some (start_task sc state) else first_task sc book state l) ≡ None → ⊥) [
+    let go : (o : Option Shown) (l : List ClockTest) → (if is_none o then false else is_empty l) ≡ false → (if is_none o then Some (start_task sc state.number) else first_task sc book state l) ≡ None → ⊥ = λ o l. elim o as (λ o. (if is_none o then false else is_empty l) ≡ false → (if is_none o then Some (start_task sc state.number) else first_task sc book state l) ≡ None → ⊥) [
       | None ↦ λ h k. cc
       | Some shown ↦ elim l as (λ l. is_empty l ≡ false → first_task sc book state l ≡ None → ⊥) [
         | [] ↦ λ h k. cc
@@ -311,7 +258,7 @@ more-stands sc book state x h n =
     ] in
     record { start = h.start; stands = go state.start refl h.stands; noted = n }
   where
-    query-same : (l : List ClockTest) → IsQuery book state l → IsQuery book (with_noted state x) l
+    query-same : (l : List ClockTest) → IsQuery sc book state l → IsQuery sc book (with_noted state x) l
     query-same [] q = tt
     query-same (t ∷ ts) q = q
 

@@ -4,10 +4,8 @@ use Rattle.std.specs.Prelude.{⊤}
 use Rattle.std.specs.List.{list_all}
 use Rattle.std.specs.Option.{option_map_or}
 use Rattle.std.proofs.lemmas.Bool.{and_from, cases_Bool, eqb-true, or_cases, true≢false}
-use Rattle.pack_defs.specs.declared.order.Order.TheVariants.{ByFacility}
 use Rattle.pack_defs.specs.declared.scenario.Scenario.{Scenario}
 use Rattle.pack_defs.specs.Book.{BookView, domain_of}
-use Rattle.pack_defs.specs.ChannelMap.{overlaid}
 use Rattle.pack_defs.specs.Components.{component}
 use Rattle.pack_defs.specs.Lists.{is_ascending, is_empty, is_in}
 use Rattle.pack_defs.specs.Packing.{IsClean}
@@ -18,12 +16,12 @@ use Rattle.pack_defs.proofs.Members.{Contains-from_filter, Contains-from_map, Co
 use Rattle.pack_defs.proofs.Words.{ascending-from}
 use Rattle.cert_types.specs.Query.{IsQuery as MayBeAsked, has_channels, is_on_domains, is_query}
 use Rattle.auction_core.specs.declared.record.Shown.{Shown}
-use Rattle.auction_core.specs.declared.record.Shown.TheVariants.{Empty, NoChannel}
-use Rattle.auction_core.specs.Clockwork.{IsOfAuction}
+use Rattle.auction_core.specs.declared.record.Shown.TheVariants.{Empty, NoChannel, Same}
 use Rattle.auction_core.specs.Rule.{IsQuery as IsNext, KeepsTheRule}
-use Rattle.auction_core.specs.State.{CoreState, answered, delta_of, first_task, go_on, has_ended, past_first, queries_left, restricted, settled, settled_unasked, shows_room, start_task, start_unasked, started, task_of, test_task}
+use Rattle.auction_core.specs.Setup.{IsOfAuction}
+use Rattle.auction_core.specs.State.{CoreState, answered, first_task, go_on, has_ended, is_same, past_first, queries_left, restricted, settled, settled_unasked, shows_room, start_task, start_unasked, started, task_of, test_task}
 use Rattle.auction_core.proofs.Answers.{component-ascending, filter-ascending, filter-in, in-filter}
-use Rattle.auction_core.proofs.ClockworkLemmas.{go_on-fewer, started-start}
+use Rattle.auction_core.proofs.ClockworkLemmas.{first_state, go_on-fewer, started-start}
 use Rattle.auction_core.proofs.Keeps.{go-on-start, task-is}
 use Rattle.auction_core.proofs.Kept.{IsAtStart, IsUnderWay, Stands, match-false, match-true, rule-kept}
 use Rattle.auction_core.proofs.Merged.{in-component}
@@ -55,7 +53,7 @@ from-parts : (book : BookView) (n r : ℕ) (o : Option ℕ) (set : List ℕ) (la
 unfolding is_query
 from-parts book n r o set last a c d = record { holds = and_from (is_ascending set) (has_channels book set && is_on_domains book set last) a (and_from (has_channels book set) (is_on_domains book set last) c d) }
 
-start-query : (sc : Scenario) (book : BookView) (state : CoreState) → IsOfAuction sc book → start_unasked sc book ≡ None → MayBeAsked book (start_task sc state)
+start-query : (sc : Scenario) (book : BookView) (state : CoreState) → IsOfAuction sc book → start_unasked sc book ≡ None → MayBeAsked book (start_task sc state.number)
 start-query sc book state a h =
     from-parts book state.number 0 None (start_set sc) [] (filter-ascending (λ f. declines sc f 0) (facilities sc) (ascending-from (facilities sc) a.limits.ascend)) (start-channels sc book h) refl
 
@@ -80,6 +78,15 @@ asked-channel sc book state t s clean stations own h =
       | inr same ↦ subst (λ z. is_empty (domain_of book z) ≡ false) (sym (eqb-true s t.station same)) own
     ]
 
+-- a station whose test needs a query has a channel
+asks-channel : (sc : Scenario) (book : BookView) (state : CoreState) (t : ClockTest) → settled_unasked sc book state t ≡ None → is_empty (domain_of book t.station) ≡ false
+asks-channel sc book state t e =
+    let go : (b : Bool) (o : Option Shown) → cond b (Some (NoChannel t.station)) o ≡ None → b ≡ false = λ b o. elim b as (λ b. cond b (Some (NoChannel t.station)) o ≡ None → b ≡ false) [
+      | true ↦ λ k. cc
+      | false ↦ λ k. refl
+    ] in
+    go (is_empty (domain_of book t.station)) (cond (is_same sc book state t) (Some Same) None) e
+
 test-query : (sc : Scenario) (book : BookView) (state : CoreState) (t : ClockTest) → IsOfAuction sc book → IsClean book state.map → map (λ x. x.0) state.map ≡ on_air_set sc state.clock → is_empty (domain_of book t.station) ≡ false → MayBeAsked book (test_task sc book state t)
 test-query sc book state t a clean stations own =
     let set : List ℕ = component book (asked_set sc state.clock t.station) t.station in
@@ -98,14 +105,14 @@ task-query sc book state a k =
     elim (cases_Bool (shows_room start)) [
       | inl room ↦
           let u = match-true (IsUnderWay sc book start state) (IsAtStart sc book state) (shows_room start) room stands in
-          let query : (is_active state.clock t.station ≡ true) × (is_empty (domain_of book t.station) ≡ false) = subst (IsNext book state) f u.query in
-          test-query sc book state t a u.clean u.stations query.1
+          let query : (is_active state.clock t.station ≡ true) × (settled_unasked sc book state t ≡ None) = subst (IsNext sc book state) f u.query in
+          test-query sc book state t a u.clean u.stations (asks-channel sc book state t query.1)
       | inr none ↦
           let at = match-false (IsUnderWay sc book start state) (IsAtStart sc book state) (shows_room start) none stands in
           let bare : t ∷ ts ≡ [] = sym f ∙ at.left in
           cc
     ] in
-    let go : (o : Option Shown) (l : List ClockTest) → state.start ≡ o → state.left ≡ l → Stands sc book state o → MatchOption (cond (is_none o) (Some (start_task sc state)) (first_task sc book state l)) ⊤ (MayBeAsked book) = λ o l. elim o as (λ o. state.start ≡ o → state.left ≡ l → Stands sc book state o → MatchOption (cond (is_none o) (Some (start_task sc state)) (first_task sc book state l)) ⊤ (MayBeAsked book)) [
+    let go : (o : Option Shown) (l : List ClockTest) → state.start ≡ o → state.left ≡ l → Stands sc book state o → MatchOption (cond (is_none o) (Some (start_task sc state.number)) (first_task sc book state l)) ⊤ (MayBeAsked book) = λ o l. elim o as (λ o. state.start ≡ o → state.left ≡ l → Stands sc book state o → MatchOption (cond (is_none o) (Some (start_task sc state.number)) (first_task sc book state l)) ⊤ (MayBeAsked book)) [
       | None ↦ λ e f stands. start-query sc book state a (stands.query e)
       | Some start ↦ elim l as (λ l. state.start ≡ Some start → state.left ≡ l → Stands sc book state (Some start) → MatchOption (first_task sc book state l) ⊤ (MayBeAsked book)) [
         | [] ↦ λ e f stands. tt
@@ -120,20 +127,19 @@ go_on-number : (sc : Scenario) (book : BookView) (ts : List ClockTest) (state : 
 go_on-number sc book [] state = refl
 go_on-number sc book (t ∷ ts) state =
     let at : CoreState = record state { left = t ∷ ts } in
-    let inner : (b : Bool) → (option_map_or (go_on sc book ts) (option_map (settled sc state t) (cond b (Some (NoChannel t.station)) None)) at).number ≡ state.number = λ b. elim b as (λ b. (option_map_or (go_on sc book ts) (option_map (settled sc state t) (cond b (Some (NoChannel t.station)) None)) at).number ≡ state.number) [
-      | true ↦ go_on-number sc book ts (settled sc state t (NoChannel t.station))
-      | false ↦ refl
+    let inner : (o : Option Shown) → (option_map_or (go_on sc book ts) (option_map (settled sc state t) o) at).number ≡ state.number = λ o. elim o as (λ o. (option_map_or (go_on sc book ts) (option_map (settled sc state t) o) at).number ≡ state.number) [
+      | None ↦ refl
+      | Some shown ↦ go_on-number sc book ts (settled sc state t shown)
     ] in
-    elim (is_active state.clock t.station) as (λ b. (option_map_or (go_on sc book ts) (cond b (option_map (settled sc state t) (settled_unasked book state t)) (Some state)) at).number ≡ state.number) [
-      | true ↦ inner (is_empty (domain_of book t.station))
+    elim (is_active state.clock t.station) as (λ b. (option_map_or (go_on sc book ts) (cond b (option_map (settled sc state t) (settled_unasked sc book state t)) (Some state)) at).number ≡ state.number) [
+      | true ↦ inner (settled_unasked sc book state t)
       | false ↦ go_on-number sc book ts state
     ]
 
 started-number : (sc : Scenario) (book : BookView) (state : CoreState) (shown : Shown) → (started sc book state shown).number ≡ state.number
 started-number sc book state shown =
-    let on : CoreState = record state { start = Some shown; map = overlaid state.map (delta_of shown) } in
-    elim (shows_room shown) as (λ b. (cond b (go_on sc book (clock_tests sc ByFacility) on) (record state { start = Some shown })).number ≡ state.number) [
-      | true ↦ go_on-number sc book (clock_tests sc ByFacility) on
+    elim (shows_room shown) as (λ b. (cond b (go_on sc book (clock_tests sc state.order) (first_state state shown)) (record state { start = Some shown })).number ≡ state.number) [
+      | true ↦ go_on-number sc book (clock_tests sc state.order) (first_state state shown)
       | false ↦ refl
     ]
 
@@ -150,11 +156,10 @@ answered-number sc book state shown =
       | false ↦ past state.left
     ]
 
-started-most : (sc : Scenario) (book : BookView) (state : CoreState) (shown : Shown) → length (started sc book state shown).left ≤ length (clock_tests sc ByFacility) + length state.left
+started-most : (sc : Scenario) (book : BookView) (state : CoreState) (shown : Shown) → length (started sc book state shown).left ≤ length (clock_tests sc state.order) + length state.left
 started-most sc book state shown =
-    let on : CoreState = record state { start = Some shown; map = overlaid state.map (delta_of shown) } in
-    elim (shows_room shown) as (λ b. length (cond b (go_on sc book (clock_tests sc ByFacility) on) (record state { start = Some shown })).left ≤ length (clock_tests sc ByFacility) + length state.left) [
-      | true ↦ let few = go_on-fewer sc book (clock_tests sc ByFacility) on in omega (arith, few)
+    elim (shows_room shown) as (λ b. length (cond b (go_on sc book (clock_tests sc state.order) (first_state state shown)) (record state { start = Some shown })).left ≤ length (clock_tests sc state.order) + length state.left) [
+      | true ↦ let few = go_on-fewer sc book (clock_tests sc state.order) (first_state state shown) in omega (arith, few)
       | false ↦ omega arith
     ]
 
@@ -163,18 +168,19 @@ started-most sc book state shown =
 pub answered-fewer : (sc : Scenario) (book : BookView) (state : CoreState) (shown : Shown) → has_ended state ≡ false → queries_left sc (answered sc book state shown) < queries_left sc state
 answered-fewer sc book state shown on =
     let next : CoreState = record state { noted = []; number = state.number + 1 } in
-    let go : (o : Option Shown) (l : List ClockTest) → state.start ≡ o → state.left ≡ l → cond (is_none o) false (is_empty l) ≡ false → queries_left sc (cond (is_none o) (started sc book next shown) (past_first sc book next shown l)) < length l + cond (is_none o) (length (clock_tests sc ByFacility) + 1) 0 = λ o l. elim o as (λ o. state.start ≡ o → state.left ≡ l → cond (is_none o) false (is_empty l) ≡ false → queries_left sc (cond (is_none o) (started sc book next shown) (past_first sc book next shown l)) < length l + cond (is_none o) (length (clock_tests sc ByFacility) + 1) 0) [
+    let go : (o : Option Shown) (l : List ClockTest) → state.start ≡ o → state.left ≡ l → cond (is_none o) false (is_empty l) ≡ false → queries_left sc (cond (is_none o) (started sc book next shown) (past_first sc book next shown l)) < length l + cond (is_none o) (length (clock_tests sc state.order) + 1) 0 = λ o l. elim o as (λ o. state.start ≡ o → state.left ≡ l → cond (is_none o) false (is_empty l) ≡ false → queries_left sc (cond (is_none o) (started sc book next shown) (past_first sc book next shown l)) < length l + cond (is_none o) (length (clock_tests sc state.order) + 1) 0) [
       | None ↦ λ e f k.
-          let begun : is_none (started sc book next shown).start ≡ false = ap is_none (started-start sc book next shown) in
-          let rest : cond (is_none (started sc book next shown).start) (length (clock_tests sc ByFacility) + 1) 0 ≡ 0 = ap (λ b. cond b (length (clock_tests sc ByFacility) + 1) 0) begun in
+          let some : is_none (started sc book next shown).start ≡ false = ap is_none (started-start sc book next shown) in
+          let rest : cond (is_none (started sc book next shown).start) (length (clock_tests sc (started sc book next shown).order) + 1) 0 ≡ 0 = ap (λ b. cond b (length (clock_tests sc (started sc book next shown).order) + 1) 0) some in
           let few = started-most sc book next shown in
           let old : length state.left ≡ length l = ap length f in
           omega (arith, rest, few, old)
-      | Some begun ↦ elim l as (λ l. state.start ≡ Some begun → state.left ≡ l → is_empty l ≡ false → queries_left sc (past_first sc book next shown l) < length l + 0) [
+      | Some start ↦ elim l as (λ l. state.start ≡ Some start → state.left ≡ l → is_empty l ≡ false → queries_left sc (past_first sc book next shown l) < length l + 0) [
         | [] ↦ λ e f k. absurd (true≢false k)
         | t ∷ ts ↦ λ e f k.
             let same : is_none (go_on sc book ts (settled sc next t shown)).start ≡ false = ap is_none ((go-on-start sc book ts (settled sc next t shown)).0 ∙ e) in
-            let rest : cond (is_none (go_on sc book ts (settled sc next t shown)).start) (length (clock_tests sc ByFacility) + 1) 0 ≡ 0 = ap (λ b. cond b (length (clock_tests sc ByFacility) + 1) 0) same in
+            let after : CoreState = go_on sc book ts (settled sc next t shown) in
+            let rest : cond (is_none after.start) (length (clock_tests sc after.order) + 1) 0 ≡ 0 = ap (λ b. cond b (length (clock_tests sc after.order) + 1) 0) same in
             let few = go_on-fewer sc book ts (settled sc next t shown) in
             omega (arith, rest, few)
       ]

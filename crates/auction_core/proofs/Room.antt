@@ -1,7 +1,7 @@
 -- A shown verdict is the clock rule's answer, and the map follows it.
-use Rattle.std.proofs.Common.{◌≡◌, ℕ, Bool, true, false, ◌==◌, ◌||◌, if◌then◌else◌, List, [], ◌∷◌, map, Option, Some, None, Contains, refl, sym, ap, ◌∙◌, subst, ⊎_elim, inl, inr, eqb-true, eq-eqb, ne_eqb, MatchBool, MatchOption}
+use Rattle.std.proofs.Common.{◌≡◌, ℕ, Bool, true, false, ◌==◌, ◌||◌, if◌then◌else◌, List, [], ◌∷◌, map, Option, Some, None, Contains, refl, sym, ap, ◌∙◌, subst, ⊎_elim, inl, inr, eqb-true, eq-eqb, ne_eqb, MatchOption}
 use Rattle.std.specs.Prelude.{slice_get}
-use Rattle.std.proofs.lemmas.Bool.{or_cases, or_left, or_right, false_from_ne_true, cases_eq, cond-true, cond-false}
+use Rattle.std.proofs.lemmas.Bool.{or_cases, or_left, or_right, false_from_ne_true, cases_eq, cases_Bool, cond-true, cond-false}
 use Rattle.std.proofs.lemmas.List.Folds.{list_any-append}
 use Rattle.std.proofs.lemmas.List.Elements.{filter_agree}
 use Rattle.pack_defs.proofs.Words.{ascending-from}
@@ -13,9 +13,10 @@ use Rattle.pack_defs.specs.Packing.{IsClean, fits}
 use Rattle.pack_defs.specs.declared.scenario.Scenario.{Scenario}
 use Rattle.pack_defs.specs.Scenario.{facilities}
 use Rattle.pack_defs.specs.Components.{component}
-use Rattle.pack_defs.specs.ClockRule.{ClockState, ClockTest, OnAirSince, is_on_air, on_air_set, asked_set, freezes, goes_on_air, exits, after_answer}
+use Rattle.pack_defs.specs.ClockRule.{ClockState, ClockTest, OnAirSince, is_active, is_on_air, on_air_set, asked_set, freezes, goes_on_air, exits, after_answer}
 use Rattle.pack_defs.proofs.ComponentLaws.{component-start, test_by_component}
 use Rattle.pack_defs.proofs.FitsLaws.{fits-from, fits-gives}
+use Rattle.cert_types.proofs.Outsiders.{outside-refutes}
 use Rattle.cert_types.specs.declared.task.Task.{Task}
 use Rattle.cert_types.specs.declared.answer.Answer.TheVariants.{Refuted as Refutes'}
 use Rattle.cert_types.specs.declared.answer.Refutation.{Refutation}
@@ -26,14 +27,15 @@ use Rattle.assign_check.specs.Fault.{IsCleanOn}
 use Rattle.cert_types.proofs.Refuting.{refuted-unfit}
 use Rattle.cert_types.proofs.Validity.{valid-refutes}
 use Rattle.auction_core.specs.declared.record.Shown.{Shown}
-use Rattle.auction_core.specs.declared.record.Shown.TheVariants.{Empty, Fits, NoChannel, Refuted, Undecided}
-use Rattle.auction_core.specs.State.{CoreState, restricted, test_task, shows_room, settled}
+use Rattle.auction_core.specs.declared.record.Shown.TheVariants.{Empty, Fits, Same, NoChannel, Refuted, Outside, Undecided}
+use Rattle.auction_core.specs.State.{CoreState, restricted, test_task, shows_room, delta_of, settled, settled_unasked}
 use Rattle.auction_core.specs.Backed.{is_undecided, IsValidOf, IsSettledBy, IsStepShown}
 use Rattle.auction_core.specs.Rule.{IsAuction}
+use Rattle.auction_core.specs.Walked.{FitsStand}
 use Rattle.auction_core.proofs.Overlay.{overlaid-ascending}
 use Rattle.auction_core.proofs.Merged.{restricted-ascending, IsTest, merged-clean, merged-stations}
 use Rattle.auction_core.proofs.Answers.{filter-in, in-filter, filter-ascending, component-ascending, clean-fits}
-use Rattle.auction_core.proofs.Steps.{step_of}
+use Rattle.auction_core.proofs.Sets.{step_of, delta-fits, unasked-cases}
 
 -- a clean map of the stations on air, and a station of the scenario that isn't on air
 pub record IsReady (sc : Scenario) (book : BookView) (state : CoreState) (s : ℕ) : Type 0 where
@@ -114,26 +116,39 @@ by-worker sc book task w how e =
     ] in
     go (slice_get sc.workers w) e
 
-shown-room : (sc : Scenario) (book : BookView) (state : CoreState) (t : ClockTest) (shown : Shown) → IsReady sc book state t.station → IsSettledBy sc book (test_task sc book state t) shown → is_undecided shown ≡ false → fits book (asked_set sc state.clock t.station) ≡ shows_room shown
-shown-room sc book state t Empty r e u = absurd e
-shown-room sc book state t (Fits delta) r e u = fit-room sc book state t delta r e
-shown-room sc book state t (NoChannel s) r e u = absurd e
-shown-room sc book state t (Refuted w how) r e u = refuted-room sc book state t.station r (by-worker sc book (test_task sc book state t) w how e)
-shown-room sc book state t (Undecided receipts) r e u = cc
-
 pub no-element : (xs : List ℕ) → is_empty xs ≡ true → xs ≡ []
 no-element [] e = refl
 no-element (x ∷ xs) e = cc
 
--- a decided verdict is the rule's answer
-pub room : (sc : Scenario) (book : BookView) (state : CoreState) (t : ClockTest) (shown : Shown) → IsReady sc book state t.station → IsStepShown sc book state (step_of t shown) → is_undecided shown ≡ false → fits book (asked_set sc state.clock t.station) ≡ shows_room shown
-room sc book state t shown r h u =
+-- a verdict that says that it doesn't fit, and isn't undecided, shows so
+no-fit : (sc : Scenario) (book : BookView) (state : CoreState) (t : ClockTest) (shown : Shown) → IsReady sc book state t.station → IsStepShown sc book state (step_of t shown) → is_undecided shown ≡ false → shows_room shown ≡ false → fits book (asked_set sc state.clock t.station) ≡ false
+no-fit sc book state t shown r h u out =
     let set : List ℕ = component book (asked_set sc state.clock t.station) t.station in
-    let go : (b : Bool) → is_empty (domain_of book t.station) ≡ b → MatchBool b (shown ≡ NoChannel t.station) (IsSettledBy sc book (test_task sc book state t) shown) → fits book (asked_set sc state.clock t.station) ≡ shows_room shown = λ b. elim b as (λ b. is_empty (domain_of book t.station) ≡ b → MatchBool b (shown ≡ NoChannel t.station) (IsSettledBy sc book (test_task sc book state t) shown) → fits book (asked_set sc state.clock t.station) ≡ shows_room shown) [
-      | true ↦ λ e k. refuted-room sc book state t.station r (ByStation t.station (component-has sc book state t.station r) (no-element (domain_of book t.station) e)) ∙ sym (ap shows_room k)
-      | false ↦ λ e k. shown-room sc book state t shown r k u
+    let go : (o : Option Shown) → settled_unasked sc book state t ≡ o → MatchOption o (IsSettledBy sc book (test_task sc book state t) shown) (λ unasked. shown ≡ unasked) → fits book (asked_set sc state.clock t.station) ≡ false = λ o. elim o as (λ o. settled_unasked sc book state t ≡ o → MatchOption o (IsSettledBy sc book (test_task sc book state t) shown) (λ unasked. shown ≡ unasked) → fits book (asked_set sc state.clock t.station) ≡ false) [
+      | None ↦ λ e k. by-query shown k u out
+      | Some unasked ↦ λ e k. ⊎_elim
+          (λ bare. refuted-room sc book state t.station r (ByStation t.station (component-has sc book state t.station r) (no-element (domain_of book t.station) bare.0)))
+          (λ same. let yes : true ≡ false = sym (ap shows_room (k ∙ same.1)) ∙ out in cc)
+          (unasked-cases sc book state t unasked e)
     ] in
-    go (is_empty (domain_of book t.station)) refl h
+    go (settled_unasked sc book state t) refl h
+  where
+    by-query : (shown : Shown) → IsSettledBy sc book (test_task sc book state t) shown → is_undecided shown ≡ false → shows_room shown ≡ false → fits book (asked_set sc state.clock t.station) ≡ false
+    by-query Empty k u out = absurd k
+    by-query (Fits delta) k u out = cc
+    by-query Same k u out = absurd k
+    by-query (NoChannel s) k u out = absurd k
+    by-query (Refuted w how) k u out = refuted-room sc book state t.station r (by-worker sc book (test_task sc book state t) w how k)
+    by-query (Outside proof) k u out = refuted-room sc book state t.station r (outside-refutes book (component book (asked_set sc state.clock t.station) t.station) proof (component-ascending book (asked_set sc state.clock t.station) t.station (asked-rises sc book state t.station r)) k)
+    by-query (Undecided receipts) k u out = cc
+
+-- a decided verdict is the rule's answer
+pub room : (sc : Scenario) (book : BookView) (state : CoreState) (t : ClockTest) (shown : Shown) → IsReady sc book state t.station → FitsStand sc book state → is_active state.clock t.station ≡ true → IsStepShown sc book state (step_of t shown) → is_undecided shown ≡ false → fits book (asked_set sc state.clock t.station) ≡ shows_room shown
+room sc book state t shown r f active h u =
+    ⊎_elim
+    (λ yes. fit-room sc book state t (delta_of state.steps t.station shown) r (delta-fits sc book state t shown f active h yes) ∙ sym yes)
+    (λ no. no-fit sc book state t shown r h u no ∙ sym no)
+    (cases_Bool (shows_room shown))
 
 -- ---- the map
 
@@ -178,18 +193,12 @@ map-fit sc book state t delta r e =
     ] in
     go (exits sc t)
 
-shown-map : (sc : Scenario) (book : BookView) (state : CoreState) (t : ClockTest) (shown : Shown) → IsReady sc book state t.station → IsSettledBy sc book (test_task sc book state t) shown → IsOf sc book (settled sc state t shown).clock (settled sc state t shown).map
-shown-map sc book state t Empty r e = absurd e
-shown-map sc book state t (Fits delta) r e = map-fit sc book state t delta r e
-shown-map sc book state t (NoChannel s) r e = absurd e
-shown-map sc book state t (Refuted w how) r e = map-frozen sc book state t (overlaid state.map []) r
-shown-map sc book state t (Undecided receipts) r e = map-frozen sc book state t (overlaid state.map []) r
-
 -- the map after a settled test is a clean one of the stations on air
-pub new-map : (sc : Scenario) (book : BookView) (state : CoreState) (t : ClockTest) (shown : Shown) → IsReady sc book state t.station → IsStepShown sc book state (step_of t shown) → IsOf sc book (settled sc state t shown).clock (settled sc state t shown).map
-new-map sc book state t shown r h =
-    let go : (b : Bool) → MatchBool b (shown ≡ NoChannel t.station) (IsSettledBy sc book (test_task sc book state t) shown) → IsOf sc book (settled sc state t shown).clock (settled sc state t shown).map = λ b. elim b as (λ b. MatchBool b (shown ≡ NoChannel t.station) (IsSettledBy sc book (test_task sc book state t) shown) → IsOf sc book (settled sc state t shown).clock (settled sc state t shown).map) [
-      | true ↦ λ k. subst (λ x. IsOf sc book (settled sc state t x).clock (settled sc state t x).map) (sym k) (map-frozen sc book state t (overlaid state.map []) r)
-      | false ↦ λ k. shown-map sc book state t shown r k
-    ] in
-    go (is_empty (domain_of book t.station)) h
+pub new-map : (sc : Scenario) (book : BookView) (state : CoreState) (t : ClockTest) (shown : Shown) → IsReady sc book state t.station → FitsStand sc book state → is_active state.clock t.station ≡ true → IsStepShown sc book state (step_of t shown) → IsOf sc book (settled sc state t shown).clock (settled sc state t shown).map
+new-map sc book state t shown r f active h =
+    let delta : List (ℕ × ℕ) = delta_of state.steps t.station shown in
+    let at : Bool → Type 0 = λ b. IsOf sc book (after_answer sc state.clock t b) (if is_on_air (after_answer sc state.clock t b) t.station then overlaid state.map delta else state.map) in
+    ⊎_elim
+    (λ yes. subst at (sym yes) (map-fit sc book state t delta r (delta-fits sc book state t shown f active h yes)))
+    (λ no. subst at (sym no) (map-frozen sc book state t (overlaid state.map delta) r))
+    (cases_Bool (shows_room shown))

@@ -1,33 +1,32 @@
 -- One settled test more: the state stays where the clock rule comes to.
-use Rattle.std.proofs.Common.{◌≡◌, ℕ, ◌+◌, ◌≤◌, Bool, true, false, not, cond, ◌==◌, ◌&&◌, if◌then◌else◌, List, [], ◌∷◌, ◌++◌, map, Option, Some, None, count_by, Contains, refl, sym, ap, ◌∙◌, subst, ⊎_elim, arith, eqb-true, eq-eqb}
+use Rattle.std.proofs.Common.{◌≡◌, ℕ, ◌+◌, ◌≤◌, Bool, true, false, not, cond, ◌==◌, ◌&&◌, if◌then◌else◌, List, [], ◌∷◌, ◌++◌, map, Option, Some, None, count_by, Contains, refl, sym, ap, ◌∙◌, subst, ⊎_elim, arith, eqb-true, eq-eqb, append_assoc, append-nil}
 use Rattle.std.specs.List.{list_any, cons_option}
 use Rattle.std.proofs.lemmas.Bool.{and_parts, and_from, or_cases, or_left, or_right, both_ways, false_from_ne_true, cases_Bool}
 use Rattle.std.proofs.lemmas.List.Sums.{sum_by-cons}
 use Rattle.pack_defs.proofs.Members.{is_in-gives}
-use Rattle.pack_defs.specs.declared.order.Order.TheVariants.{ByFacility}
 use Rattle.pack_defs.specs.Book.{BookView}
 use Rattle.pack_defs.specs.Lists.{is_in}
-use Rattle.pack_defs.specs.Packing.{IsClean}
 use Rattle.pack_defs.specs.declared.scenario.Scenario.{Scenario}
 use Rattle.pack_defs.specs.Scenario.{facilities}
 use Rattle.pack_defs.specs.Prices.{bidders, declines}
 use Rattle.pack_defs.specs.Standing.{entries_of}
-use Rattle.pack_defs.specs.ClockRule.{ClockState, ClockTest, OnAirSince, clock_tests, opening_state, is_active, is_on_air, is_listed, on_air_set, after_test, after_tests, asked_from}
+use Rattle.pack_defs.specs.ClockRule.{ClockState, ClockTest, OnAirSince, clock_tests, opening_state, is_active, is_on_air, is_listed, after_test, after_tests, asked_from}
 use Rattle.pack_defs.proofs.ClockSteps.{run_inactive}
 use Rattle.pack_defs.proofs.Standings.{each_once}
 use Rattle.pack_defs.proofs.TestOrder.{no_test_twice}
 use Rattle.auction_core.specs.declared.record.Shown.{Shown}
 use Rattle.auction_core.specs.declared.record.Step.{Step}
-use Rattle.auction_core.specs.State.{CoreState, settled}
-use Rattle.auction_core.specs.Backed.{test_of, is_undecided, undecided_of, IsStepShown, after_steps, AreShown, after_start}
+use Rattle.auction_core.specs.State.{CoreState, test_of, settled}
+use Rattle.auction_core.specs.Backed.{is_undecided, undecided_of, IsStepShown, after_steps, AreShown}
 use Rattle.auction_core.specs.Rule.{IsAuction}
+use Rattle.auction_core.specs.Walked.{IsWalked}
 use Rattle.auction_core.proofs.Answers.{filter-in}
 
--- the step of a test
-abbrev pub step_of : ClockTest → Shown → Step
-step_of t shown = record { round = t.round; station = t.station; shown = shown }
-
 -- ---- lists of steps and of tests
+
+pub after_steps-steps : (sc : Scenario) (st : CoreState) (xs : List Step) → (after_steps sc st xs).steps ≡ st.steps ++ xs
+after_steps-steps sc st [] = sym (append-nil st.steps)
+after_steps-steps sc st (y ∷ ys) = after_steps-steps sc (settled sc st (test_of y) y.shown) ys ∙ append_assoc st.steps (y ∷ []) ys
 
 pub after_steps-push : (sc : Scenario) (st : CoreState) (xs : List Step) (x : Step) → after_steps sc st (xs ++ x ∷ []) ≡ settled sc (after_steps sc st xs) (test_of x) x.shown
 after_steps-push sc st [] x = refl
@@ -84,21 +83,11 @@ listed-asked sc book U (u ∷ us) st t h =
 
 -- ---- where the state stands after some tests
 
--- after these tests: the clock is where the rule comes to, the steps are the tests asked, each shown, and the map is clean
-pub record IsWalked (sc : Scenario) (book : BookView) (start : Shown) (state : CoreState) (before : List ClockTest) : Type 0 where
-  pub clock : state.clock ≡ after_tests sc book (undecided_of state.steps) before (opening_state sc)
-  pub tests : map test_of state.steps ≡ asked_from sc book (undecided_of state.steps) before (opening_state sc)
-  pub shown : AreShown sc book (after_start sc start) state.steps
-  pub same_clock : (after_steps sc (after_start sc start) state.steps).clock ≡ state.clock
-  pub same_map : (after_steps sc (after_start sc start) state.steps).map ≡ state.map
-  pub clean : IsClean book state.map
-  pub stations : map (λ x. x.0) state.map ≡ on_air_set sc state.clock
-
 -- the next test isn't one of the undecided ones
-pub new-test : (sc : Scenario) (book : BookView) (start : Shown) (state : CoreState) (before after : List ClockTest) (t : ClockTest) → IsAuction sc book → IsWalked sc book start state before → clock_tests sc ByFacility ≡ before ++ t ∷ after → is_listed (undecided_of state.steps) t ≡ false
+pub new-test : (sc : Scenario) (book : BookView) (start : Shown) (state : CoreState) (before after : List ClockTest) (t : ClockTest) → IsAuction sc book → IsWalked sc book start state before → clock_tests sc state.order ≡ before ++ t ∷ after → is_listed (undecided_of state.steps) t ≡ false
 new-test sc book start state before after t a w parts =
     false_from_ne_true (is_listed (undecided_of state.steps) t) (λ yes.
-    both_ways (is_listed before t) (no_test_twice sc ByFacility before after t a.stations parts)
+    both_ways (is_listed before t) (no_test_twice sc state.order before after t a.stations parts)
     (listed-asked sc book (undecided_of state.steps) before (opening_state sc) t
     (subst (λ us. is_listed us t ≡ true) w.tests (listed-undecided state.steps t yes))))
 

@@ -1,16 +1,13 @@
 -- The state goes on from test to test where the clock rule goes.
-use Rattle.std.proofs.Common.{◌≡◌, ℕ, Bool, true, false, ◌||◌, if◌then◌else◌, List, [], ◌∷◌, ◌++◌, map, Option, Some, None, option_map, Contains, refl, sym, ap, ap₂, ◌∙◌, subst, ⊎_elim, MatchBool, MatchOption, append_assoc, append-nil}
+use Rattle.std.proofs.Common.{◌≡◌, ℕ, Bool, true, false, ◌||◌, if◌then◌else◌, List, [], ◌∷◌, ◌++◌, map, Option, Some, None, option_map, Contains, refl, sym, ap, ap₂, ◌∙◌, subst, ⊎_elim, MatchOption, append_assoc, append-nil}
 use Rattle.std.specs.Prelude.{slice_get}
 use Rattle.std.specs.Option.{option_map_or}
 use Rattle.std.proofs.lemmas.Bool.{both_ways, false_from_ne_true, cases_Bool}
 use Rattle.std.proofs.lemmas.List.Folds.{list_any-append, list_any_at}
-use Rattle.pack_defs.specs.declared.order.Order.TheVariants.{ByFacility}
-use Rattle.pack_defs.specs.Book.{BookView, domain_of}
+use Rattle.pack_defs.specs.Book.{BookView}
 use Rattle.pack_defs.specs.ChannelMap.{overlaid}
-use Rattle.pack_defs.specs.Lists.{is_empty}
 use Rattle.pack_defs.specs.Packing.{fits}
 use Rattle.pack_defs.specs.declared.scenario.Scenario.{Scenario}
-use Rattle.pack_defs.specs.Components.{component}
 use Rattle.pack_defs.specs.ClockRule.{ClockState, ClockTest, clock_tests, opening_state, is_active, is_on_air, is_listed, asked_set, after_answer, after_tests, asked_from}
 use Rattle.pack_defs.proofs.ClockSteps.{test_idle}
 use Rattle.pack_defs.proofs.TestOrder.{in_turn, no_test_twice, answered_in_turn, undecided_in_turn, asked_in_turn, asked_same_undecided, same_undecided}
@@ -21,14 +18,16 @@ use Rattle.cert_types.specs.declared.answer.Receipt.{Receipt}
 use Rattle.pack_defs.specs.declared.worker.Worker.{Worker}
 use Rattle.cert_types.specs.Valid.{IsValid}
 use Rattle.auction_core.specs.declared.record.Shown.{Shown}
-use Rattle.auction_core.specs.declared.record.Shown.TheVariants.{Empty, Fits, NoChannel, Refuted, Undecided}
+use Rattle.auction_core.specs.declared.record.Shown.TheVariants.{Empty, Fits, Same, NoChannel, Refuted, Outside, Undecided}
 use Rattle.auction_core.specs.declared.record.Step.{Step}
-use Rattle.auction_core.specs.State.{CoreState, restricted, test_task, shows_room, delta_of, settled, settled_unasked, go_on}
-use Rattle.auction_core.specs.Backed.{test_of, is_undecided, undecided_of, IsValidOf, AreReceipts, IsSettledBy, IsStepShown, after_steps, after_start}
+use Rattle.auction_core.specs.State.{CoreState, test_of, restricted, tested_set, test_task, shows_room, delta_of, settled, settled_unasked, go_on}
+use Rattle.auction_core.specs.Backed.{is_undecided, undecided_of, IsValidOf, AreReceipts, IsSettledBy, IsStepShown, after_steps, after_start}
 use Rattle.auction_core.specs.Rule.{IsAuction}
+use Rattle.auction_core.specs.Walked.{IsWalked}
 use Rattle.auction_core.proofs.Kept.{IsUnderWay}
 use Rattle.auction_core.proofs.Answers.{answer-number}
-use Rattle.auction_core.proofs.Steps.{step_of, after_steps-push, AreShown-push, map-push, undecided-push-false, undecided-push-true, same_test, same-back, IsWalked, new-test, bidder, not-on-air}
+use Rattle.auction_core.proofs.Steps.{after_steps-steps, after_steps-push, AreShown-push, map-push, undecided-push-false, undecided-push-true, same_test, same-back, new-test, bidder, not-on-air}
+use Rattle.auction_core.proofs.Sets.{step_of, AreOffAir, fits-stand-step}
 use Rattle.auction_core.proofs.Room.{IsReady, IsOf, room, new-map}
 
 -- ---- the number of a query doesn't matter
@@ -50,34 +49,44 @@ receipts-number book task n (w ∷ ws) (x ∷ xs) h = (answer-number book task n
 pub shown-number : (sc : Scenario) (book : BookView) (task : Task) (n : ℕ) (shown : Shown) → IsSettledBy sc book task shown → IsSettledBy sc book (record task { number = n }) shown
 shown-number sc book task n Empty h = h
 shown-number sc book task n (Fits delta) h = h
+shown-number sc book task n Same h = h
 shown-number sc book task n (NoChannel s) h = h
 shown-number sc book task n (Refuted w how) h = valid-number sc book task n w (Refutes' how) h
+shown-number sc book task n (Outside proof) h = h
 shown-number sc book task n (Undecided xs) h = receipts-number book task n sc.workers xs h
 
 -- the query of a test, by the clock and the map alone
 abbrev task_at : Scenario → BookView → ℕ → ClockState → List (ℕ × ℕ) → ClockTest → Task
 task_at sc book n clock m t =
-    let set = component book (asked_set sc clock t.station) t.station in
+    let set = tested_set sc book clock t.station in
     record { number = n; round = t.round; station = Some t.station; set = set; last = restricted m set }
 
-match-map : (b : Bool) (P Q R : Type 0) → (Q → R) → MatchBool b P Q → MatchBool b P R
-match-map true P Q R f h = h
-match-map false P Q R f h = f h
+match-map : (o : Option Shown) (Q R : Type 0) (P : Shown → Type 0) → (Q → R) → MatchOption o Q P → MatchOption o R P
+match-map None Q R P f h = f h
+match-map (Some u) Q R P f h = h
 
--- what is shown of a step doesn't depend on more than the clock and the map
-pub IsStepShown-same : (sc : Scenario) (book : BookView) (a b : CoreState) (x : Step) → a.clock ≡ b.clock → a.map ≡ b.map → IsStepShown sc book b x → IsStepShown sc book a x
-IsStepShown-same sc book a b x e f h =
-    match-map (is_empty (domain_of book x.station)) (x.shown ≡ NoChannel x.station) (IsSettledBy sc book (test_task sc book b (test_of x)) x.shown) (IsSettledBy sc book (test_task sc book a (test_of x)) x.shown)
+-- what is shown of a step doesn't depend on more than the clock, the map and the steps
+pub IsStepShown-same : (sc : Scenario) (book : BookView) (a b : CoreState) (x : Step) → a.clock ≡ b.clock → a.map ≡ b.map → a.steps ≡ b.steps → IsStepShown sc book b x → IsStepShown sc book a x
+IsStepShown-same sc book a b x e f g h =
+    let t : ClockTest = test_of x in
+    let unasked : settled_unasked sc book b t ≡ settled_unasked sc book a t = ap₂ (λ c xs. unasked_at sc book c xs t) (sym e) (sym g) in
+    subst (λ o. MatchOption o (IsSettledBy sc book (test_task sc book a t) x.shown) (λ u. x.shown ≡ u)) unasked
+    (match-map (settled_unasked sc book b t) (IsSettledBy sc book (test_task sc book b t) x.shown) (IsSettledBy sc book (test_task sc book a t) x.shown) (λ u. x.shown ≡ u)
     (λ k.
-    subst (λ m. IsSettledBy sc book (task_at sc book a.number a.clock m (test_of x)) x.shown) (sym f)
-    (subst (λ c. IsSettledBy sc book (task_at sc book a.number c b.map (test_of x)) x.shown) (sym e)
-    (shown-number sc book (test_task sc book b (test_of x)) a.number x.shown k))) h
+    subst (λ m. IsSettledBy sc book (task_at sc book a.number a.clock m t) x.shown) (sym f)
+    (subst (λ c. IsSettledBy sc book (task_at sc book a.number c b.map t) x.shown) (sym e)
+    (shown-number sc book (test_task sc book b t) a.number x.shown k))) h)
+  where
+    unasked_at : Scenario → BookView → ClockState → List Step → ClockTest → Option Shown
+    unasked_at sc book c xs t = settled_unasked sc book (record a { clock = c; steps = xs }) t
 
 pub no-room : (shown : Shown) → is_undecided shown ≡ true → shows_room shown ≡ false
 no-room Empty e = cc
 no-room (Fits delta) e = cc
+no-room Same e = cc
 no-room (NoChannel s) e = refl
 no-room (Refuted w how) e = refl
+no-room (Outside proof) e = cc
 no-room (Undecided xs) e = refl
 
 -- ---- one test more
@@ -90,6 +99,10 @@ ready sc book U before state s a e of active = record {
   known = bidder sc book U before state.clock s e active;
   off_air = not-on-air sc book U before state.clock s a e active;
 }
+
+-- the active stations are the scenario's, and not on air
+pub off-air : (sc : Scenario) (book : BookView) (U before : List ClockTest) (clock : ClockState) → IsAuction sc book → clock ≡ after_tests sc book U before (opening_state sc) → AreOffAir sc clock
+off-air sc book U before clock a e s active = (bidder sc book U before clock s e active, not-on-air sc book U before clock s a e active)
 
 -- the tests before agree on what is undecided
 agree : (U before : List ClockTest) (t u : ClockTest) → is_listed before t ≡ false → Contains before u → is_listed (U ++ t ∷ []) u ≡ is_listed U u
@@ -104,16 +117,16 @@ agree U before t u new c =
     or-false false = refl
 
 -- the undecided tests after the step agree with those before on the tests before
-still : (sc : Scenario) (book : BookView) (start : Shown) (state : CoreState) (before after : List ClockTest) (t : ClockTest) (shown : Shown) → IsAuction sc book → IsWalked sc book start state before → clock_tests sc ByFacility ≡ before ++ t ∷ after →
+still : (sc : Scenario) (book : BookView) (start : Shown) (state : CoreState) (before after : List ClockTest) (t : ClockTest) (shown : Shown) → IsAuction sc book → IsWalked sc book start state before → clock_tests sc state.order ≡ before ++ t ∷ after →
     (u : ClockTest) → Contains before u → is_listed (undecided_of (state.steps ++ step_of t shown ∷ [])) u ≡ is_listed (undecided_of state.steps) u
 still sc book start state before after t shown a w parts u c =
     ⊎_elim
-    (λ yes. ap (λ V. is_listed V u) (undecided-push-true state.steps (step_of t shown) yes) ∙ agree (undecided_of state.steps) before t u (no_test_twice sc ByFacility before after t a.stations parts) c)
+    (λ yes. ap (λ V. is_listed V u) (undecided-push-true state.steps (step_of t shown) yes) ∙ agree (undecided_of state.steps) before t u (no_test_twice sc state.order before after t a.stations parts) c)
     (λ no. ap (λ V. is_listed V u) (undecided-push-false state.steps (step_of t shown) no))
     (cases_Bool (is_undecided shown))
 
 -- the clock after the step
-step-clock : (sc : Scenario) (book : BookView) (start : Shown) (state : CoreState) (before after : List ClockTest) (t : ClockTest) (shown : Shown) → IsAuction sc book → IsWalked sc book start state before → clock_tests sc ByFacility ≡ before ++ t ∷ after → is_active state.clock t.station ≡ true → IsStepShown sc book state (step_of t shown) →
+step-clock : (sc : Scenario) (book : BookView) (start : Shown) (state : CoreState) (before after : List ClockTest) (t : ClockTest) (shown : Shown) → IsAuction sc book → IsWalked sc book start state before → clock_tests sc state.order ≡ before ++ t ∷ after → is_active state.clock t.station ≡ true → IsStepShown sc book state (step_of t shown) →
     after_answer sc state.clock t (shows_room shown) ≡ after_tests sc book (undecided_of (state.steps ++ step_of t shown ∷ [])) (before ++ t ∷ []) (opening_state sc)
 step-clock sc book start state before after t shown a w parts active h =
     let U : List ClockTest = undecided_of state.steps in
@@ -123,17 +136,17 @@ step-clock sc book start state before after t shown a w parts active h =
     ⊎_elim
     (λ yes.
     ap (after_answer sc st t) (no-room shown yes) ∙
-    (sym (undecided_in_turn sc book U before t (opening_state sc) active' (no_test_twice sc ByFacility before after t a.stations parts)) ∙
+    (sym (undecided_in_turn sc book U before t (opening_state sc) active' (no_test_twice sc state.order before after t a.stations parts)) ∙
     ap (λ V. after_tests sc book V (before ++ t ∷ []) (opening_state sc)) (sym (undecided-push-true state.steps (step_of t shown) yes))))
     (λ no.
-    let answer : fits book (asked_set sc st t.station) ≡ shows_room shown = subst (λ c. fits book (asked_set sc c t.station) ≡ shows_room shown) w.clock (room sc book state t shown (ready sc book (undecided_of state.steps) before state t.station a w.clock (w.clean, w.stations) active) h no) in
+    let answer : fits book (asked_set sc st t.station) ≡ shows_room shown = subst (λ c. fits book (asked_set sc c t.station) ≡ shows_room shown) w.clock (room sc book state t shown (ready sc book (undecided_of state.steps) before state t.station a w.clock (w.clean, w.stations) active) w.fits active h no) in
     ap (after_answer sc st t) (sym answer) ∙
     (sym (answered_in_turn sc book U before t (opening_state sc) active' (new-test sc book start state before after t a w parts)) ∙
     ap (λ V. after_tests sc book V (before ++ t ∷ []) (opening_state sc)) (sym (undecided-push-false state.steps (step_of t shown) no))))
     (cases_Bool (is_undecided shown))
 
 -- the tests asked after the step
-step-tests : (sc : Scenario) (book : BookView) (start : Shown) (state : CoreState) (before after : List ClockTest) (t : ClockTest) (shown : Shown) → IsAuction sc book → IsWalked sc book start state before → clock_tests sc ByFacility ≡ before ++ t ∷ after → is_active state.clock t.station ≡ true →
+step-tests : (sc : Scenario) (book : BookView) (start : Shown) (state : CoreState) (before after : List ClockTest) (t : ClockTest) (shown : Shown) → IsAuction sc book → IsWalked sc book start state before → clock_tests sc state.order ≡ before ++ t ∷ after → is_active state.clock t.station ≡ true →
     map test_of (state.steps ++ step_of t shown ∷ []) ≡ asked_from sc book (undecided_of (state.steps ++ step_of t shown ∷ [])) (before ++ t ∷ []) (opening_state sc)
 step-tests sc book start state before after t shown a w parts active =
     let U : List ClockTest = undecided_of state.steps in
@@ -148,18 +161,21 @@ step-tests sc book start state before after t shown a w parts active =
     sym (asked_in_turn sc book V before (t ∷ []) op)))
 
 -- the step of an active station's test, shown as it has to be, goes on where the rule goes
-pub walk-step : (sc : Scenario) (book : BookView) (start : Shown) (state : CoreState) (before after : List ClockTest) (t : ClockTest) (shown : Shown) → IsAuction sc book → IsWalked sc book start state before → clock_tests sc ByFacility ≡ before ++ t ∷ after → is_active state.clock t.station ≡ true → IsStepShown sc book state (step_of t shown) → IsWalked sc book start (settled sc state t shown) (before ++ t ∷ [])
+pub walk-step : (sc : Scenario) (book : BookView) (start : Shown) (state : CoreState) (before after : List ClockTest) (t : ClockTest) (shown : Shown) → IsAuction sc book → IsWalked sc book start state before → clock_tests sc state.order ≡ before ++ t ∷ after → is_active state.clock t.station ≡ true → IsStepShown sc book state (step_of t shown) → IsWalked sc book start (settled sc state t shown) (before ++ t ∷ [])
 walk-step sc book start state before after t shown a w parts active h =
-    let walked : CoreState = after_steps sc (after_start sc start) state.steps in
-    let of = new-map sc book state t shown (ready sc book (undecided_of state.steps) before state t.station a w.clock (w.clean, w.stations) active) h in
+    let walked : CoreState = after_steps sc (after_start sc state.order start) state.steps in
+    let of = new-map sc book state t shown (ready sc book (undecided_of state.steps) before state t.station a w.clock (w.clean, w.stations) active) w.fits active h in
     record {
       clock = step-clock sc book start state before after t shown a w parts active h;
       tests = step-tests sc book start state before after t shown a w parts active;
-      shown = AreShown-push sc book (after_start sc start) state.steps (step_of t shown) w.shown (IsStepShown-same sc book walked state (step_of t shown) w.same_clock w.same_map h);
-      same_clock = ap (λ z. z.clock) (after_steps-push sc (after_start sc start) state.steps (step_of t shown)) ∙ ap (λ c. after_answer sc c t (shows_room shown)) w.same_clock;
-      same_map = ap (λ z. z.map) (after_steps-push sc (after_start sc start) state.steps (step_of t shown)) ∙ ap₂ (λ c m. if is_on_air (after_answer sc c t (shows_room shown)) t.station then overlaid m (delta_of shown) else m) w.same_clock w.same_map;
+      shown = AreShown-push sc book (after_start sc state.order start) state.steps (step_of t shown) w.shown (IsStepShown-same sc book walked state (step_of t shown) w.same_clock w.same_map (after_steps-steps sc (after_start sc state.order start) state.steps) h);
+      same_clock = ap (λ z. z.clock) (after_steps-push sc (after_start sc state.order start) state.steps (step_of t shown)) ∙ ap (λ c. after_answer sc c t (shows_room shown)) w.same_clock;
+      same_map = ap (λ z. z.map) (after_steps-push sc (after_start sc state.order start) state.steps (step_of t shown))
+          ∙ (ap (λ xs. if is_on_air (after_answer sc walked.clock t (shows_room shown)) t.station then overlaid walked.map (delta_of xs t.station shown) else walked.map) (after_steps-steps sc (after_start sc state.order start) state.steps)
+          ∙ ap₂ (λ c m. if is_on_air (after_answer sc c t (shows_room shown)) t.station then overlaid m (delta_of state.steps t.station shown) else m) w.same_clock w.same_map);
       clean = of.0;
       stations = of.1;
+      fits = fits-stand-step sc book state t shown a (off-air sc book (undecided_of state.steps) before state.clock a w.clock) active w.fits h;
     }
 
 -- a test of a station that isn't active is passed over
@@ -177,14 +193,11 @@ walk-skip sc book start state before t w idle =
       same_map = w.same_map;
       clean = w.clean;
       stations = w.stations;
+      fits = w.fits;
     }
 
-by_bool : (P Q : Type 0) (b : Bool) → b ≡ true → P → MatchBool b P Q
-by_bool P Q true e h = h
-by_bool P Q false e h = cc
-
 -- the state at the next query, or at the end, stands where the rule comes to
-pub go-on-keeps : (sc : Scenario) (book : BookView) (start : Shown) (ts : List ClockTest) (state : CoreState) (before : List ClockTest) → IsAuction sc book → IsWalked sc book start state before → clock_tests sc ByFacility ≡ before ++ ts → IsUnderWay sc book start (go_on sc book ts state)
+pub go-on-keeps : (sc : Scenario) (book : BookView) (start : Shown) (ts : List ClockTest) (state : CoreState) (before : List ClockTest) → IsAuction sc book → IsWalked sc book start state before → clock_tests sc state.order ≡ before ++ ts → IsUnderWay sc book start (go_on sc book ts state)
 go-on-keeps sc book start [] state before a w parts = record {
   before = before;
   parts = sym parts;
@@ -198,13 +211,13 @@ go-on-keeps sc book start [] state before a w parts = record {
   query = tt;
 }
 go-on-keeps sc book start (t ∷ ts) state before a w parts =
-    let parts' : clock_tests sc ByFacility ≡ (before ++ t ∷ []) ++ ts = parts ∙ sym (append_assoc before (t ∷ []) ts) in
+    let parts' : clock_tests sc state.order ≡ (before ++ t ∷ []) ++ ts = parts ∙ sym (append_assoc before (t ∷ []) ts) in
     let at : CoreState = record state { left = t ∷ ts } in
-    let inner : (c : Bool) → is_active state.clock t.station ≡ true → is_empty (domain_of book t.station) ≡ c → IsUnderWay sc book start (option_map_or (go_on sc book ts) (option_map (settled sc state t) (if c then Some (NoChannel t.station) else None)) at) = λ c. elim c as (λ c. is_active state.clock t.station ≡ true → is_empty (domain_of book t.station) ≡ c → IsUnderWay sc book start (option_map_or (go_on sc book ts) (option_map (settled sc state t) (if c then Some (NoChannel t.station) else None)) at)) [
-      | true ↦ λ active bare.
-          go-on-keeps sc book start ts (settled sc state t (NoChannel t.station)) (before ++ t ∷ []) a
-          (walk-step sc book start state before ts t (NoChannel t.station) a w parts active (by_bool (NoChannel t.station ≡ NoChannel t.station) (IsSettledBy sc book (test_task sc book state t) (NoChannel t.station)) (is_empty (domain_of book t.station)) bare refl)) parts'
-      | false ↦ λ active some. record {
+    let inner : (o : Option Shown) → is_active state.clock t.station ≡ true → settled_unasked sc book state t ≡ o → IsUnderWay sc book start (option_map_or (go_on sc book ts) (option_map (settled sc state t) o) at) = λ o. elim o as (λ o. is_active state.clock t.station ≡ true → settled_unasked sc book state t ≡ o → IsUnderWay sc book start (option_map_or (go_on sc book ts) (option_map (settled sc state t) o) at)) [
+      | Some u ↦ λ active is.
+          let step : IsStepShown sc book state (step_of t u) = subst (λ o. MatchOption o (IsSettledBy sc book (test_task sc book state t) u) (λ unasked. u ≡ unasked)) (sym is) refl in
+          go-on-keeps sc book start ts (settled sc state t u) (before ++ t ∷ []) a (walk-step sc book start state before ts t u a w parts active step) parts'
+      | None ↦ λ active is. record {
         before = before;
         parts = sym parts;
         clock = w.clock;
@@ -214,11 +227,11 @@ go-on-keeps sc book start (t ∷ ts) state before a w parts =
         same_map = w.same_map;
         clean = w.clean;
         stations = w.stations;
-        query = (active, some);
+        query = (active, is);
       }
     ] in
-    let outer : (b : Bool) → is_active state.clock t.station ≡ b → IsUnderWay sc book start (option_map_or (go_on sc book ts) (if b then option_map (settled sc state t) (settled_unasked book state t) else Some state) at) = λ b. elim b as (λ b. is_active state.clock t.station ≡ b → IsUnderWay sc book start (option_map_or (go_on sc book ts) (if b then option_map (settled sc state t) (settled_unasked book state t) else Some state) at)) [
-      | true ↦ λ active. inner (is_empty (domain_of book t.station)) active refl
+    let outer : (b : Bool) → is_active state.clock t.station ≡ b → IsUnderWay sc book start (option_map_or (go_on sc book ts) (if b then option_map (settled sc state t) (settled_unasked sc book state t) else Some state) at) = λ b. elim b as (λ b. is_active state.clock t.station ≡ b → IsUnderWay sc book start (option_map_or (go_on sc book ts) (if b then option_map (settled sc state t) (settled_unasked sc book state t) else Some state) at)) [
+      | true ↦ λ active. inner (settled_unasked sc book state t) active refl
       | false ↦ λ idle. go-on-keeps sc book start ts state (before ++ t ∷ []) a (walk-skip sc book start state before t w idle) parts'
     ] in
     outer (is_active state.clock t.station) refl

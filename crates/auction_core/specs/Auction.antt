@@ -1,5 +1,6 @@
--- An auction between two postings, as callers see it, and what it keeps of a posting that was looked at.
-use Rattle.std.specs.Prelude.{ℕ, ◌≡◌, Bool, ◌&&◌, nat_lt, nat_le, if◌then◌else◌, List, length, Option, Some, None, option_and_then}
+-- An auction between two postings, as callers see it and as the program keeps it, and what it keeps of a posting that was
+-- looked at.
+use Rattle.std.specs.Prelude.{ℕ, ◌≡◌, true, ◌&&◌, nat_lt, if◌then◌else◌, List, length, Option, Some, None, option_and_then}
 use Rattle.pack_defs.specs.Book.{BookView, IsInOrder}
 use Rattle.pack_defs.specs.declared.scenario.Scenario.{Scenario}
 use Rattle.cert_types.specs.declared.answer.Answer.{Answer}
@@ -7,21 +8,12 @@ use Rattle.auction_core.specs.declared.posting.Posting.{Posting}
 use Rattle.auction_core.specs.declared.posting.Reply.{Reply}
 use Rattle.auction_core.specs.declared.posting.Said.{Said}
 use Rattle.auction_core.specs.declared.posting.Said.TheVariants.{Good, Bad}
-use Rattle.auction_core.specs.Clockwork.{IsOfAuction}
+use Rattle.auction_core.specs.Clockwork.{ClockworkView}
+use Rattle.auction_core.specs.Notes.{NotesView}
 use Rattle.auction_core.specs.Replay.{EntryView, kept_answer, replay}
+use Rattle.auction_core.specs.Rule.{KeepsTheRule}
+use Rattle.auction_core.specs.Setup.{IsOfAuction}
 use Rattle.auction_core.specs.State.{CoreState}
-
--- an auction without its history: its scenario and book, its state, and for how many steps and receipts more there is room
-pub record DeskView : Type 0 where
-  pub scenario : Scenario
-  pub book : BookView
-  pub state : CoreState
-  pub steps : ℕ
-  pub receipts : ℕ
-
--- there is room for a step of every station beside the tested one, and for a receipt of every worker
-abbrev pub is_ready : DeskView → Bool
-is_ready desk = nat_lt (length desk.scenario.stations) desk.steps && nat_le (length desk.scenario.workers) desk.receipts
 
 -- The auction's scenario and book, its state, what it keeps of each posting so far, and for how many postings more there
 -- is room.
@@ -32,15 +24,31 @@ pub record AuctionView : Type 0 where
   pub history : List EntryView
   pub spare : ℕ
 
--- for how many postings there is room, where there is room for this many entries of the history: one, or none
-abbrev pub spare_of : DeskView → ℕ → ℕ
-spare_of desk entries = if is_ready desk && nat_lt 0 entries then 1 else 0
+-- the state of an auction between two postings: its clock's, with the Spents noted so far
+abbrev pub state_at : ClockworkView → NotesView → CoreState
+state_at clockwork notes = record clockwork.state { noted = notes.noted }
 
--- The scenario and the book are an auction's, and the history replays to the state.
+-- there is room for all that a posting can add but its entry, a place for each worker's receipt, and the clock rule is kept
+pub record IsReady (clockwork : ClockworkView) (notes : NotesView) : Type 0 where
+  pub steps : clockwork.ready ≡ true
+  pub receipts : notes.ready ≡ true
+  pub places : notes.workers ≡ length clockwork.scenario.workers
+  pub rule : KeepsTheRule clockwork.scenario clockwork.book (state_at clockwork notes)
+
+-- for how many postings there is room, where there is room for this many entries of the history: one, or none
+abbrev pub spare_of : ClockworkView → NotesView → ℕ → ℕ
+spare_of clockwork notes entries = if clockwork.ready && (notes.ready && nat_lt 0 entries) then 1 else 0
+
+-- The scenario and the book are an auction's, and the history replays to the state in the state's order.
 pub record IsReplayed (sc : Scenario) (book : BookView) (history : List EntryView) (state : CoreState) : Type 0 where
   pub auction : IsOfAuction sc book
   pub in_order : IsInOrder book
-  pub replays : replay sc book history ≡ Some state
+  pub replays : replay sc book state.order history ≡ Some state
+
+-- What the program keeps between two postings: a place for each worker's receipt, and a history that replays to the state.
+pub record IsBetween (clockwork : ClockworkView) (notes : NotesView) (history : List EntryView) : Type 0 where
+  pub places : notes.workers ≡ length clockwork.scenario.workers
+  pub replayed : IsReplayed clockwork.scenario clockwork.book history (state_at clockwork notes)
 
 -- the answer that was let through
 abbrev pub let_through : Said → Option Answer

@@ -1,7 +1,13 @@
--- The Spents noted on the standing query, as a place for each worker.
-use Rattle.std.specs.Prelude.{ℕ, ◌+◌, List, [], ◌∷◌, Option, Some, None}
+-- The Spents noted on the standing query: as callers see them, and as a place for each worker.
+use Rattle.std.specs.Prelude.{ℕ, ◌+◌, Bool, List, [], ◌∷◌, Option, Some, None}
 use Rattle.cert_types.specs.declared.answer.Receipt.{Receipt}
 use Rattle.auction_core.specs.State.{NotedSpent}
+
+-- for how many workers there is a place, the Spents noted so far, and whether there is room for a receipt of every worker
+pub record NotesView : Type 0 where
+  pub workers : ℕ
+  pub noted : List NotedSpent
+  pub ready : Bool
 
 -- those that have a receipt, the first place being that of worker w
 abbrev pub notes_from : ℕ → List (Option Receipt) → List NotedSpent

@@ -1,4 +1,4 @@
--- What a posting is told, and the state after it. Workers that answer queries, and the eight replies, are this project's
+-- What a posting is told, and the state after it. Workers that answer queries, and what they are told, are this project's
 -- own.
 use Rattle.std.specs.Prelude.{ℕ, Bool, not, ◌+◌, ◌==◌, nat_lt, nat_le, if◌then◌else◌, List, [], ◌∷◌, length, map, Option, Some, None, option_and_then, slice_get}
 use Rattle.std.specs.List.{list_any}

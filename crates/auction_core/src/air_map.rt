@@ -92,7 +92,7 @@ impl AirMap {
 }
 
 // The stations' numbers.
-fn ids(alloc: Global, stations: &[Station]) -> Result<Vec<u32>, NoMemory>
+pub(crate) fn ids(alloc: Global, stations: &[Station]) -> Result<Vec<u32>, NoMemory>
     ensures { IfOk result (λ ids. ids.items ≡ map (λ x. x.id) stations.now) }
 {
     let mut ids = Vec::with_capacity(alloc, stations.len())?;
@@ -114,7 +114,7 @@ fn no_channels(alloc: Global, places: usize) -> Result<Vec<Option<u8>>, NoMemory
 }
 
 // The place of a number in a list that ascends, if it is there.
-fn place_of(stations: &[u32], station: u32) -> Option<usize>
+pub(crate) fn place_of(stations: &[u32], station: u32) -> Option<usize>
     requires { IsTrue (is_ascending stations.now) }
     ensures { MatchOption result (is_in stations.now station ≡ false) (λ i. (i < length stations.now) × (get_or stations.now i 0 ≡ station)) }
 {

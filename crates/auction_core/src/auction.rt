@@ -1,24 +1,27 @@
 //! An auction: what each posting of a worker does, whoever posts it and when.
 
-ghost use Rattle.std.specs.Prelude.{◌≡◌, ◌≤◌, ◌++◌, ◌∷◌, [], IfOk, MatchOption, OnOk, Some, ⊤, length, option_and_then, option_map, true};
+ghost use Rattle.std.specs.Prelude.{◌≡◌, ◌≤◌, ◌+◌, ◌++◌, ◌∷◌, [], IfOk, MatchOption, OnOk, Some, ⊤, length, option_and_then, option_map, true};
 ghost use Rattle.cert_types.specs.Certificate.{IsTaskOf};
 ghost use Rattle.cert_types.specs.Query.{IsQuery};
 ghost use Rattle.cert_types.specs.declared.answer.Answer.{Answer};
 ghost use Rattle.auction_core.specs.Auction.{entry_told, let_through};
 ghost use Rattle.auction_core.specs.Backed.{IsBacked, record_of};
-ghost use Rattle.auction_core.specs.Clockwork.{IsOfAuction};
 ghost use Rattle.auction_core.specs.Replay.{kept_answer, replay};
 ghost use Rattle.auction_core.specs.Rule.{KeepsTheRule};
 ghost use Rattle.auction_core.specs.Said.{MayBeTaken, StandsFor, taken, with_answer};
+ghost use Rattle.auction_core.specs.Setup.{IsOfAuction};
 ghost use Rattle.auction_core.specs.State.{has_ended, opening, task_of};
 ghost use Rattle.auction_core.specs.Take.{is_noted, take};
 
-use crate::desk::Desk;
+use crate::clockwork::Clockwork;
+use crate::notes::Notes;
 use crate::posting::{Entry, Posting, Reply, Said};
 use crate::record::Record;
+use crate::taking::tell;
 use cert_types::answer::Answer;
 use cert_types::task::Task;
 use pack_defs::book::Book;
+use pack_defs::order::Order;
 use pack_defs::scenario::Scenario;
 use pack_defs::worker::Worker;
 use std::alloc::{AllocError as NoMemory, Global};
@@ -28,41 +31,50 @@ use std::snapshot::Snapshot;
 /// An auction between two postings. It keeps what each posting was told, and keeps the clock rule whatever is posted.
 #[derive(Drop)]
 pub struct Auction {
-    desk: Desk,
+    clockwork: Clockwork,
+    notes: Notes,
     history: Vec<Entry>,
 }
 
 impl Model for Auction {
     ghost use Rattle.std.specs.Prelude.{vec_capacity, vec_len, ◌-◌};
-    ghost use Rattle.auction_core.specs.Auction.{AuctionView, IsReplayed, spare_of};
+    ghost use Rattle.auction_core.specs.Auction.{AuctionView, IsBetween, spare_of, state_at};
 
     ghost Value = { AuctionView };
 
     ghost view = { λ a. record {
-      scenario = a.desk.scenario;
-      book = a.desk.book;
-      state = a.desk.state;
+      scenario = a.clockwork.scenario;
+      book = a.clockwork.book;
+      state = state_at a.clockwork a.notes;
       history = a.history.items;
-      spare = spare_of a.desk (vec_capacity a.history - vec_len a.history);
+      spare = spare_of a.clockwork a.notes (vec_capacity a.history - vec_len a.history);
     } };
 
-    ghost invariant = { λ a. IsReplayed a.desk.scenario a.desk.book a.history.items a.desk.state };
+    ghost invariant = { λ a. IsBetween a.clockwork a.notes a.history.items };
 }
 
 impl Auction {
-    /// The auction of this scenario and book, at its first query or, where it needs none, at its end. It keeps a copy of
-    /// both. The only error is want of memory.
-    pub fn start(alloc: Global, sc: &Scenario, book: &Book) -> Result<Auction, NoMemory>
+    /// The auction of this scenario and book, whose rounds test in this order, at its first query or, where it needs none,
+    /// at its end. It keeps a copy of both. The only error is want of memory.
+    pub fn start(
+        alloc: Global,
+        sc: &Scenario,
+        book: &Book,
+        order: Order,
+    ) -> Result<Auction, NoMemory>
         requires { IsOfAuction sc.now book.now }
         ensures scenario { IfOk result (λ auction. auction.scenario ≡ sc.now) }
         ensures book { IfOk result (λ auction. auction.book ≡ book.now) }
-        ensures state { IfOk result (λ auction. auction.state ≡ opening sc.now book.now) }
+        ensures state { IfOk result (λ auction. auction.state ≡ opening sc.now book.now order) }
         ensures history { IfOk result (λ auction. auction.history ≡ []) }
     {
         // With its length a book says that it is in order, which the history's laws ask of it.
         let _ = book.len();
+        let clockwork = Clockwork::open(alloc, sc, book, order)?;
+        let notes = Notes::of_none(alloc, clockwork.workers().len())?;
         Ok(Auction {
-            desk: Desk::open(alloc, sc, book)?,
+            clockwork,
+            notes,
             history: Vec::new(alloc),
         })
     }
@@ -71,56 +83,58 @@ impl Auction {
     pub fn book(&self) -> &Book
         ensures { result.now ≡ self.now.book }
     {
-        self.desk.book()
+        self.clockwork.book()
     }
 
     /// The workers of the scenario: one to sixteen.
     pub fn workers(&self) -> &[Worker]
         ensures workers { result.now ≡ self.now.scenario.workers }
+        ensures some { 1 ≤ length result.now }
         ensures few { length result.now ≤ 16 }
     {
-        self.desk.workers()
+        self.clockwork.workers()
     }
 
     /// The number of the standing query, from 1; once the auction has ended, one past the last.
     pub fn number(&self) -> u64
         ensures { result ≡ self.now.state.number }
     {
-        self.desk.number()
+        self.clockwork.number()
     }
 
     /// Whether the auction has ended: no query is left.
     pub fn ended(&self) -> bool
         ensures { result ≡ has_ended self.now.state }
     {
-        self.desk.has_ended()
+        self.clockwork.has_ended()
     }
 
     /// Whether this worker's receipt for the standing query is noted; never of a worker that the scenario hasn't.
     pub fn noted(&self, worker: u32) -> bool
         ensures { result ≡ is_noted self.now.state.noted worker }
     {
-        self.desk.has_noted(worker)
+        self.notes.has(worker)
     }
 
-    /// How many postings there were. What each was told replays to the state, and the state keeps the clock rule.
+    /// How many postings there were. What each was told replays to the state, in the order in which its rounds test, and the
+    /// state keeps the clock rule.
     pub fn posted(&self) -> u64
         ensures count { result ≡ length self.now.history }
-        ensures replays { replay self.now.scenario self.now.book self.now.history ≡ Some self.now.state }
+        ensures replays { replay self.now.scenario self.now.book self.now.state.order self.now.history ≡ Some self.now.state }
         ensures rule { KeepsTheRule self.now.scenario self.now.book self.now.state }
     {
         self.history.len() as u64
     }
 
-    /// The standing query; none where the auction has ended. It costs what the component of the tested station costs, or,
-    /// while the start test stands, one pass over the stations. The only error is want of memory. A solver may be asked it,
-    /// and an answer to it may be checked.
+    /// The standing query; none where the auction has ended. It costs the tested station's pairs, one pass over the
+    /// stations, and a search by halves for each station of the query. The only error is want of memory. A solver may be
+    /// asked it, and an answer to it may be checked.
     pub fn task(&self, alloc: Global) -> Result<Option<Task>, NoMemory>
         ensures task { IfOk result (λ task. task ≡ task_of self.now.scenario self.now.book self.now.state) }
         ensures checked { IfOk result (λ task. MatchOption task ⊤ (IsTaskOf self.now.book)) }
         ensures query { IfOk result (λ task. MatchOption task ⊤ (IsQuery self.now.book)) }
     {
-        self.desk.task(alloc)
+        self.clockwork.task(alloc)
     }
 
     /// Makes room for all that one posting can add. The only error is want of memory, and nothing else is changed.
@@ -132,14 +146,16 @@ impl Auction {
         ensures history { self.new.history ≡ self.old.history }
     {
         self.history.reserve(1)?;
-        self.desk.reserve()
+        self.notes.reserve()?;
+        self.clockwork.reserve()
     }
 
     /// Does what the posting does, and answers what it is told: it is turned away, or its answer settles the query, is
     /// noted or changes nothing. An answer that was let through has to be valid for the standing query and its worker,
-    /// unless the posting is turned away. Where what the posting says of some answer is so, the same is done as if that
-    /// answer had been posted without a look at it. The history keeps what it was told, and the state keeps the clock
-    /// rule. It takes no memory, and costs what the stations passed up to the next query cost.
+    /// unless the posting is turned away. If what it says is true of an answer, it does what posting that answer itself would
+    /// do. The history keeps what it was told, and the state keeps the clock rule. It takes no memory, and costs what the
+    /// stations passed up to the next query cost, and for a station that goes on air a pass over the stations for each part
+    /// that it joins.
     pub fn take(&mut self, posting: Posting) -> Reply
         requires spare { 1 ≤ self.old.spare }
         requires said { MayBeTaken self.old.scenario self.old.book self.old.state posting }
@@ -148,13 +164,15 @@ impl Auction {
             (result, self.new.state) ≡ take self.old.scenario self.old.book self.old.state (with_answer posting answer) }
         ensures history { self.new.history ≡ self.old.history ++ entry_told posting result ∷ [] }
         ensures rule { KeepsTheRule self.new.scenario self.new.book self.new.state }
+        ensures order { self.new.state.order ≡ self.old.state.order }
+        ensures room { self.old.spare ≤ self.new.spare + 1 }
         ensures scenario { self.new.scenario ≡ self.old.scenario }
         ensures book { self.new.book ≡ self.old.book }
     {
         let worker = posting.worker;
         let number = posting.number;
         let answer = let_through(&posting.said);
-        let reply = self.desk.tell(posting);
+        let reply = tell(&mut self.clockwork, &mut self.notes, posting);
         self.history.push_reserved(Entry {
             worker,
             number,
@@ -169,9 +187,9 @@ impl Auction {
         requires ended { has_ended self.state ≡ true }
         requires scenario { scenario ≡ self.scenario }
         ensures record_is { IfOk result (λ rec. rec ≡ record_of scenario self.state) }
-        ensures backed { IfOk result (IsBacked scenario self.book) }
+        ensures backed { IfOk result (IsBacked scenario self.book self.state.order) }
     {
-        self.desk.into_record(alloc, scenario)
+        self.clockwork.into_record(alloc, scenario)
     }
 }
 

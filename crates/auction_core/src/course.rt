@@ -1,21 +1,24 @@
 //! Where the clock stands between two tests, and how a settled test moves it.
 
-ghost use Rattle.std.specs.Prelude.{◌≡◌, ◌≢◌, ◌<◌, ◌≤◌, ◌+◌, ◌-◌, ℕ, [], ◌∷◌, ◌++◌, ◌⊎◌, Some, IfOk, OnOk, false, true, length, if◌then◌else◌, nat_lt, None, slice_index, slice_index_or, slice_set};
+ghost use Rattle.std.specs.Prelude.{◌≡◌, ◌≢◌, ◌<◌, ◌≤◌, ◌+◌, ℕ, [], None, Some, IfOk, OnOk, false, true, length, slice_index};
 ghost use Rattle.pack_defs.specs.ChannelMap.{overlaid};
 ghost use Rattle.pack_defs.specs.Lists.{has_station, is_empty, is_in};
-ghost use Rattle.pack_defs.specs.Scenario.{IsWithinLimits, facilities};
-ghost use Rattle.pack_defs.specs.Prices.{last_round, prices};
-ghost use Rattle.auction_core.specs.Backed.{record_of};
-ghost use Rattle.auction_core.specs.Clock.{stands_active};
-ghost use Rattle.auction_core.specs.Course.{GivesWithin, IsAtRest, IsCourse, IsDue, IsOver, IsSettled, clock_of, core_state, left_of, map_after, paid, places_left, test_at};
-ghost use Rattle.auction_core.specs.State.{before_start, delta_of, go_on, start_fits};
+ghost use Rattle.pack_defs.specs.ClockRule.{is_active, opening_state};
+ghost use Rattle.pack_defs.specs.Prices.{last_round};
+ghost use Rattle.pack_defs.specs.Scenario.{facilities};
+ghost use Rattle.auction_core.specs.Backed.{IsStartShown, IsStepShown, record_of};
+ghost use Rattle.auction_core.specs.Clock.{AreStandings, stands_on_air};
+ghost use Rattle.auction_core.specs.Course.{IsAtRest, IsCourse, IsDue, IsSettled, clock_of, core_state, is_roomy, left_of, map_after, next_test, paid, turns_left, unasked_of};
+ghost use Rattle.auction_core.specs.Parts.{IsPartsOf, label_of, labelled, relabelled};
+ghost use Rattle.auction_core.specs.State.{before_start, go_on, is_same, last_fit, start_delta, start_fits, started};
+ghost use Rattle.auction_core.specs.StepList.{takes_verdict, way_of};
 
 use crate::air_map::AirMap;
 use crate::clock::{Clock, Standing};
+use crate::past::Past;
 use crate::record::{Record, Shown, Step};
-use offer_sched::offers::last_round;
+use crate::setup::Setup;
 use pack_defs::book::Book;
-use pack_defs::items::Items;
 use pack_defs::scenario::Scenario;
 use std::alloc::{AllocError as NoMemory, Global};
 use std::marker::Model;
@@ -26,15 +29,14 @@ pub struct Course {
     start: Option<Shown>,
     clock: Clock,
     map: AirMap,
-    steps: Vec<Step>,
+    past: Past,
     total: u64,
-    // The next test: its round, and the place of its station.
+    // The next test: its round, and where its station comes in the round.
     round: u32,
-    place: usize,
+    turn: usize,
 }
 
 impl Model for Course {
-    ghost use Rattle.std.specs.Prelude.{vec_capacity, vec_len, ◌-◌};
     ghost use Rattle.auction_core.specs.Course.{CourseView};
 
     ghost Value = { CourseView };
@@ -43,31 +45,36 @@ impl Model for Course {
       start = c.start;
       standings = c.clock;
       map = c.map;
-      steps = c.steps.items;
+      past = c.past;
       total = c.total;
       round = c.round;
-      place = c.place;
-      room = vec_capacity c.steps - vec_len c.steps;
+      turn = c.turn;
     } };
 }
 
 impl Course {
-    /// The course before the start test, with room for a step of each station. The only error is want of memory.
-    pub fn open(alloc: Global, sc: &Scenario) -> Result<Course, NoMemory>
-        requires { IsWithinLimits sc.now }
-        ensures holds { IfOk result (IsCourse sc.now) }
-        ensures opening { IfOk result (λ c. core_state sc.now c 1 ≡ before_start sc.now) }
-        ensures room { IfOk result (λ c. length sc.now.stations ≤ c.room) }
+    /// The course before the start test, with room for a step of each test. The only error is want of memory.
+    pub fn open(alloc: Global, setup: &Setup) -> Result<Course, NoMemory>
+        ensures holds { IfOk result (IsCourse setup.now) }
+        ensures opening { IfOk result (λ c. core_state setup.now c 1 ≡ before_start setup.now.scenario setup.now.order) }
+        ensures room { IfOk result (λ c. is_roomy setup.now c ≡ true) }
     {
-        Ok(Course {
+        let sc = setup.scenario();
+        let stations = sc.stations.as_slice();
+        let clock = Clock::open(alloc, sc)?;
+        let mut past = Past::none(alloc, stations)?;
+        air_those(&mut past, setup, clock.standings());
+        let mut course = Course {
             start: None,
-            clock: Clock::open(alloc, sc)?,
-            map: AirMap::none(alloc, sc.stations.as_slice())?,
-            steps: Vec::with_capacity(alloc, sc.stations.as_slice().len())?,
+            clock,
+            map: AirMap::none(alloc, stations)?,
+            past,
             total: 0,
             round: 1,
-            place: 0,
-        })
+            turn: 0,
+        };
+        course.reserve(setup)?;
+        Ok(course)
     }
 
     /// How the start test was settled, if it was.
@@ -77,24 +84,76 @@ impl Course {
         &self.start
     }
 
-    /// Makes room for this many steps more. The only error is want of memory, and nothing else is changed.
-    pub fn reserve(&mut self, more: usize) -> Result<(), NoMemory>
-        ensures room { OnOk result (more ≤ self.new.room) }
-        ensures same { self.new ≡ record self.old { room = self.new.room } }
+    /// What is kept of the tests so far.
+    pub fn past(&self) -> &Past
+        ensures { result.now ≡ self.now.past }
     {
-        self.steps.reserve(more)
+        &self.past
     }
 
-    /// The start test is settled so: where it fits, the map takes its channels. It takes no memory.
-    pub fn begin(&mut self, shown: Shown)
-        requires within { (s : ℕ) → has_station (delta_of shown) s ≡ true → is_in self.old.map.stations s ≡ true }
+    /// The channel map of the stations on air.
+    pub fn map(&self) -> &AirMap
+        ensures { result.now ≡ self.now.map }
+    {
+        &self.map
+    }
+
+    /// The round of the next test.
+    pub fn round(&self) -> u32
+        ensures { result ≡ self.now.round }
+    {
+        self.round
+    }
+
+    /// The station of the next test, which is due.
+    pub fn station(&self, setup: &Setup) -> u32
+        requires { IsDue setup.now self.now }
+        ensures { result ≡ (next_test setup.now self.now).station }
+    {
+        let place = setup.place(self.turn);
+        setup.scenario().stations.as_slice()[place].id
+    }
+
+    /// Makes room for a step of every test that is left, and for the verdict of one. The only error is want of memory, and
+    /// nothing else is changed.
+    pub fn reserve(&mut self, setup: &Setup) -> Result<(), NoMemory>
+        requires round { self.old.round ≤ last_round setup.now.scenario }
+        requires turn { self.old.turn ≤ length setup.now.scenario.stations }
+        ensures room { OnOk result (is_roomy setup.now self.new ≡ true) }
+        ensures same { self.new ≡ record self.old { past = record self.old.past { room = self.new.past.room; verdicts = self.new.past.verdicts } } }
+    {
+        let turns = setup.turns();
+        let rounds = (setup.last_round() - self.round) as usize;
+        self.past
+            .reserve(rounds * (turns + 1) + (turns - self.turn))
+    }
+
+    /// The start test is settled so, and the clock goes on to its first query where it runs. It takes no memory.
+    pub fn begin(&mut self, setup: &Setup, shown: Shown)
+        requires holds { IsCourse setup.now self.old }
+        requires fresh { self.old.start ≡ None }
+        requires shown_is { IsStartShown setup.now.scenario setup.now.book shown }
+        requires room { is_roomy setup.now self.old ≡ true }
+        ensures holds { IsCourse setup.now self.new }
+        ensures rest { start_fits self.new.start ≡ true → IsAtRest setup.now self.new }
+        ensures state { (n : ℕ) → core_state setup.now self.new n ≡ started setup.now.scenario setup.now.book (core_state setup.now self.old n) shown }
+    {
+        self.show_start(shown);
+        if self.is_running() {
+            self.go_on(setup);
+        }
+    }
+
+    // The start test is settled so: where it fits, the map takes its channels.
+    fn show_start(&mut self, shown: Shown)
+        requires { (f : ℕ) → has_station (start_delta shown) f ≡ true → is_in self.old.map.stations f ≡ true }
         ensures { self.new ≡ record self.old {
           start = Some shown;
-          map = record { stations = self.old.map.stations; entries = overlaid self.old.map.entries (delta_of shown) };
+          map = record { stations = self.old.map.stations; entries = overlaid self.old.map.entries (start_delta shown) };
         } }
     {
-        if let Shown::Fits(map) = &shown {
-            self.map.overlay(map);
+        if let Shown::Fits(delta) = &shown {
+            self.map.overlay(delta);
         }
         self.start = Some(shown);
     }
@@ -110,159 +169,178 @@ impl Course {
     }
 
     /// Whether no test is left. The clock is at rest or has never run.
-    pub fn is_over(&self, sc: &Scenario) -> bool
-        requires holds { IsCourse sc.now self.now }
-        requires limits { IsWithinLimits sc.now }
-        requires rest { start_fits self.now.start ≡ true → IsOver sc.now self.now ⊎ IsDue sc.now self.now }
-        ensures { result ≡ is_empty (left_of sc.now self.now) }
+    pub fn is_over(&self, setup: &Setup) -> bool
+        requires holds { IsCourse setup.now self.now }
+        requires rest { start_fits self.now.start ≡ true → IsAtRest setup.now self.now }
+        ensures { result ≡ is_empty (left_of setup.now self.now) }
     {
-        !self.is_running() || self.place == sc.stations.as_slice().len()
-    }
-
-    /// The place of the next test's station.
-    pub fn place(&self) -> usize
-        ensures { result ≡ self.now.place }
-    {
-        self.place
-    }
-
-    /// The round of the next test.
-    pub fn round(&self) -> u32
-        ensures { result ≡ self.now.round }
-    {
-        self.round
-    }
-
-    /// Where each station stands.
-    pub fn standings(&self) -> &[Standing]
-        ensures { result.now ≡ self.now.standings }
-    {
-        self.clock.standings()
-    }
-
-    /// The channel map of the stations on air.
-    pub fn map(&self) -> &AirMap
-        ensures { result.now ≡ self.now.map }
-    {
-        &self.map
+        !self.is_running() || self.turn == setup.turns()
     }
 
     /// The record of a course that has ended, whose start was settled. The only error is want of memory.
-    pub fn into_record(self, alloc: Global, scenario: Scenario) -> Result<Record, NoMemory>
-        requires holds { IsCourse scenario self }
+    pub fn into_record(
+        self,
+        alloc: Global,
+        setup: &Setup,
+        scenario: Scenario,
+    ) -> Result<Record, NoMemory>
+        requires holds { IsCourse setup.now self }
         requires settled { self.start ≢ None }
-        ensures { IfOk result (λ rec. rec ≡ record_of scenario (core_state scenario self 0)) }
+        requires scenario { scenario ≡ setup.now.scenario }
+        ensures { IfOk result (λ rec. rec ≡ record_of scenario (core_state setup.now self 0)) }
     {
         let Course {
             start,
             map,
-            steps,
+            past,
             total,
             ..
         } = self;
         let Some(start) = start else { unreachable!() };
         Ok(Record {
             scenario,
+            order: setup.order(),
             ending: start.ending(),
             start,
-            steps: Items::from_vec(steps),
+            steps: past.into_steps(alloc)?,
             map: map.whole(alloc)?,
             total,
         })
     }
 
-    /// The next test is settled so; its station is active. The clock moves, the step is kept, the map takes the channels
-    /// where the station goes on air, and the next place is the test's. It takes no memory.
-    pub fn settle(&mut self, sc: &Scenario, schedule: &[u32], shown: Shown)
-        requires limits { IsWithinLimits sc.now }
-        requires schedule { schedule.now ≡ prices sc.now }
-        requires holds { IsCourse sc.now self.old }
-        requires due { IsDue sc.now self.old }
-        requires within { GivesWithin sc.now shown }
-        requires room { 1 ≤ self.old.room }
+    /// The next test, which is due, is settled so. The clock moves, the step is kept, the map takes the channels of the
+    /// station's last fit where it goes on air, and the next test is the one behind. It takes no memory.
+    pub fn settle(&mut self, setup: &Setup, shown: Shown)
+        requires holds { IsCourse setup.now self.old }
         requires running { start_fits self.old.start ≡ true }
-        ensures settled { IsSettled sc.now shown self.old self.new }
+        requires due { IsDue setup.now self.old }
+        requires shown_is { IsStepShown setup.now.scenario setup.now.book (core_state setup.now self.old 0) (record { round = (next_test setup.now self.old).round; station = (next_test setup.now self.old).station; shown = shown }) }
+        requires room { 1 ≤ self.old.past.room }
+        requires verdict { takes_verdict (way_of shown) ≡ true → 1 ≤ self.old.past.verdicts }
+        ensures settled { IsSettled setup.now shown self.old self.new }
         ensures running { self.new.start ≡ self.old.start }
-        ensures room { self.old.room ≤ self.new.room + 1 }
-        ensures next { self.new.place ≡ self.old.place + 1 }
+        ensures room { self.old.past.room ≤ self.new.past.room + 1 }
+        ensures next { self.new.turn ≡ self.old.turn + 1 }
         ensures round { self.new.round ≡ self.old.round }
     {
-        let place = self.place;
+        let sc = setup.scenario();
         let round = self.round;
+        let place = setup.place(self.turn);
         let station = sc.stations.as_slice()[place].id;
-        self.clock
-            .settle(sc, schedule, place, round, shown.shows_room());
+        let fits = shown.shows_room();
+        self.clock.settle(sc, setup.schedule(), place, round, fits);
+        self.past.note(
+            place,
+            Step {
+                round,
+                station,
+                shown,
+            },
+        );
         let standing = self.clock.standings()[place];
         self.total += paid(&standing);
-        take_channels(&mut self.map, &standing, &shown);
-        self.steps.push_reserved(Step {
-            round,
-            station,
-            shown,
-        });
-        self.place = place + 1;
+        take_if(&mut self.map, &self.past, place, &standing);
+        air_if(&mut self.past, setup.book(), station, &standing);
+        self.turn += 1;
     }
 
-    // Goes past the next place where no query is due there: at the end of a round, at a station that is not asked any more,
-    // or at one without a channel, whose test is settled so. Says whether it did.
-    fn pass(&mut self, sc: &Scenario, book: &Book, schedule: &[u32]) -> bool
-        requires limits { IsWithinLimits sc.now }
-        requires schedule { schedule.now ≡ prices sc.now }
-        requires holds { IsCourse sc.now self.old }
-        requires running { start_fits self.old.start ≡ true }
-        requires room { length (clock_of sc.now self.old).active ≤ self.old.room }
-        ensures holds { IsCourse sc.now self.new }
-        ensures running { self.new.start ≡ self.old.start }
-        ensures room { length (clock_of sc.now self.new).active ≤ self.new.room }
-        ensures same { (n : ℕ) → go_on sc.now book.now (left_of sc.now self.new) (core_state sc.now self.new n) ≡ go_on sc.now book.now (left_of sc.now self.old) (core_state sc.now self.old n) }
-        ensures rest { result ≡ false → IsAtRest sc.now book.now self.new }
-        ensures nearer { result ≡ true → places_left sc.now self.new < places_left sc.now self.old }
+    // How the next test, which is due, is settled without a query, if it is: its station has no channel, or it asks about
+    // the same stations as the test of its station one round before.
+    fn unasked(&self, setup: &Setup) -> Option<Shown>
+        requires holds { IsCourse setup.now self.now }
+        requires running { start_fits self.now.start ≡ true }
+        requires due { IsDue setup.now self.now }
+        ensures { result ≡ unasked_of setup.now self.now }
     {
-        if self.place == sc.stations.as_slice().len() {
-            return self.next_round(sc);
+        let station = self.station(setup);
+        if setup.book().domain(station).is_empty() {
+            return Some(Shown::NoChannel(station));
         }
-        if !self.clock.is_active(self.place) {
-            self.place += 1;
-            return true;
+        if self.is_same(setup) {
+            return Some(Shown::Same);
         }
-        let station = sc.stations.as_slice()[self.place].id;
-        if !book.domain(station).is_empty() {
+        None
+    }
+
+    // Whether the next test, which is due, asks about the same stations as the test of its station one round before.
+    fn is_same(&self, setup: &Setup) -> bool
+        requires holds { IsCourse setup.now self.now }
+        requires running { start_fits self.now.start ≡ true }
+        requires due { IsDue setup.now self.now }
+        ensures { result ≡ is_same setup.now.scenario setup.now.book (core_state setup.now self.now 0) (next_test setup.now self.now) }
+    {
+        // In the first round there is none before.
+        if self.round == 1 {
             return false;
         }
-        self.settle(sc, schedule, Shown::NoChannel(station));
+        let place = setup.place(self.turn);
+        let station = setup.scenario().stations.as_slice()[place].id;
+        !self.past.has_changed(setup.book(), place, station)
+    }
+
+    // Whether the station that comes next in this round is still asked.
+    fn is_due(&self, setup: &Setup) -> bool
+        requires holds { IsCourse setup.now self.now }
+        requires turn { self.now.turn < length setup.now.scenario.stations }
+        ensures { result ≡ is_active (clock_of setup.now self.now) (next_test setup.now self.now).station }
+    {
+        self.clock.is_active(setup.place(self.turn))
+    }
+
+    // Goes past the next turn where no query is due there: at the end of a round, at a station that is not asked any more,
+    // or at a test that is settled without one. Says whether it did.
+    fn pass(&mut self, setup: &Setup) -> bool
+        requires holds { IsCourse setup.now self.old }
+        requires running { start_fits self.old.start ≡ true }
+        requires room { turns_left setup.now self.old ≤ self.old.past.room }
+        ensures holds { IsCourse setup.now self.new }
+        ensures running { self.new.start ≡ self.old.start }
+        ensures room { turns_left setup.now self.new ≤ self.new.past.room }
+        ensures same { (n : ℕ) → go_on setup.now.scenario setup.now.book (left_of setup.now self.new) (core_state setup.now self.new n) ≡ go_on setup.now.scenario setup.now.book (left_of setup.now self.old) (core_state setup.now self.old n) }
+        ensures rest { result ≡ false → IsAtRest setup.now self.new }
+        ensures nearer { result ≡ true → turns_left setup.now self.new < turns_left setup.now self.old }
+    {
+        if self.turn == setup.turns() {
+            return self.next_round(setup);
+        }
+        if !self.is_due(setup) {
+            self.turn += 1;
+            return true;
+        }
+        let Some(shown) = self.unasked(setup) else {
+            return false;
+        };
+        self.settle(setup, shown);
         true
     }
 
     // At the end of a round goes to the next one, if there is one. Says whether it did.
-    fn next_round(&mut self, sc: &Scenario) -> bool
-        requires limits { IsWithinLimits sc.now }
-        requires holds { IsCourse sc.now self.old }
-        requires end { self.old.place ≡ length sc.now.stations }
-        ensures next { result ≡ true → (self.old.round < last_round sc.now) × (self.new ≡ record self.old { round = self.old.round + 1; place = 0 }) }
-        ensures over { result ≡ false → (self.old.round ≡ last_round sc.now) × (self.new ≡ self.old) }
+    fn next_round(&mut self, setup: &Setup) -> bool
+        requires holds { IsCourse setup.now self.old }
+        requires end { self.old.turn ≡ length setup.now.scenario.stations }
+        ensures next { result ≡ true → (self.old.round < last_round setup.now.scenario) × (self.new ≡ record self.old { round = self.old.round + 1; turn = 0 }) }
+        ensures over { result ≡ false → (self.old.round ≡ last_round setup.now.scenario) × (self.new ≡ self.old) }
     {
-        if self.round == last_round(sc) {
+        if self.round == setup.last_round() {
             return false;
         }
         self.round += 1;
-        self.place = 0;
+        self.turn = 0;
         true
     }
 
     /// Goes on to the next test that needs a query, or to the end, past each test of a station that is not asked any more,
-    /// and settles each test of a station without a channel on the way. It takes no memory.
-    pub fn go_on(&mut self, sc: &Scenario, book: &Book, schedule: &[u32])
-        requires limits { IsWithinLimits sc.now }
-        requires schedule { schedule.now ≡ prices sc.now }
-        requires holds { IsCourse sc.now self.old }
+    /// and settles each test that needs none on the way. It takes no memory.
+    pub fn go_on(&mut self, setup: &Setup)
+        requires holds { IsCourse setup.now self.old }
         requires running { start_fits self.old.start ≡ true }
-        requires room { length (clock_of sc.now self.old).active ≤ self.old.room }
-        ensures holds { IsCourse sc.now self.new }
-        ensures rest { IsAtRest sc.now book.now self.new }
+        requires room { turns_left setup.now self.old ≤ self.old.past.room }
+        ensures holds { IsCourse setup.now self.new }
+        ensures rest { IsAtRest setup.now self.new }
         ensures running { self.new.start ≡ self.old.start }
-        ensures state { (n : ℕ) → core_state sc.now self.new n ≡ go_on sc.now book.now (left_of sc.now self.old) (core_state sc.now self.old n) }
+        ensures state { (n : ℕ) → core_state setup.now self.new n ≡ go_on setup.now.scenario setup.now.book (left_of setup.now self.old) (core_state setup.now self.old n) }
     {
-        while self.pass(sc, book, schedule) {}
+        while self.pass(setup) {}
     }
 }
 
@@ -276,12 +354,46 @@ fn paid(standing: &Standing) -> u64
     }
 }
 
-// The map takes the verdict's channels where the station stands on air.
-fn take_channels(map: &mut AirMap, standing: &Standing, shown: &Shown)
-    requires { (s : ℕ) → has_station (delta_of shown.now) s ≡ true → is_in map.old.stations s ≡ true }
-    ensures { map.new ≡ record { stations = map.old.stations; entries = map_after map.old.entries standing.now shown.now } }
+// The map takes the channels of the last fit of the station at this place, where it stands on air.
+fn take_if(map: &mut AirMap, past: &Past, place: usize, standing: &Standing)
+    requires place { place < length past.now.parts.stations }
+    requires within { (f : ℕ) → has_station (last_fit past.now.steps (slice_index past.now.parts.stations place) []) f ≡ true → is_in map.old.stations f ≡ true }
+    ensures { map.new ≡ record { stations = map.old.stations; entries = map_after map.old.entries standing.now (last_fit past.now.steps (slice_index past.now.parts.stations place) []) } }
 {
-    if let (Standing::OnAir { .. }, Shown::Fits(delta)) = (standing, shown) {
-        map.overlay(delta);
+    if !standing.is_on_air() {
+        return;
+    }
+    if let Some(fit) = past.last_fit(place) {
+        map.overlay(fit);
+    }
+}
+
+// The station, where it stands so: on air, it joins the parts.
+fn air_if(past: &mut Past, book: &Book, station: u32, standing: &Standing)
+    requires known { is_in past.old.parts.stations station ≡ true }
+    requires few { past.old.on_air < 8192 }
+    ensures same { past.new ≡ record past.old { parts = past.new.parts; on_air = past.new.on_air } }
+    ensures stations { past.new.parts.stations ≡ past.old.parts.stations }
+    ensures went { stands_on_air standing.now ≡ true → (past.new.on_air ≡ past.old.on_air + 1) × ((z : ℕ) → label_of past.new.parts z ≡ relabelled book.now (labelled past.old.parts) (label_of past.old.parts) station (past.old.on_air + 1) z) }
+    ensures stood { stands_on_air standing.now ≡ false → (past.new.on_air ≡ past.old.on_air) × (past.new.parts ≡ past.old.parts) }
+{
+    if standing.is_on_air() {
+        past.air(book, station);
+    }
+}
+
+// The stations that stand on air from the start go on air, one after another.
+fn air_those(past: &mut Past, setup: &Setup, standings: &[Standing])
+    requires stations { past.old.parts.stations ≡ facilities setup.now.scenario }
+    requires none { (z : ℕ) → label_of past.old.parts z ≡ 0 }
+    requires on_air { past.old.on_air ≡ 0 }
+    requires standings { AreStandings setup.now.scenario (opening_state setup.now.scenario) standings.now }
+    ensures parts { IsPartsOf setup.now.scenario setup.now.book (opening_state setup.now.scenario) past.new.parts }
+    ensures on_air { past.new.on_air ≡ length (opening_state setup.now.scenario).on_air }
+    ensures same { past.new ≡ record past.old { parts = past.new.parts; on_air = past.new.on_air } }
+{
+    let stations = setup.scenario().stations.as_slice();
+    for i in 0..stations.len() {
+        air_if(past, setup.book(), stations[i].id, &standings[i]);
     }
 }

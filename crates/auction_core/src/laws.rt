@@ -1,26 +1,29 @@
-ghost use Rattle.std.specs.Prelude.{◌≡◌, List, [], ◌∷◌, ◌++◌, Some, None, true, map};
+ghost use Rattle.std.specs.Prelude.{false, Option, ◌≡◌, List, [], ◌∷◌, ◌++◌, Some, None, true, map};
+ghost use Rattle.std.specs.List.{list_any};
 ghost use Rattle.pack_defs.specs.Examples.{three_stations, lone_station, lone_bid, row, test};
 ghost use Rattle.pack_defs.specs.ResultRows.{Outcome};
 ghost use Rattle.pack_defs.specs.declared.order.Order.TheVariants.{ByFacility};
 ghost use Rattle.pack_defs.specs.Book.{BookView};
 ghost use Rattle.pack_defs.specs.Packing.{IsClean};
+ghost use Rattle.pack_defs.specs.declared.order.Order.{Order};
 ghost use Rattle.pack_defs.specs.declared.scenario.Scenario.{Scenario};
 ghost use Rattle.pack_defs.specs.ClockRule.{clock_rule, on_air_set};
 ghost use Rattle.cert_types.specs.Examples.{learner};
-ghost use Rattle.auction_core.specs.State.{CoreState, opening, has_ended};
-ghost use Rattle.auction_core.specs.Take.{PostingView, take, turned_away, fault_of};
-ghost use Rattle.auction_core.specs.Backed.{IsBacked, record_of, test_of, undecided_of};
-ghost use Rattle.auction_core.specs.Postings.{HoldsAfter};
-ghost use Rattle.auction_core.specs.Replay.{EntryView, replay};
+ghost use Rattle.auction_core.specs.State.{CoreState, test_of, before_start, opening, has_ended};
+ghost use Rattle.auction_core.specs.Take.{PostingView, after_postings, fault_of, is_noted, take, turned_away};
+ghost use Rattle.auction_core.specs.Backed.{IsBacked, is_outside, record_of, undecided_of};
+ghost use Rattle.auction_core.specs.Postings.{GoesOn, HoldsAfter, HoldsFrom, state_of};
+ghost use Rattle.auction_core.specs.Prefix.{IsPrefix, resumed};
+ghost use Rattle.auction_core.specs.Replay.{EntryView, replay, replay_from};
 ghost use Rattle.auction_core.specs.Said.{StandsFor, taken, with_answer};
 ghost use Rattle.auction_core.specs.Rule.{IsAuction, KeepsTheRule};
-ghost use Rattle.auction_core.specs.Examples.{auction_of_three, posting, fit, refuted, one_line, three_fits, four_fits, state_after, all_on_air, start_after, no_station, lone_start, other_fits, rows_after, replies_to, of_each_kind, one_of_five, five_bids, five_after};
+ghost use Rattle.auction_core.specs.Examples.{auction_of_three, posting, fit, refuted, one_line, three_fits, four_fits, state_after, all_on_air, start_after, no_station, lone_start, other_fits, rows_after, replies_to, of_each_kind, one_of_five, five_bids, five_after, fits_beside_second, second_after};
 
 use crate::posting::{Posting, Reply};
-use crate::record::{Ending, Record, Shown};
-use cert_types::answer::{Answer, Place};
+use crate::record::{Ending, Record, Shown, Step};
+use cert_types::answer::{Answer, Place, Receipt};
 
-/// At the fourth query an answer to the third is told so and changes nothing; after the fifth the auction has ended.
+/// At the fourth query an answer to the third is told so; after the fifth the auction has ended.
 pub fn an_old_answer()
     ensures fourth { (state_after (learner 1000 ∷ []) three_fits).number ≡ 4 }
     ensures wrong_query { let state = state_after (learner 1000 ∷ []) three_fits in (take (auction_of_three (learner 1000 ∷ [])) three_stations state (posting 0 3 (fit 3 15))).0 ≡ Reply.WrongQuery 4 }
@@ -37,10 +40,11 @@ pub fn two_receipts()
     ensures stranger { let state = state_after (learner 1 ∷ learner 1 ∷ []) four_fits in (take (auction_of_three (learner 1 ∷ learner 1 ∷ [])) three_stations state (posting 2 5 (fit 3 15))).0 ≡ Reply.Stranger }
 {}
 
-/// A posting that is turned away, or whose answer is at fault, leaves the state.
+/// A posting that is turned away, whose answer is at fault, or whose worker's receipt stands noted already, leaves the state.
 pub fn a_refused_posting_changes_nothing()
     ensures turned { (sc : Scenario) (book : BookView) (state : CoreState) (p : PostingView) (reply : Reply) → turned_away sc state p.worker p.number ≡ Some reply → take sc book state p ≡ (reply, state) }
     ensures rejected { (sc : Scenario) (book : BookView) (state : CoreState) (p : PostingView) (place : Place) → turned_away sc state p.worker p.number ≡ None → fault_of sc book state p ≡ Some place → take sc book state p ≡ (Reply.Rejected place, state) }
+    ensures again { (sc : Scenario) (book : BookView) (state : CoreState) (p : PostingView) (receipt : Receipt) → turned_away sc state p.worker p.number ≡ None → fault_of sc book state p ≡ None → p.answer ≡ Answer.Spent receipt → is_noted state.noted p.worker ≡ true → take sc book state p ≡ (Reply.AlreadySpent, state) }
 {}
 
 /// A posting whose answer was looked at before does what a posting with that answer does.
@@ -52,31 +56,58 @@ pub fn looked_at_before()
 /// state, the state keeps the clock rule, and once the auction has ended its record is backed. The postings so far are a
 /// list too, so this holds at every point of an auction. Memory has no part in it.
 pub fn whatever_is_posted()
-    ensures { (sc : Scenario) (book : BookView) (postings : List PostingView) → IsAuction sc book → HoldsAfter sc book postings }
+    ensures { (sc : Scenario) (book : BookView) (order : Order) (postings : List PostingView) → IsAuction sc book → HoldsAfter sc book order postings }
 {}
 
 /// What a history replays to keeps the clock rule, and its record is backed once the auction has ended. A history is any
 /// list of entries that replays, whoever kept it.
 pub fn a_replayed_state_keeps_the_rule()
-    ensures rule { (sc : Scenario) (book : BookView) (history : List EntryView) (state : CoreState) → IsAuction sc book → replay sc book history ≡ Some state → KeepsTheRule sc book state }
-    ensures backed { (sc : Scenario) (book : BookView) (history : List EntryView) (state : CoreState) → IsAuction sc book → replay sc book history ≡ Some state → has_ended state ≡ true → IsBacked sc book (record_of sc state) }
+    ensures rule { (sc : Scenario) (book : BookView) (order : Order) (history : List EntryView) (state : CoreState) → IsAuction sc book → replay sc book order history ≡ Some state → KeepsTheRule sc book state }
+    ensures order { (sc : Scenario) (book : BookView) (order : Order) (history : List EntryView) (state : CoreState) → replay sc book order history ≡ Some state → state.order ≡ order }
+    ensures backed { (sc : Scenario) (book : BookView) (order : Order) (history : List EntryView) (state : CoreState) → IsAuction sc book → replay sc book order history ≡ Some state → has_ended state ≡ true → IsBacked sc book order (record_of sc state) }
+{}
+
+/// The same from any state that keeps the clock rule, as one that an auction goes on from: whatever is posted, the history
+/// replays from that state; what it leaves has the state's start and begins with its steps, and none of the others is shown by
+/// a proof from outside; it keeps the clock rule; and once the auction has ended its record is backed.
+pub fn whatever_is_posted_from()
+    ensures { (sc : Scenario) (book : BookView) (first : CoreState) (postings : List PostingView) → IsAuction sc book → KeepsTheRule sc book first → HoldsFrom sc book first postings }
+{}
+
+/// What a history replays to from a state goes on from it, and keeps the clock rule where the state does.
+pub fn what_replays_from_a_state()
+    ensures goes_on { (sc : Scenario) (book : BookView) (first : CoreState) (history : List EntryView) (state : CoreState) → replay_from sc book history first ≡ Some state → GoesOn first state }
+    ensures rule { (sc : Scenario) (book : BookView) (first : CoreState) (history : List EntryView) (state : CoreState) → IsAuction sc book → KeepsTheRule sc book first → replay_from sc book history first ≡ Some state → KeepsTheRule sc book state }
+{}
+
+/// The state that an auction goes on with after a start and some first steps, each shown as it has to be, keeps the clock rule.
+/// It has that start and begins with those steps, and so does whatever postings leave of it.
+pub fn an_auction_that_goes_on()
+    ensures rule { (sc : Scenario) (book : BookView) (order : Order) (start : Option Shown) (steps : List Step) → IsAuction sc book → IsPrefix sc book order start steps → KeepsTheRule sc book (resumed sc book order start steps) }
+    ensures goes_on { (sc : Scenario) (book : BookView) (order : Order) (start : Option Shown) (steps : List Step) (postings : List PostingView) → IsAuction sc book → IsPrefix sc book order start steps → GoesOn (record (before_start sc order) { start = start; steps = steps }) (after_postings sc book postings (resumed sc book order start steps)) }
+{}
+
+/// No posting makes a proof from outside: after any postings no step is shown by one.
+pub fn no_posting_is_from_outside()
+    ensures { (sc : Scenario) (book : BookView) (order : Order) (postings : List PostingView) → list_any (λ x. is_outside x.shown) (state_of sc book order postings).steps ≡ false }
 {}
 
 /// The state that an auction opens with keeps the clock rule, and so does the state after any one posting.
 pub fn a_posting_keeps_the_rule()
-    ensures opening { (sc : Scenario) (book : BookView) → IsAuction sc book → KeepsTheRule sc book (opening sc book) }
+    ensures opening { (sc : Scenario) (book : BookView) (order : Order) → IsAuction sc book → KeepsTheRule sc book (opening sc book order) }
     ensures posting { (sc : Scenario) (book : BookView) (state : CoreState) (p : PostingView) → IsAuction sc book → KeepsTheRule sc book state → KeepsTheRule sc book (take sc book state p).1 }
+    ensures order { (sc : Scenario) (book : BookView) (state : CoreState) (p : PostingView) → (take sc book state p).1.order ≡ state.order }
 {}
 
 /// The record of an auction that keeps the clock rule and has ended is backed.
 pub fn an_ended_record_is_backed()
-    ensures { (sc : Scenario) (book : BookView) (state : CoreState) → KeepsTheRule sc book state → has_ended state ≡ true → IsBacked sc book (record_of sc state) }
+    ensures { (sc : Scenario) (book : BookView) (state : CoreState) → KeepsTheRule sc book state → has_ended state ≡ true → IsBacked sc book state.order (record_of sc state) }
 {}
 
 /// The map of a backed record of an auction that was carried through is clean, and of exactly the stations on air once the
 /// clock rule has gone through every test, with those that its steps show undecided left open.
 pub fn a_done_record_has_a_clean_map()
-    ensures { (sc : Scenario) (book : BookView) (rec : Record) → IsAuction sc book → IsBacked sc book rec → rec.ending ≡ Ending.Done → IsClean book rec.map × (map (λ x. x.0) rec.map ≡ on_air_set sc (clock_rule sc book ByFacility (undecided_of rec.steps))) }
+    ensures { (sc : Scenario) (book : BookView) (order : Order) (rec : Record) → IsAuction sc book → IsBacked sc book order rec → rec.ending ≡ Ending.Done → IsClean book rec.map × (map (λ x. x.0) rec.map ≡ on_air_set sc (clock_rule sc book order (undecided_of rec.steps))) }
 {}
 
 /// The records of the example: its total is 60 cents, and with two budgets of one line its last test is undecided.
@@ -92,7 +123,7 @@ pub fn three_stations_are_an_auction()
     ensures { IsAuction (auction_of_three (learner 1000 ∷ [])) three_stations }
 {}
 
-/// Each of the eight replies, in one list of postings.
+/// Each reply, in one list of postings.
 pub fn each_reply()
     ensures { replies_to (learner 1 ∷ learner 1 ∷ []) of_each_kind ≡ Reply.WrongQuery 1 ∷ Reply.Stranger ∷ Reply.Rejected (Place.Station 1) ∷ Reply.Advanced (Some 2) ∷ Reply.Advanced (Some 3) ∷ Reply.Advanced (Some 4) ∷ Reply.Advanced (Some 5) ∷ Reply.Noted ∷ Reply.AlreadySpent ∷ Reply.Advanced None ∷ Reply.Ended ∷ [] }
 {}
@@ -104,23 +135,24 @@ pub fn rows_of_either_way()
     ensures map { (state_after (learner 1000 ∷ []) (other_fits ++ posting 0 5 refuted ∷ [])).map ≡ (1, 14) ∷ (2, 15) ∷ [] }
 {}
 
-/// A start set that is refuted, or on which every worker spends its budget, ends the auction with nothing done.
+/// A start set that is refuted, that holds a station without a channel, or on which every worker spends its budget, ends the
+/// auction.
 pub fn starts_that_end_an_auction()
     ensures refuted { has_ended (start_after (learner 1000 ∷ []) (posting 0 1 refuted ∷ [])) ≡ true }
     ensures refuted_so { (record_of (all_on_air (learner 1000 ∷ [])) (start_after (learner 1000 ∷ []) (posting 0 1 refuted ∷ []))).ending ≡ Ending.StartRefuted }
     ensures undecided { has_ended (start_after (learner 1 ∷ []) (posting 0 1 one_line ∷ [])) ≡ true }
     ensures undecided_so { (record_of (all_on_air (learner 1 ∷ [])) (start_after (learner 1 ∷ []) (posting 0 1 one_line ∷ []))).ending ≡ Ending.StartUndecided }
-    ensures bare { has_ended (opening lone_start lone_station) ≡ true }
-    ensures bare_so { (opening lone_start lone_station).start ≡ Some (Shown.NoChannel 1) }
+    ensures bare { has_ended (opening lone_start lone_station ByFacility) ≡ true }
+    ensures bare_so { (opening lone_start lone_station ByFacility).start ≡ Some (Shown.NoChannel 1) }
 {}
 
 /// Without a station, and where the only station has no channel, an auction ends without a query.
 pub fn auctions_without_a_query()
-    ensures none { has_ended (opening no_station three_stations) ≡ true }
-    ensures none_total { (record_of no_station (opening no_station three_stations)).total ≡ 0 }
-    ensures bare { has_ended (opening lone_bid lone_station) ≡ true }
-    ensures bare_steps { (opening lone_bid lone_station).steps ≡ record { round = 1; station = 1; shown = Shown.NoChannel 1 } ∷ [] }
-    ensures bare_total { (record_of lone_bid (opening lone_bid lone_station)).total ≡ 100 }
+    ensures none { has_ended (opening no_station three_stations ByFacility) ≡ true }
+    ensures none_total { (record_of no_station (opening no_station three_stations ByFacility)).total ≡ 0 }
+    ensures bare { has_ended (opening lone_bid lone_station ByFacility) ≡ true }
+    ensures bare_steps { (opening lone_bid lone_station ByFacility).steps ≡ record { round = 1; station = 1; shown = Shown.NoChannel 1 } ∷ [] }
+    ensures bare_total { (record_of lone_bid (opening lone_bid lone_station ByFacility)).total ≡ 100 }
 {}
 
 /// Stations without a channel are settled in a row: those before the one query by the opening, those after it by its
@@ -132,4 +164,16 @@ pub fn settled_in_a_row()
     ensures after { map test_of (five_after (posting 0 1 (fit 3 14) ∷ [])).steps ≡ test 1 1 ∷ test 1 2 ∷ test 1 3 ∷ test 1 4 ∷ test 1 5 ∷ [] }
     ensures map { (five_after (posting 0 1 (fit 3 14) ∷ [])).map ≡ (3, 14) ∷ [] }
     ensures total { (record_of five_bids (five_after (posting 0 1 (fit 3 14) ∷ []))).total ≡ 400 }
+{}
+
+/// Where station 2 is on air from the start, the second test of station 1 asks about the same two stations as its first one.
+/// So it needs no query, and the station goes on air by its first fit.
+pub fn a_test_like_the_one_before()
+    ensures number { (second_after fits_beside_second).number ≡ 4 }
+    ensures steps { (second_after fits_beside_second).steps ≡
+        record { round = 1; station = 1; shown = Shown.Fits ((1, 15) ∷ []) } ∷
+        record { round = 1; station = 3; shown = Shown.Fits ((3, 15) ∷ []) } ∷
+        record { round = 2; station = 1; shown = Shown.Same } ∷ [] }
+    ensures map { (second_after fits_beside_second).map ≡ (1, 15) ∷ (2, 14) ∷ [] }
+    ensures standing { (second_after fits_beside_second).left ≡ test 2 3 ∷ test 3 1 ∷ test 3 3 ∷ [] }
 {}

@@ -6,14 +6,19 @@ pub mod auction;
 pub mod clock;
 pub mod clockwork;
 pub mod course;
-pub mod desk;
 pub mod laws;
 pub mod notes;
-pub mod on_air;
+pub mod part_laws;
+pub mod parts;
+pub mod past;
 pub mod posting;
 pub mod record;
 #[cfg(test)]
 mod samples;
+pub mod setup;
 pub mod start;
+pub mod step_list;
+mod taking;
 #[cfg(test)]
 mod tests;
+pub mod turns;

@@ -1,44 +1,56 @@
-//! The receipts that stand noted on a query.
+//! The receipts that stand noted on a query, and the list of all of them once the last one comes.
 
-ghost use Rattle.std.specs.Prelude.{◌≡◌, ◌<◌, ◌≤◌, ◌+◌, ◌++◌, [], IfOk, false, length, map, vec_len, vec_capacity};
+ghost use Rattle.std.specs.Prelude.{◌≡◌, ◌<◌, ◌≤◌, ◌+◌, ◌++◌, [], IfOk, OnOk, false, length, map, true, vec_len, vec_capacity};
 ghost use Rattle.auction_core.specs.Take.{is_noted, noted_with};
-ghost use Rattle.auction_core.specs.Notes.{notes_of};
 
 use cert_types::answer::Receipt;
+use pack_defs::items::Items;
 use std::alloc::{AllocError as NoMemory, Global};
 use std::marker::Model;
+use std::mem;
 
-/// A place for each worker's receipt on the standing query.
+/// A place for each worker's receipt on the standing query, and room for a list of all of them.
 #[derive(Debug, Drop)]
 pub struct Notes {
     places: Vec<Option<Receipt>>,
+    // Empty; its room is for a receipt of every worker.
+    all: Vec<Receipt>,
 }
 
 impl Model for Notes {
-    ghost use Rattle.std.specs.Prelude.{List, Option};
-    ghost use Rattle.cert_types.specs.declared.answer.Receipt.{Receipt};
+    ghost use Rattle.std.specs.Prelude.{◌≡◌, [], length, nat_le, vec_capacity};
+    ghost use Rattle.auction_core.specs.Notes.{NotesView, notes_of};
 
-    ghost Value = { List (Option Receipt) };
+    ghost Value = { NotesView };
 
-    ghost view = { λ n. n.places.items };
+    ghost view = { λ n. record {
+      workers = length n.places.items;
+      noted = notes_of n.places.items;
+      ready = nat_le (length n.places.items) (vec_capacity n.all);
+    } };
+
+    ghost invariant = { λ n. n.all.items ≡ [] };
 }
 
 impl Notes {
     /// A place for each of so many workers; none is noted. The only error is want of memory.
     pub fn of_none(alloc: Global, workers: usize) -> Result<Notes, NoMemory>
-        ensures places { IfOk result (λ notes. length notes ≡ workers) }
-        ensures none { IfOk result (λ notes. notes_of notes ≡ []) }
+        ensures places { IfOk result (λ notes. notes.workers ≡ workers) }
+        ensures none { IfOk result (λ notes. notes.noted ≡ []) }
     {
         let mut places = Vec::with_capacity(alloc, workers)?;
         for _ in 0..workers {
             places.push(None)?;
         }
-        Ok(Notes { places })
+        Ok(Notes {
+            places,
+            all: Vec::new(alloc),
+        })
     }
 
     /// How many receipts stand noted. It goes over the workers.
     pub fn count(&self) -> usize
-        ensures { result ≡ length (notes_of self.now) }
+        ensures { result ≡ length self.now.noted }
     {
         let mut count = 0;
         for place in &self.places {
@@ -49,28 +61,37 @@ impl Notes {
         count
     }
 
-    /// Whether this worker's receipt stands noted.
+    /// Whether this worker's receipt stands noted; never of a worker that has no place.
     pub fn has(&self, worker: u32) -> bool
-        requires { worker < length self.now }
-        ensures { result ≡ is_noted (notes_of self.now) worker }
+        ensures { result ≡ is_noted self.now.noted worker }
     {
-        self.places[worker as usize].is_some()
+        (worker as usize) < self.places.len() && self.places[worker as usize].is_some()
+    }
+
+    /// Makes room for a receipt of every worker. The only error is want of memory, and nothing else is changed.
+    pub fn reserve(&mut self) -> Result<(), NoMemory>
+        ensures ready { OnOk result (self.new.ready ≡ true) }
+        ensures places { self.new.workers ≡ self.old.workers }
+        ensures noted { self.new.noted ≡ self.old.noted }
+    {
+        self.all.reserve(self.places.len())
     }
 
     /// Notes the receipt of a worker that has none noted. It takes no memory.
     pub fn note(&mut self, worker: u32, receipt: Receipt)
-        requires place { worker < length self.old }
-        requires new { is_noted (notes_of self.old) worker ≡ false }
-        ensures noted { notes_of self.new ≡ noted_with (record { worker = worker; receipt = receipt }) (notes_of self.old) }
-        ensures places { length self.new ≡ length self.old }
+        requires place { worker < self.old.workers }
+        requires new { is_noted self.old.noted worker ≡ false }
+        ensures noted { self.new.noted ≡ noted_with (record { worker = worker; receipt = receipt }) self.old.noted }
+        ensures places { self.new.workers ≡ self.old.workers }
+        ensures ready { self.new.ready ≡ self.old.ready }
     {
         self.places[worker as usize] = Some(receipt);
     }
 
     /// Lets every noted receipt go. It takes no memory.
     pub fn clear(&mut self)
-        ensures none { notes_of self.new ≡ [] }
-        ensures places { length self.new ≡ length self.old }
+        ensures none { self.new.noted ≡ [] }
+        ensures places { self.new.workers ≡ self.old.workers }
     {
         let workers = self.places.len();
         for i in 0..workers {
@@ -78,12 +99,28 @@ impl Notes {
         }
     }
 
-    /// Moves every noted receipt behind those of the list, in order of worker; none is noted any more. It takes no memory.
-    pub fn move_into(&mut self, receipts: &mut Vec<Receipt>)
-        requires { vec_len receipts.old + length self.old ≤ vec_capacity receipts.old }
-        ensures moved { receipts.new.items ≡ receipts.old.items ++ map (λ n. n.receipt) (notes_of self.old) }
-        ensures none { notes_of self.new ≡ [] }
-        ensures places { length self.new ≡ length self.old }
+    /// Gives out the noted receipts and this one, in order of worker; none is noted any more. It takes no memory.
+    pub fn all_with(&mut self, worker: u32, receipt: Receipt) -> Items<Receipt>
+        requires ready { self.old.ready ≡ true }
+        requires place { worker < self.old.workers }
+        requires new { is_noted self.old.noted worker ≡ false }
+        ensures all { result ≡ map (λ n. n.receipt) (noted_with (record { worker = worker; receipt = receipt }) self.old.noted) }
+        ensures none { self.new.noted ≡ [] }
+        ensures places { self.new.workers ≡ self.old.workers }
+    {
+        let none = Vec::new(*self.all.allocator());
+        let mut all = mem::replace(&mut self.all, none);
+        self.note(worker, receipt);
+        self.move_into(&mut all);
+        Items::from_vec(all)
+    }
+
+    // Moves every noted receipt behind those of the list, in order of worker; none is noted any more.
+    fn move_into(&mut self, receipts: &mut Vec<Receipt>)
+        requires { vec_len receipts.old + self.old.workers ≤ vec_capacity receipts.old }
+        ensures moved { receipts.new.items ≡ receipts.old.items ++ map (λ n. n.receipt) self.old.noted }
+        ensures none { self.new.noted ≡ [] }
+        ensures places { self.new.workers ≡ self.old.workers }
     {
         for i in 0..self.places.len() {
             let Some(receipt) = self.places[i].take() else {
@@ -97,7 +134,6 @@ impl Notes {
 #[cfg(test)]
 mod tests {
     use super::*;
-    use pack_defs::items::Items;
     use rup_check::line::Log;
     use std::test::Fail;
 
@@ -108,26 +144,19 @@ mod tests {
         })
     }
 
+    // Of three workers the last is noted, and then gives its receipt with the first's.
     #[test]
     fn notes_each_worker_apart(rt: HostRuntime) -> Result<(), Fail> {
         let alloc = rt.alloc();
-        let mut notes = Notes::of_none(alloc, 2)?;
-        assert!(rt; !notes.has(0));
-        notes.note(1, receipt(alloc));
-        assert!(rt; notes.has(1));
-        assert!(rt; !notes.has(0));
-        Ok(())
-    }
-
-    #[test]
-    fn moves_the_noted_receipts(rt: HostRuntime) -> Result<(), Fail> {
-        let alloc = rt.alloc();
-        let mut notes = Notes::of_none(alloc, 2)?;
-        let mut receipts = Vec::with_capacity(alloc, 2)?;
-        notes.note(1, receipt(alloc));
-        notes.move_into(&mut receipts);
-        assert_eq!(rt; receipts.len(), 1);
-        assert!(rt; !notes.has(1));
+        let mut notes = Notes::of_none(alloc, 3)?;
+        notes.reserve()?;
+        notes.note(2, receipt(alloc));
+        assert_eq!(rt;
+            (notes.has(0), notes.has(2), notes.has(3)),
+            (false, true, false)
+        );
+        let all = notes.all_with(0, receipt(alloc));
+        assert_eq!(rt; (all.as_slice().len(), notes.count()), (2, 0));
         Ok(())
     }
 }

@@ -3,8 +3,11 @@ ghost use Rattle.auction_core.specs.State.{shows_room};
 ghost use Rattle.auction_core.specs.Backed.{ending_of};
 
 use cert_types::answer::{Receipt, Refutation};
+use cert_types::outside::OutsideProof;
 use pack_defs::channel_map::ChannelMap;
 use pack_defs::items::Items;
+use pack_defs::order::Order;
+use pack_defs::owners::Owners;
 use pack_defs::scenario::Scenario;
 
 /// How a test was settled.
@@ -14,11 +17,16 @@ pub enum Shown {
     Empty,
     /// By the channels that make the last map one of the test's set; for the start test, by a map of the start set.
     Fits(ChannelMap),
+    /// By the test of the same station one round before, which fits and asked about the same stations.
+    Same,
     /// By a station without a channel.
     NoChannel(u32),
     /// By a worker's refutation: a proof that the test's set does not fit, or a pair of two of its stations, with one channel
     /// each, that interfere.
     Refuted { worker: u32, how: Refutation },
+    /// By a proof from outside that the test's set does not fit. No posting makes one: it takes the place of an undecided
+    /// verdict.
+    Outside(OutsideProof),
     /// By a receipt of every worker, in order of worker, that it has spent its budget on the test.
     Undecided(Items<Receipt>),
 }
@@ -29,8 +37,8 @@ impl Shown {
         ensures { result ≡ shows_room self.now }
     {
         match self {
-            Shown::Empty | Shown::Fits(_) => true,
-            Shown::NoChannel(_) | Shown::Refuted { .. } => false,
+            Shown::Empty | Shown::Fits(_) | Shown::Same => true,
+            Shown::NoChannel(_) | Shown::Refuted { .. } | Shown::Outside(_) => false,
             Shown::Undecided(_) => false,
         }
     }
@@ -40,8 +48,8 @@ impl Shown {
         ensures { result ≡ ending_of self.now }
     {
         match self {
-            Shown::Empty | Shown::Fits(_) => Ending::Done,
-            Shown::NoChannel(_) | Shown::Refuted { .. } => Ending::StartRefuted,
+            Shown::Empty | Shown::Fits(_) | Shown::Same => Ending::Done,
+            Shown::NoChannel(_) | Shown::Refuted { .. } | Shown::Outside(_) => Ending::StartRefuted,
             Shown::Undecided(_) => Ending::StartUndecided,
         }
     }
@@ -68,17 +76,28 @@ pub enum Ending {
     StartUndecided,
 }
 
-/// What is left of a finished auction.
+/// What is left of a finished auction. What the owners said in a live one stands in its scenario.
 #[derive(Debug, Drop)]
 pub struct Record {
     pub scenario: Scenario,
+    /// In which order the stations of a round were tested.
+    pub order: Order,
     pub ending: Ending,
     /// How the test of the start set was settled.
     pub start: Shown,
     /// The tests that the rule asked, in order.
     pub steps: Items<Step>,
-    /// A channel for each station on air.
+    /// A channel for each station on air; empty where the auction ended at its start.
     pub map: ChannelMap,
     /// What the frozen stations are paid together, in cents.
     pub total: u64,
+}
+
+impl Record {
+    /// What the owners said in a live auction; none where their values stood for them.
+    pub fn owners(&self) -> &Option<Owners>
+        ensures { result.now ≡ self.now.scenario.owners }
+    {
+        &self.scenario.owners
+    }
 }

@@ -1,19 +1,20 @@
-ghost use Rattle.std.specs.Prelude.{◌≡◌, ◌≤◌, ◌∷◌, [], IfOk};
+ghost use Rattle.std.specs.Prelude.{◌≡◌, ◌≤◌, ◌+◌, ◌∷◌, [], IfOk, Some};
 ghost use Rattle.pack_defs.specs.Scenario.{IsWithinLimits, facilities};
-ghost use Rattle.auction_core.specs.Clockwork.{IsOfAuction};
 ghost use Rattle.auction_core.specs.Said.{AnswersIfGood};
+ghost use Rattle.auction_core.specs.Setup.{IsOfAuction};
 
 use crate::auction::Auction;
 use crate::posting::{Posting, Reply, Said};
 use crate::record::{Ending, Record, Shown};
 use crate::samples::{
-    Given, all_on_air, answer, bid, book, learner, on, on_one, one_round, three_bids,
-    three_stations, walker,
+    Given, answer, bid, book, learner, on, on_one, one_round, three_bids, three_stations, walker,
 };
 use cert_types::answer::{Answer, CertifyWhy, Place};
 use cert_types::certify::certify;
 use pack_defs::book::Book;
+use pack_defs::order::Order;
 use pack_defs::scenario::Scenario;
+use pack_defs::station::Station;
 use std::alloc::{AllocError as NoMemory, Global};
 use std::test::Fail;
 
@@ -85,11 +86,12 @@ fn record(
     alloc: Global,
     sc: Scenario,
     book: &Book,
+    order: Order,
     cases: &[Case],
 ) -> Result<Option<(Record, u64)>, NoMemory>
     requires { IsOfAuction sc book.now }
 {
-    let mut auction = Auction::start(alloc, &sc, book)?;
+    let mut auction = Auction::start(alloc, &sc, book, order)?;
     if !are_told(alloc, &mut auction, cases)? || !auction.ended() {
         return Ok(None);
     }
@@ -101,7 +103,7 @@ fn record(
 fn end(alloc: Global, sc: Scenario, book: &Book, cases: &[Case]) -> Result<Option<End>, NoMemory>
     requires { IsOfAuction sc book.now }
 {
-    let Some((record, number)) = record(alloc, sc, book, cases)? else {
+    let Some((record, number)) = record(alloc, sc, book, Order::ByFacility, cases)? else {
         return Ok(None);
     };
     let steps = record.steps.as_slice().len();
@@ -130,7 +132,8 @@ fn an_old_answer(rt: HostRuntime) -> Result<(), Fail> {
         (0, 6, Given::Refuted, Reply::Ended),
         (9, 1, Given::Spent, Reply::Ended),
     ];
-    let sc = three_bids(alloc, vec![in alloc; learner(1000)]?)?;
+    let workers = vec![in alloc; learner(1000)]?;
+    let sc = three_bids(alloc, Some(50), Some(70), Some(10), workers)?;
     let end = end(alloc, sc, &three_stations(alloc)?, &cases)?;
     assert_eq!(rt; end, Some((Ending::Done, 6, 5, 60)));
     Ok(())
@@ -154,7 +157,8 @@ fn each_reply(rt: HostRuntime) -> Result<(), Fail> {
         (1, 5, Given::Spent, Reply::Advanced { next: None }),
         (1, 6, Given::Spent, Reply::Ended),
     ];
-    let sc = three_bids(alloc, vec![in alloc; learner(1), learner(1)]?)?;
+    let workers = vec![in alloc; learner(1), learner(1)]?;
+    let sc = three_bids(alloc, Some(50), Some(70), Some(10), workers)?;
     let end = end(alloc, sc, &three_stations(alloc)?, &cases)?;
     assert_eq!(rt; end, Some((Ending::Done, 6, 5, 60)));
     Ok(())
@@ -170,7 +174,7 @@ fn last_undecided(
 ) -> Result<Option<(u64, bool)>, NoMemory>
     requires { IsOfAuction sc book.now }
 {
-    let Some((record, number)) = record(alloc, sc, book, cases)? else {
+    let Some((record, number)) = record(alloc, sc, book, Order::ByFacility, cases)? else {
         return Ok(None);
     };
     let undecided = match record.steps.as_slice().last() {
@@ -197,7 +201,8 @@ fn two_kinds(rt: HostRuntime) -> Result<(), Fail> {
         (1, 5, Given::Moved(3, 15), Reply::Noted),
         (0, 5, Given::Spent, Reply::Advanced { next: None }),
     ];
-    let sc = three_bids(alloc, vec![in alloc; learner(1), walker(1)]?)?;
+    let workers = vec![in alloc; learner(1), walker(1)]?;
+    let sc = three_bids(alloc, Some(50), Some(70), Some(10), workers)?;
     let last = last_undecided(alloc, sc, &three_stations(alloc)?, &cases)?;
     assert_eq!(rt; last, Some((6, true)));
     Ok(())
@@ -209,19 +214,15 @@ fn start_end(alloc: Global, budget: u32, given: Given) -> Result<Option<End>, No
     requires few { budget ≤ 1000 }
 {
     let last = Reply::Advanced { next: None };
-    let sc = all_on_air(alloc, vec![in alloc; learner(budget)]?)?;
+    let sc = three_bids(alloc, None, None, None, vec![in alloc; learner(budget)]?)?;
     end(alloc, sc, &three_stations(alloc)?, &[(0, 1, given, last)])
 }
 
+// By a refutation, or by the receipt of the only worker.
 #[test]
-fn refuted_start(rt: HostRuntime) -> Result<(), Fail> {
+fn starts_that_end_an_auction(rt: HostRuntime) -> Result<(), Fail> {
     let refuted = start_end(rt.alloc(), 1000, Given::Refuted)?;
     assert_eq!(rt; refuted, Some((Ending::StartRefuted, 2, 0, 0)));
-    Ok(())
-}
-
-#[test]
-fn undecided_start(rt: HostRuntime) -> Result<(), Fail> {
     let spent = start_end(rt.alloc(), 1, Given::Spent)?;
     assert_eq!(rt; spent, Some((Ending::StartUndecided, 2, 0, 0)));
     Ok(())
@@ -290,12 +291,109 @@ fn settled_in_a_row(rt: HostRuntime) -> Result<(), Fail> {
     Ok(())
 }
 
+// How the auction ends in which station 2 is on air from the start and station 1 has this value; how many tests were like
+// the one before, and the channel of station 1. Stations 1 and 3 are tested in three rounds, and with all three on air there
+// is a channel too few.
+fn beside_second(alloc: Global, value: u64) -> Result<Option<(End, usize, Option<u8>)>, NoMemory>
+    requires { value ≤ 100 }
+{
+    let cases = [
+        (0, 1, Given::Fit(2, 14), next(2)),
+        (0, 2, Given::Fit(1, 15), next(3)),
+        (0, 3, Given::Fit(3, 15), next(4)),
+        (0, 4, Given::Refuted, Reply::Advanced { next: None }),
+    ];
+    let workers = vec![in alloc; learner(1000)]?;
+    let sc = three_bids(alloc, Some(value), None, Some(10), workers)?;
+    let book = three_stations(alloc)?;
+    let Some((record, number)) = record(alloc, sc, &book, Order::ByFacility, &cases)? else {
+        return Ok(None);
+    };
+    let steps = record.steps.as_slice();
+    let same = steps
+        .iter()
+        .filter(|step| matches!(step.shown, Shown::Same))
+        .count();
+    let end = (record.ending, number, steps.len(), record.total);
+    Ok(Some((end, same, record.map.get(1))))
+}
+
+// At 50 cents station 1 goes on air in round 2, and the second test of station 3 asks about all three: it is frozen at 60
+// cents. At 10 cents the tests of round 2 are both like those before, and so is the last of station 1: the third answer
+// settles them all, and station 3 is frozen in round 3, at 20 cents. Either way station 1 has the channel of round 1.
+#[test]
+fn tests_like_the_one_before(rt: HostRuntime) -> Result<(), Fail> {
+    let early = beside_second(rt.alloc(), 50)?;
+    assert_eq!(rt; early, Some(((Ending::Done, 5, 4, 60), 1, Some(15))));
+    let late = beside_second(rt.alloc(), 10)?;
+    assert_eq!(rt; late, Some(((Ending::Done, 5, 6, 20), 3, Some(15))));
+    Ok(())
+}
+
+// A station of a volume of one more than this, which stays in the clock.
+fn of_volume(id: u32, volume: u8) -> Station
+    ensures { result ≡ record { id = id; volume = volume + 1; value = Some 5 } }
+{
+    Station {
+        id,
+        volume: u32::from(volume) + 1,
+        value: Some(5),
+    }
+}
+
+// Whether a round by volume tests stations 1 to 3, of such volumes, in this order. Each has a channel for itself, so that a
+// fit for another one than is tested is not taken.
+fn are_in_turn(
+    alloc: Global,
+    volumes: (u8, u8, u8),
+    turns: (u32, u32, u32),
+) -> Result<bool, NoMemory> {
+    let cases = [
+        (0, 1, Given::Fit(turns.0, 14), next(2)),
+        (0, 2, Given::Fit(turns.1, 14), next(3)),
+        (
+            0,
+            3,
+            Given::Fit(turns.2, 14),
+            Reply::Advanced { next: None },
+        ),
+    ];
+    let first = of_volume(1, volumes.0);
+    let second = of_volume(2, volumes.1);
+    let third = of_volume(3, volumes.2);
+    let sc = one_round(alloc, vec![in alloc; first, second, third]?)?;
+    let domains = [
+        on(alloc, 1, &[14])?,
+        on(alloc, 2, &[14])?,
+        on(alloc, 3, &[14])?,
+    ];
+    let book = book(alloc, &[1, 2, 3], &domains, &[])?;
+    Ok(record(alloc, sc, &book, Order::ByVolume, &cases)?.is_some())
+}
+
+// Volumes, and the order by volume: the greater one comes first, and of equal ones the lesser facility.
+const IN_TURN: &[((u8, u8, u8), (u32, u32, u32))] = &[
+    ((4, 4, 4), (1, 2, 3)),
+    ((1, 2, 3), (3, 2, 1)),
+    ((3, 2, 1), (1, 2, 3)),
+    ((2, 5, 5), (2, 3, 1)),
+];
+
+#[test]
+fn by_volume(rt: HostRuntime) -> Result<(), Fail> {
+    for (volumes, turns) in IN_TURN {
+        assert!(rt; are_in_turn(rt.alloc(), *volumes, *turns)?);
+    }
+    Ok(())
+}
+
 // A receipt is noted for its worker alone, and let go once another's answer settles the query.
 #[test]
 fn a_noted_receipt(rt: HostRuntime) -> Result<(), Fail> {
     let alloc = rt.alloc();
-    let sc = all_on_air(alloc, vec![in alloc; learner(1), learner(1000)]?)?;
-    let mut auction = Auction::start(alloc, &sc, &three_stations(alloc)?)?;
+    let workers = vec![in alloc; learner(1), learner(1000)]?;
+    let sc = three_bids(alloc, None, None, None, workers)?;
+    let mut auction = Auction::start(alloc, &sc, &three_stations(alloc)?, Order::ByFacility)?;
     post(alloc, &mut auction, 0, 1, Given::Spent)?;
     assert_eq!(rt;
         (auction.noted(0), auction.noted(1), auction.noted(7)),

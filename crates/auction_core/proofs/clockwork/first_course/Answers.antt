@@ -1,14 +1,27 @@
 -- The state that the auction opens with.
-use Rattle.std.proofs.Common.{◌∙◌, ap, sym}
-use Rattle.auction_core.specs.State.{CoreState, started}
+use Rattle.std.proofs.Common.{◌≡◌, ◌∙◌, ap, sym, None, Some}
+use Rattle.auction_core.specs.State.{CoreState, start_unasked, started}
 use Rattle.auction_core.proofs.ClockworkLemmas.{opening-none, opening-some}
+use Rattle.auction_core.proofs.TaskLemmas.{bare-shown}
 use Rattle.auction_core.proofs.clockwork.first_course.Goals as goal
+
+pub begin-requires-clause-fresh : goal.begin-requires-clause-fresh
+begin-requires-clause-fresh c = ap (λ (s : CoreState). s.start) c.in_ok-course.ensures.opening
+
+pub begin-requires-clause-shown_is : goal.begin-requires-clause-shown_is
+begin-requires-clause-shown_is c =
+    let s = c.args.setup.now in
+    let unasked : start_unasked s.scenario s.book ≡ Some c.in-Some.shown = sym (c.in_ok-shown.ensures ∙ (λ i. start_unasked (c.scenario.ensures.value i) (c.book.ensures i))) ∙ c.in-Some.is in
+    bare-shown s.scenario s.book c.in-Some.shown unasked
 
 pub returns-clause-state : goal.returns-clause-state
 returns-clause-state c =
-    let sc = c.args.sc.now in
-    let book = c.args.book.now in
-    c.begin.ensures.state 1 ∙ (ap (λ (s : CoreState). started sc book s c.in-Some.shown) c.in_ok-course.ensures.opening ∙ opening-some sc book c.in-Some.shown (sym c.in_ok-shown.ensures ∙ c.in-Some.is))
+    let s = c.args.setup.now in
+    let unasked : start_unasked s.scenario s.book ≡ Some c.in-Some.shown = sym (c.in_ok-shown.ensures ∙ (λ i. start_unasked (c.scenario.ensures.value i) (c.book.ensures i))) ∙ c.in-Some.is in
+    c.begin.ensures.state 1 ∙ (ap (λ (z : CoreState). started s.scenario s.book z c.in-Some.shown) c.in_ok-course.ensures.opening ∙ opening-some s.scenario s.book s.order c.in-Some.shown unasked)
 
 pub returns-in_default-clause-state : goal.returns-in_default-clause-state
-returns-in_default-clause-state c = c.in_ok-course.ensures.opening ∙ opening-none c.args.sc.now c.args.book.now (sym c.in_ok-shown.ensures ∙ c.in_default.is)
+returns-in_default-clause-state c =
+    let s = c.args.setup.now in
+    let unasked : start_unasked s.scenario s.book ≡ None = sym (c.in_ok-shown.ensures ∙ (λ i. start_unasked (c.scenario.ensures.value i) (c.book.ensures i))) ∙ c.in_default.is in
+    c.in_ok-course.ensures.opening ∙ opening-none s.scenario s.book s.order unasked

@@ -1,8 +1,17 @@
 -- No entry replays to the opening.
-use Rattle.auction_core.proofs.AuctionLemmas.{none-replayed}
+use Rattle.std.proofs.Common.{ap, length, ◌∙◌}
+use Rattle.auction_core.proofs.AuctionLemmas.{first-between}
+use Rattle.auction_core.proofs.TakingLemmas.{opening-is}
 use Rattle.auction_core.proofs.auction.Auction.start.Goals as goal
 
 pub invariant_of-result : goal.invariant_of-result
 invariant_of-result c =
-    let e = c.in_ok-open.ensures in
-    rw (e.scenario, e.book, e.state, c.new.ensures.items) (none-replayed c.args.sc.now c.args.book.now c.requires c.len.ensures.in_order)
+    let w = c.in_ok-clockwork in
+    let n = c.in_ok-notes in
+    rw (c.new.ensures.items) (first-between c.args.sc.now c.args.book.now c.args.order w.clockwork n.notes c.requires c.len.ensures.in_order w.ensures.scenario w.ensures.book w.ensures.state (n.ensures.places ∙ ap length c.workers.ensures) n.ensures.none)
+
+pub returns-clause-state : goal.returns-clause-state
+returns-clause-state c =
+    let w = c.in_ok-clockwork in
+    let n = c.in_ok-notes in
+    opening-is c.args.sc.now c.args.book.now c.args.order w.clockwork.state n.notes.noted w.ensures.state n.ensures.none

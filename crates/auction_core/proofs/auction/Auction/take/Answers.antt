@@ -1,35 +1,45 @@
 -- With the posting's entry the history replays to the new state, which so keeps the rule.
-use Rattle.std.proofs.Common.{◌≡◌, ◌++◌, ◌∷◌, [], ap, subst, sym, ◌∙◌, option_and_then}
-use Rattle.auction_core.specs.Auction.{entry_told}
+use Rattle.std.proofs.Common.{◌≡◌, ◌++◌, ◌∷◌, [], ◌≤◌, ◌-◌, vec_capacity, vec_len, ap, subst, sym, ◌∙◌, option_and_then}
+use Rattle.auction_core.specs.Auction.{entry_told, state_at}
 use Rattle.auction_core.specs.Replay.{kept_answer}
 use Rattle.auction_core.specs.Said.{MayBeTaken, taken}
-use Rattle.auction_core.proofs.AuctionLemmas.{replayed-rule, told-replayed}
+use Rattle.auction_core.proofs.AuctionLemmas.{replayed-rule, spare-ready, told-between, told-order}
 use Rattle.auction_core.proofs.Looked.{looked}
 use Rattle.auction_core.proofs.auction.Auction.take.Goals as goal
 
-pub tell-reply-requires-clause-rule : goal.tell-reply-requires-clause-rule
-tell-reply-requires-clause-rule c =
-    let d = c.self.inside.desk in
-    replayed-rule d.scenario d.book c.self.inside.history.items d.state c.self.invariant
+pub tell-reply-requires-clause-ready : goal.tell-reply-requires-clause-ready
+tell-reply-requires-clause-ready c =
+    let a = c.self.inside in
+    spare-ready a.clockwork a.notes a.history.items (vec_capacity a.history - vec_len a.history) c.self.invariant (subst (λ v. 1 ≤ v.spare) (sym c.self.view_is) c.requires.spare)
 
 pub invariant_of-self : goal.invariant_of-self
 invariant_of-self c =
-    let d = c.self.inside.desk in
+    let a = c.self.inside in
+    let w = a.clockwork in
     let reply = c.tell-reply.result in
-    let may : MayBeTaken d.scenario d.book d.state c.args.posting = subst (λ v. MayBeTaken v.scenario v.book v.state c.args.posting) (sym c.self.view_is) c.requires.said in
+    let may : MayBeTaken w.scenario w.book (state_at w a.notes) c.args.posting = subst (λ v. MayBeTaken v.scenario v.book v.state c.args.posting) (sym c.self.view_is) c.requires.said in
     let kept = c.if_taken.ensures ∙ ap (option_and_then (kept_answer reply)) c.let_through-answer.ensures in
-    let items : c.push_reserved.new.self.items ≡ c.self.inside.history.items ++ entry_told c.args.posting reply ∷ [] =
-    c.push_reserved.ensures.items ∙ ap (λ o. c.self.inside.history.items ++ record { worker = c.args.posting.worker; number = c.args.posting.number; reply = reply; answer = o } ∷ []) kept in
-    rw (c.tell-reply.ensures.scenario, c.tell-reply.ensures.book, items)
-    (told-replayed d.scenario d.book c.self.inside.history.items d.state c.tell-reply.new.self.state c.args.posting reply c.self.invariant may c.tell-reply.ensures.told)
+    let items : c.push_reserved.new.self.items ≡ a.history.items ++ entry_told c.args.posting reply ∷ [] =
+    c.push_reserved.ensures.items ∙ ap (λ o. a.history.items ++ record { worker = c.args.posting.worker; number = c.args.posting.number; reply = reply; answer = o } ∷ []) kept in
+    let e = c.tell-reply.ensures in
+    rw items (told-between w c.tell-reply.new.clockwork a.notes c.tell-reply.new.notes a.history.items c.args.posting reply c.self.invariant may e.told e.scenario e.book e.places)
 
 pub returns-clause-seen : goal.returns-clause-seen
 returns-clause-seen c answer h =
     let v = c.args.self.now in
-    subst (λ w. (c.tell-reply.result, c.tell-reply.new.self.state) ≡ taken w.scenario w.book w.state c.args.posting) c.self.view_is c.tell-reply.ensures.told
+    subst (λ w. (c.tell-reply.result, state_at c.tell-reply.new.clockwork c.tell-reply.new.notes) ≡ taken w.scenario w.book w.state c.args.posting) c.self.view_is c.tell-reply.ensures.told
     ∙ looked v.scenario v.book v.state c.args.posting answer h
 
 pub returns-clause-rule : goal.returns-clause-rule
 returns-clause-rule c =
-    let d = c.tell-reply.new.self in
-    replayed-rule d.scenario d.book c.push_reserved.new.self.items d.state (invariant_of-self c)
+    let w = c.tell-reply.new.clockwork in
+    replayed-rule w.scenario w.book c.push_reserved.new.self.items (state_at w c.tell-reply.new.notes) (invariant_of-self c).replayed
+
+pub returns-clause-order : goal.returns-clause-order
+returns-clause-order c =
+    let a = c.self.inside in
+    let w = a.clockwork in
+    let new = state_at c.tell-reply.new.clockwork c.tell-reply.new.notes in
+    let may : MayBeTaken w.scenario w.book (state_at w a.notes) c.args.posting = subst (λ v. MayBeTaken v.scenario v.book v.state c.args.posting) (sym c.self.view_is) c.requires.said in
+    told-order w.scenario w.book a.history.items (state_at w a.notes) new c.args.posting c.tell-reply.result c.self.invariant.replayed may c.tell-reply.ensures.told
+    ∙ ap (λ v. v.state.order) c.self.view_is

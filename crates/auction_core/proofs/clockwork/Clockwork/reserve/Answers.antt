@@ -8,9 +8,9 @@ use Rattle.auction_core.proofs.clockwork.Clockwork.reserve.Goals as goal
 pub invariant_of-self : goal.invariant_of-self
 invariant_of-self c =
     let own = c.self.inside in
-    subst (λ (z : CourseView). IsClockwork own.scenario own.book own.schedule.items z own.number) (sym c.reserve.ensures.same) (roomier own.scenario own.book own.schedule.items own.course own.number _ c.self.invariant)
+    subst (λ (z : CourseView). IsClockwork own.setup z own.number) (sym c.reserve.ensures.same) (roomier own.setup own.course own.number _ _ c.self.invariant)
 
 pub returns-clause-state : goal.returns-clause-state
 returns-clause-state c =
     let own = c.self.inside in
-    ap (λ (z : CourseView). core_state own.scenario z own.number) c.reserve.ensures.same ∙ ap (λ (v : ClockworkView). v.state) c.self.view_is
+    ap (λ (z : CourseView). core_state own.setup z own.number) c.reserve.ensures.same ∙ ap (λ (v : ClockworkView). v.state) c.self.view_is

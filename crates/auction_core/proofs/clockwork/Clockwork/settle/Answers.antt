@@ -1,23 +1,32 @@
 -- A settled query keeps the rule, by how the start stands.
-use Rattle.std.proofs.Common.{◌≡◌, ◌∙◌, ap, sym, subst, arith, length, false}
+use Rattle.std.proofs.Common.{◌≡◌, ◌∙◌, ap, sym, subst, arith, length, false, true}
 use Rattle.auction_core.specs.Clockwork.{ClockworkView}
-use Rattle.auction_core.specs.Course.{core_state, left_of}
+use Rattle.auction_core.specs.Course.{core_state, is_roomy, left_of}
 use Rattle.auction_core.specs.Rule.{SettlesQuery}
-use Rattle.auction_core.specs.State.{answered, has_ended}
-use Rattle.auction_core.proofs.ClockworkLemmas.{answered-test, clockwork-start, clockwork-test, gives-within, none-told, number-fits, some-told}
+use Rattle.auction_core.specs.State.{answered, has_ended, start_fits}
+use Rattle.auction_core.proofs.ClockworkLemmas.{answered-start, answered-test, clockwork-start, clockwork-test, due-room, number-fits, room-parts, settled-room}
+use Rattle.auction_core.proofs.TaskLemmas.{none-told, some-told, standing-query, start-shown, step-shown}
 use Rattle.auction_core.proofs.clockwork.Clockwork.settle.Goals as goal
 
 pub overflow_add-self : goal.overflow_add-self
 overflow_add-self c =
     let own = c.self.inside in
-    let fits_it = number-fits own.scenario own.number (length (left_of own.scenario own.course)) c.self.invariant.auction.limits c.self.invariant.tests in
+    let fits_it = number-fits own.setup.scenario own.setup.order own.number (length (left_of own.setup own.course)) c.self.invariant.course.sound.auction.limits c.self.invariant.tests in
     omega (arith, fits_it)
 
-pub begin-requires-clause-within : goal.begin-requires-clause-within
-begin-requires-clause-within c =
+pub begin-requires-clause-fresh : goal.begin-requires-clause-fresh
+begin-requires-clause-fresh c = none-told c.self.inside.course.start c.start.result.now c.is_none.result c.start.ensures c.is_none.ensures c.if-is_none.true
+
+pub begin-requires-clause-shown_is : goal.begin-requires-clause-shown_is
+begin-requires-clause-shown_is c =
     let own = c.self.inside in
+    let s = own.setup in
     let settles = subst (λ (v : ClockworkView). SettlesQuery v.scenario v.book v.state c.args.shown) (sym c.self.view_is) c.requires.settles in
-    gives-within own.scenario own.book (core_state own.scenario own.course own.number) c.args.shown settles
+    let fresh = none-told own.course.start c.start.result.now c.is_none.result c.start.ensures c.is_none.ensures c.if-is_none.true in
+    start-shown s.scenario s.book (core_state s own.course own.number) c.args.shown fresh c.self.invariant.rule settles
+
+pub begin-requires-clause-room : goal.begin-requires-clause-room
+begin-requires-clause-room c = ap (λ (v : ClockworkView). v.ready) c.self.view_is ∙ c.requires.ready
 
 pub invariant_of-self : goal.invariant_of-self
 invariant_of-self c =
@@ -25,13 +34,39 @@ invariant_of-self c =
     let standing = subst (λ (v : ClockworkView). has_ended v.state ≡ false) (sym c.self.view_is) c.requires.standing in
     let settles = subst (λ (v : ClockworkView). SettlesQuery v.scenario v.book v.state c.args.shown) (sym c.self.view_is) c.requires.settles in
     let fresh = none-told own.course.start c.start.result.now c.is_none.result c.start.ensures c.is_none.ensures c.if-is_none.true in
-    clockwork-start own.scenario own.book own.schedule.items own.course c.begin.new.course own.number c.args.shown c.self.invariant fresh standing settles c.begin.ensures.holds c.begin.ensures.rest c.begin.ensures.state
+    clockwork-start own.setup own.course c.begin.new.self own.number c.args.shown c.self.invariant fresh standing settles c.begin.ensures.holds c.begin.ensures.rest c.begin.ensures.state
 
-pub settle-requires-clause-within : goal.settle-requires-clause-within
-settle-requires-clause-within c =
+pub settle-requires : goal.settle-requires
+settle-requires c =
     let own = c.self.inside in
+    let s = own.setup in
     let settles = subst (λ (v : ClockworkView). SettlesQuery v.scenario v.book v.state c.args.shown) (sym c.self.view_is) c.requires.settles in
-    gives-within own.scenario own.book (core_state own.scenario own.course own.number) c.args.shown settles
+    let begun = some-told own.course.start c.start.result.now c.is_none.result c.start.ensures c.is_none.ensures c.if-is_none.false in
+    let query = standing-query s own.course own.number _ c.self.invariant (ap (λ (v : ClockworkView). v.state) c.self.view_is) begun c.requires.standing in
+    let ready : is_roomy s own.course ≡ true = ap (λ (v : ClockworkView). v.ready) c.self.view_is ∙ c.requires.ready in
+    let room = room-parts s own.course ready in
+    record {
+      holds = c.self.invariant.course;
+      running = query.running;
+      due = query.due;
+      shown_is = step-shown s own.course own.number c.args.shown c.self.invariant.course query settles;
+      room = due-room s own.course query.due room.0;
+      verdict = λ _. room.1;
+    }
+
+pub go_on-requires : goal.go_on-requires
+go_on-requires c =
+    let own = c.self.inside in
+    let s = own.setup in
+    let begun = some-told own.course.start c.start.result.now c.is_none.result c.start.ensures c.is_none.ensures c.if-is_none.false in
+    let query = standing-query s own.course own.number _ c.self.invariant (ap (λ (v : ClockworkView). v.state) c.self.view_is) begun c.requires.standing in
+    let ready : is_roomy s own.course ≡ true = ap (λ (v : ClockworkView). v.ready) c.self.view_is ∙ c.requires.ready in
+    let room = room-parts s own.course ready in
+    record {
+      holds = c.settle.ensures.settled.holds;
+      running = ap start_fits c.settle.ensures.running ∙ query.running;
+      room = settled-room s own.course c.settle.new.self query.due room.0 c.settle.ensures.room c.settle.ensures.next c.settle.ensures.round;
+    }
 
 pub invariant_of-self-2 : goal.invariant_of-self-2
 invariant_of-self-2 c =
@@ -39,11 +74,18 @@ invariant_of-self-2 c =
     let standing = subst (λ (v : ClockworkView). has_ended v.state ≡ false) (sym c.self.view_is) c.requires.standing in
     let settles = subst (λ (v : ClockworkView). SettlesQuery v.scenario v.book v.state c.args.shown) (sym c.self.view_is) c.requires.settles in
     let begun = some-told own.course.start c.start.result.now c.is_none.result c.start.ensures c.is_none.ensures c.if-is_none.false in
-    clockwork-test own.scenario own.book own.schedule.items own.course c.settle.new.self c.go_on.new.self own.number c.args.shown c.self.invariant begun standing settles c.settle.ensures.settled c.go_on.ensures.holds c.go_on.ensures.rest (c.go_on.ensures.running ∙ c.settle.ensures.running) c.go_on.ensures.state
+    clockwork-test own.setup own.course c.settle.new.self c.go_on.new.self own.number c.args.shown c.self.invariant begun standing settles c.settle.ensures.settled c.go_on.ensures.holds c.go_on.ensures.rest (c.go_on.ensures.running ∙ c.settle.ensures.running) c.go_on.ensures.state
+
+pub returns-then-is_none-clause-state : goal.returns-then-is_none-clause-state
+returns-then-is_none-clause-state c =
+    let own = c.self.inside in
+    let fresh = none-told own.course.start c.start.result.now c.is_none.result c.start.ensures c.is_none.ensures c.if-is_none.true in
+    answered-start own.setup own.course c.begin.new.self own.number c.args.shown fresh c.begin.ensures.state
+    ∙ ap (λ (v : ClockworkView). answered v.scenario v.book v.state c.args.shown) c.self.view_is
 
 pub returns-clause-state : goal.returns-clause-state
 returns-clause-state c =
     let own = c.self.inside in
     let begun = some-told own.course.start c.start.result.now c.is_none.result c.start.ensures c.is_none.ensures c.if-is_none.false in
-    answered-test own.scenario own.book own.course c.settle.new.self c.go_on.new.self own.number c.args.shown begun c.settle.ensures.settled c.go_on.ensures.state
+    answered-test own.setup own.course c.settle.new.self c.go_on.new.self own.number c.args.shown begun c.settle.ensures.settled c.go_on.ensures.state
     ∙ ap (λ (v : ClockworkView). answered v.scenario v.book v.state c.args.shown) c.self.view_is

@@ -1,7 +1,7 @@
 -- The standing query by how the start stands.
 use Rattle.std.proofs.Common.{◌∙◌, ap, sym, Some}
 use Rattle.auction_core.specs.Clockwork.{ClockworkView}
-use Rattle.auction_core.proofs.ClockworkLemmas.{none-told, task-ended, task-start}
+use Rattle.auction_core.proofs.TaskLemmas.{none-told, task-ended, task-start}
 use Rattle.auction_core.proofs.clockwork.Clockwork.task.Goals as goal
 
 pub returns-then-is_none : goal.returns-then-is_none

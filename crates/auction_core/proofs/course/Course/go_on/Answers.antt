@@ -1,7 +1,7 @@
 -- Where nothing is passed any more the clock is at rest.
 use Rattle.std.proofs.Common.{◌∙◌, sym, ap}
 use Rattle.auction_core.specs.State.{start_fits}
-use Rattle.auction_core.proofs.CourseLemmas.{at-rest}
+use Rattle.auction_core.proofs.CourseTests.{at-rest}
 use Rattle.auction_core.proofs.course.Course.go_on.Goals as goal
 
 pub returns-clause-state : goal.returns-clause-state
@@ -9,4 +9,4 @@ returns-clause-state c =
     let last = c.pass.ensures in
     let before = c.loop.invariant in
     let running = ap start_fits last.running ∙ before.1.0 in
-    λ n. sym (at-rest c.args.sc.now c.args.book.now c.pass.new.self n running last.holds (last.rest c.loop-test.false)) ∙ (last.same n ∙ before.1.1.1.1 n)
+    λ n. sym (at-rest c.args.setup.now c.pass.new.self n running last.holds (last.rest c.loop-test.false)) ∙ (last.same n ∙ before.1.1.1.1 n)

@@ -1,16 +1,30 @@
 -- The course before the start test.
-use Rattle.std.proofs.Common.{None}
+use Rattle.std.proofs.Common.{◌≡◌, ◌∙◌, None, [], ap, sym, subst, map, length, get_or}
+use Rattle.pack_defs.specs.declared.station.Station.{Station}
 use Rattle.pack_defs.specs.Scenario.{facilities}
-use Rattle.pack_defs.proofs.Words.{ascending-from}
-use Rattle.auction_core.specs.Course.{CourseView}
-use Rattle.auction_core.proofs.CourseLemmas.{first-holds}
+use Rattle.pack_defs.specs.ClockRule.{opening_state}
+use Rattle.auction_core.specs.AirMap.{AirMapView}
+use Rattle.auction_core.specs.Clock.{AreStandings}
+use Rattle.auction_core.specs.Course.{IsCourse}
+use Rattle.auction_core.specs.Past.{PastView}
+use Rattle.auction_core.proofs.CourseStart.{IsFirstPast, first-holds, first_course}
 use Rattle.auction_core.proofs.course.Course.open.Goals as goal
-
-pub none-requires : goal.none-requires
-none-requires c = rw c.as_slice.ensures (ascending-from (facilities c.args.sc.now) c.requires.ascend)
 
 pub returns-clause-holds : goal.returns-clause-holds
 returns-clause-holds c =
-    let sc = c.args.sc.now in
-    let first : CourseView → CourseView = λ z. record { start = None; standings = z.standings; map = z.map; steps = z.steps; total = 0; round = 1; place = 0; room = z.room } in
-    rw (c.in_ok-none.ensures, c.as_slice.ensures, c.in_ok-with_capacity.ensures.items) (first-holds sc c.in_ok-open.field-0 _ c.in_ok-open.ensures)
+    let s = c.args.setup.now in
+    let sc = s.scenario in
+    let stations = c.as_slice-stations.ensures ∙ ap (λ z. z.stations) c.scenario-sc.ensures.value in
+    let aired = c.air_those.ensures.same in
+    let first = c.in_ok-past.ensures in
+    let past : PastView = record c.air_those.new.past { room = c.reserve.new.self.past.room; verdicts = c.reserve.new.self.past.verdicts } in
+    let kept : IsFirstPast s past = record {
+      parts = c.air_those.ensures.parts;
+      on_air = c.air_those.ensures.on_air;
+      long = ap (λ (z : PastView). length z.seen) aired ∙ (first.long ∙ ap length stations);
+      seen = λ i. ap (λ (z : PastView). get_or z.seen i 0) aired ∙ first.seen i;
+      steps = ap (λ (z : PastView). z.steps) aired ∙ first.steps;
+    } in
+    let places : c.in_ok-none.field-0 ≡ record { stations = facilities sc; entries = [] } = c.in_ok-none.ensures ∙ ap (λ xs. (let m : AirMapView = record { stations = map (λ (x : Station). x.id) xs; entries = [] } in m)) stations in
+    let same : c.reserve.new.self ≡ first_course sc c.in_ok-clock.clock past = c.in_ok-reserve.ensures.same ∙ (λ j. record { start = None; standings = c.clock.view_is j; map = places j; past = past; total = 0; round = 1; turn = 0 }) in
+    subst (IsCourse s) (sym same) (first-holds s c.in_ok-clock.clock past c.scenario-sc.ensures.sound (subst (λ z. AreStandings z (opening_state z) c.in_ok-clock.clock) c.scenario-sc.ensures.value c.in_ok-clock.ensures) kept)

@@ -1,47 +1,115 @@
 -- The new fields are those of the course once its next test is settled so.
-use Rattle.std.proofs.Common.{◌≡◌, ◌∙◌, ◌+◌, ◌<◌, ◌∷◌, [], ◌++◌, None, arith, ap, sym, get_or, get_or-set_same, set, length}
+use Rattle.std.proofs.Common.{◌≡◌, ◌∙◌, ℕ, ◌+◌, ◌<◌, List, ◌∷◌, [], ◌++◌, None, arith, ap, sym, subst, get_or, get_or-set_same, set, length, true}
 use Rattle.pack_defs.specs.declared.station.Station.{Station}
+use Rattle.pack_defs.specs.Lists.{has_station, is_in}
 use Rattle.pack_defs.specs.Scenario.{facilities}
+use Rattle.pack_defs.specs.ClockRule.{turns}
 use Rattle.auction_core.specs.declared.clock.Standing.TheVariants.{Active}
-use Rattle.auction_core.specs.Clock.{answered_standing}
-use Rattle.auction_core.specs.Course.{CourseView, map_after, paid, test_at}
-use Rattle.auction_core.specs.State.{shows_room}
-use Rattle.auction_core.proofs.ClockLemmas.{facility_at, length-standings}
-use Rattle.auction_core.proofs.CourseLemmas.{is-next, is-settled, total-fits}
+use Rattle.auction_core.specs.declared.clock.Standing.{Standing}
+use Rattle.auction_core.specs.Clock.{answered_standing, stands_on_air}
+use Rattle.auction_core.specs.Course.{CourseView, core_state, map_after, next_test, paid}
+use Rattle.auction_core.specs.Parts.{PartsView, label_of, labelled, relabelled}
+use Rattle.auction_core.specs.Past.{PastView}
+use Rattle.auction_core.specs.State.{delta_of, last_fit, shows_room}
+use Rattle.auction_core.proofs.ClockLemmas.{active-is, facility_at, is_active_at, length-standings}
+use Rattle.auction_core.proofs.CourseLemmas.{IsAt, next_course, next_standing, total-fits}
+use Rattle.auction_core.proofs.CourseTests.{is-settled}
+use Rattle.auction_core.proofs.KeptPast.{HasNoted, fit-next, step-within}
+use Rattle.auction_core.proofs.Sets.{step_of}
 use Rattle.auction_core.proofs.course.Course.settle.Goals as goal
 
 abbrev none : Station
 none = record { id = 0; volume = 0; value = None }
 
+pub settle-requires-clause-active : goal.settle-requires-clause-active
+settle-requires-clause-active c =
+    let s = c.args.setup.now in
+    let old = c.args.self.now in
+    let at : IsAt s old c.place-place.result = record { within = c.place-place.ensures.within; station = c.place-place.ensures.station ∙ ap (λ (z : CourseView). get_or (turns s.scenario s.order) z.turn 0) c.self.view_is } in
+    ap (λ (z : CourseView). get_or z.standings c.place-place.result Active) c.self.view_is
+    ∙ active-is (get_or old.standings c.place-place.result Active) (sym (is_active_at c.place-place.result (next_test s old).station Active c.requires.holds.standings at.within at.station) ∙ c.requires.due.active)
+
 pub overflow_add-self : goal.overflow_add-self
 overflow_add-self c =
-    let sc = c.args.sc.now in
+    let s = c.args.setup.now in
     let old = c.args.self.now in
-    let standing = answered_standing sc (test_at sc old.round old.place) (shows_room c.args.shown) in
-    let moved : c.settle.new.self ≡ set old.standings old.place standing = c.settle.ensures ∙ (λ i. set (c.self.view_is i).standings (c.self.view_is i).place (answered_standing sc (test_at sc (c.self.view_is i).round (c.self.view_is i).place) (c.shows_room.ensures i))) in
-    let inside : old.place < length old.standings = rw (length-standings c.requires.holds.standings) c.requires.due.place in
-    let here : get_or c.standings.result.now c.self.inside.place Active ≡ standing = (λ i. get_or ((c.standings.ensures ∙ moved) i) (c.self.view_is i).place Active) ∙ get_or-set_same old.standings old.place standing Active inside in
+    let i : ℕ = c.place-place.result in
+    let view = c.self.view_is in
+    let at : IsAt s old i = record { within = c.place-place.ensures.within; station = c.place-place.ensures.station ∙ ap (λ (z : CourseView). get_or (turns s.scenario s.order) z.turn 0) view } in
+    let stations = c.as_slice.ensures ∙ ap (λ z. z.stations) c.scenario-sc.ensures.value in
+    let own : (get_or c.as_slice.result.now i none).id ≡ (next_test s old).station = ap (λ xs. (get_or xs i none).id) stations ∙ (sym (facility_at s.scenario i none at.within) ∙ at.station) in
+    let standing : Standing = next_standing s old c.args.shown in
+    let moved : c.settle.new.self ≡ set old.standings i standing = c.settle.ensures
+    ∙ ((λ j. set (view j).standings i (answered_standing (c.scenario-sc.ensures.value j) (record { round = (view j).round; station = get_or (facilities (c.scenario-sc.ensures.value j)) i 0 }) (c.shows_room-fits.ensures j)))
+    ∙ ap (λ f. set old.standings i (answered_standing s.scenario (record { round = old.round; station = f }) (shows_room c.args.shown))) at.station) in
+    let inside : i < length old.standings = rw (length-standings c.requires.holds.standings) at.within in
+    let here : get_or c.standings.result.now i Active ≡ standing = ap (λ xs. get_or xs i Active) (c.standings.ensures ∙ moved) ∙ get_or-set_same old.standings i standing Active inside in
     let pay : c.paid.result ≡ paid standing = c.paid.ensures ∙ ap paid here in
-    let total : c.self.inside.total ≡ old.total = ap (λ (z : CourseView). z.total) c.self.view_is in
-    let fits_it = total-fits sc old (test_at sc old.round old.place) (shows_room c.args.shown) c.requires.limits c.requires.holds in
+    let total : c.self.inside.total ≡ old.total = ap (λ (z : CourseView). z.total) view in
+    let fits_it = total-fits s old (next_test s old) (shows_room c.args.shown) c.requires.holds.sound c.requires.holds in
     rw (total, pay) (omega (arith, fits_it))
+
+pub take_if-requires-clause-within : goal.take_if-requires-clause-within
+take_if-requires-clause-within c =
+    let s = c.args.setup.now in
+    let old = c.args.self.now in
+    let i : ℕ = c.place-place.result in
+    let view = c.self.view_is in
+    let at : IsAt s old i = record { within = c.place-place.ensures.within; station = c.place-place.ensures.station ∙ ap (λ (z : CourseView). get_or (turns s.scenario s.order) z.turn 0) view } in
+    let stations = c.as_slice.ensures ∙ ap (λ z. z.stations) c.scenario-sc.ensures.value in
+    let own : (get_or c.as_slice.result.now i none).id ≡ (next_test s old).station = ap (λ xs. (get_or xs i none).id) stations ∙ (sym (facility_at s.scenario i none at.within) ∙ at.station) in
+    let steps : c.note.new.self.steps ≡ old.past.steps ++ step_of (next_test s old) c.args.shown ∷ [] = ap (λ (z : PastView). z.steps) c.note.ensures.same
+    ∙ (λ j. (view j).past.steps ++ record { round = (view j).round; station = own j; shown = c.args.shown } ∷ []) in
+    let fit : last_fit c.note.new.self.steps (get_or c.as_slice.result.now i none).id [] ≡ delta_of old.past.steps (next_test s old).station c.args.shown = (λ j. last_fit (steps j) (own j) []) ∙ fit-next s old c.args.shown in
+    let known : c.note.new.self.parts.stations ≡ facilities s.scenario = ap (λ (z : PastView). z.parts.stations) c.note.ensures.same ∙ (ap (λ (z : CourseView). z.past.parts.stations) view ∙ c.requires.holds.past.parts.stations) in
+    let here : last_fit c.note.new.self.steps (get_or c.note.new.self.parts.stations i 0) [] ≡ last_fit c.note.new.self.steps (get_or c.as_slice.result.now i none).id [] = ap (λ f. last_fit c.note.new.self.steps f []) (ap (λ xs. get_or xs i 0) known ∙ (at.station ∙ sym own)) in
+    let gives = step-within s.scenario s.book (core_state s old 0) (next_test s old) c.args.shown c.requires.shown_is c.requires.holds.past.fits in
+    λ f there. subst (λ xs. is_in xs f ≡ true) (sym (ap (λ (z : CourseView). z.map.stations) view ∙ c.requires.holds.stations)) (gives f (subst (λ (m : List (ℕ × ℕ)). has_station m f ≡ true) (here ∙ fit) there))
 
 pub returns-clause-settled : goal.returns-clause-settled
 returns-clause-settled c =
-    let sc = c.args.sc.now in
+    let s = c.args.setup.now in
     let old = c.args.self.now in
-    let standing = answered_standing sc (test_at sc old.round old.place) (shows_room c.args.shown) in
-    let moved : c.settle.new.self ≡ set old.standings old.place standing = c.settle.ensures ∙ (λ i. set (c.self.view_is i).standings (c.self.view_is i).place (answered_standing sc (test_at sc (c.self.view_is i).round (c.self.view_is i).place) (c.shows_room.ensures i))) in
-    let inside : old.place < length old.standings = rw (length-standings c.requires.holds.standings) c.requires.due.place in
-    let here : get_or c.standings.result.now c.self.inside.place Active ≡ standing = (λ i. get_or ((c.standings.ensures ∙ moved) i) (c.self.view_is i).place Active) ∙ get_or-set_same old.standings old.place standing Active inside in
+    let i : ℕ = c.place-place.result in
+    let view = c.self.view_is in
+    let at : IsAt s old i = record { within = c.place-place.ensures.within; station = c.place-place.ensures.station ∙ ap (λ (z : CourseView). get_or (turns s.scenario s.order) z.turn 0) view } in
+    let stations = c.as_slice.ensures ∙ ap (λ z. z.stations) c.scenario-sc.ensures.value in
+    let own : (get_or c.as_slice.result.now i none).id ≡ (next_test s old).station = ap (λ xs. (get_or xs i none).id) stations ∙ (sym (facility_at s.scenario i none at.within) ∙ at.station) in
+    let standing : Standing = next_standing s old c.args.shown in
+    let moved : c.settle.new.self ≡ set old.standings i standing = c.settle.ensures
+    ∙ ((λ j. set (view j).standings i (answered_standing (c.scenario-sc.ensures.value j) (record { round = (view j).round; station = get_or (facilities (c.scenario-sc.ensures.value j)) i 0 }) (c.shows_room-fits.ensures j)))
+    ∙ ap (λ f. set old.standings i (answered_standing s.scenario (record { round = old.round; station = f }) (shows_room c.args.shown))) at.station) in
+    let inside : i < length old.standings = rw (length-standings c.requires.holds.standings) at.within in
+    let here : get_or c.standings.result.now i Active ≡ standing = ap (λ xs. get_or xs i Active) (c.standings.ensures ∙ moved) ∙ get_or-set_same old.standings i standing Active inside in
     let pay : c.paid.result ≡ paid standing = c.paid.ensures ∙ ap paid here in
-    let own : (get_or c.as_slice.result.now c.self.inside.place none).id ≡ get_or (facilities sc) old.place 0 = (λ i. (get_or (c.as_slice.ensures i) (c.self.view_is i).place none).id) ∙ sym (facility_at sc old.place none c.requires.due.place) in
-    let new : CourseView = record { start = c.self.inside.start; standings = c.settle.new.self; map = c.take_channels.new.map; steps = c.push_reserved.new.self.items; total = c.self.inside.total + c.paid.result; round = c.self.inside.round; place = c.self.inside.place + 1; room = _ } in
-    let same = is-next sc old new c.args.shown
-    (ap (λ (z : CourseView). z.start) c.self.view_is) moved
-    (c.take_channels.ensures ∙ (λ i. record { stations = (c.self.view_is i).map.stations; entries = map_after (c.self.view_is i).map.entries (here i) c.args.shown }))
-    (c.push_reserved.ensures.items ∙ (λ i. (c.self.view_is i).steps ++ record { round = (c.self.view_is i).round; station = own i; shown = c.args.shown } ∷ []))
-    (λ i. (c.self.view_is i).total + pay i)
-    (ap (λ (z : CourseView). z.round) c.self.view_is)
-    (ap (λ (z : CourseView). z.place + 1) c.self.view_is) in
-    is-settled sc old new c.args.shown _ c.requires.limits c.requires.running c.requires.holds c.requires.due same
+    let steps : c.note.new.self.steps ≡ old.past.steps ++ step_of (next_test s old) c.args.shown ∷ [] = ap (λ (z : PastView). z.steps) c.note.ensures.same
+    ∙ (λ j. (view j).past.steps ++ record { round = (view j).round; station = own j; shown = c.args.shown } ∷ []) in
+    let fit : last_fit c.note.new.self.steps (get_or c.as_slice.result.now i none).id [] ≡ delta_of old.past.steps (next_test s old).station c.args.shown = (λ j. last_fit (steps j) (own j) []) ∙ fit-next s old c.args.shown in
+    let parts = ap (λ (z : PastView). z.parts) c.note.ensures.same ∙ ap (λ (z : CourseView). z.past.parts) view in
+    let air = ap (λ (z : PastView). z.on_air) c.note.ensures.same ∙ ap (λ (z : CourseView). z.past.on_air) view in
+    let noted : HasNoted s old c.args.shown i c.air_if.new.past = record {
+      steps = ap (λ (z : PastView). z.steps) c.air_if.ensures.same ∙ steps;
+      seen = ap (λ (z : PastView). z.seen) c.air_if.ensures.same ∙ (ap (λ (z : PastView). z.seen) c.note.ensures.same ∙ (λ j. set (view j).past.seen i (view j).past.on_air));
+      stations = c.air_if.ensures.stations ∙ ap (λ (z : PartsView). z.stations) parts;
+      went = λ on.
+          let w = c.air_if.ensures.went (ap stands_on_air here ∙ on) in
+          (w.0 ∙ ap (λ n. n + 1) air, λ z. w.1 z ∙ (λ j. relabelled (c.book.ensures j) (labelled (parts j)) (label_of (parts j)) (own j) (air j + 1) z));
+      stood = λ off.
+          let w = c.air_if.ensures.stood (ap stands_on_air here ∙ off) in
+          (w.0 ∙ air, w.1 ∙ parts);
+    } in
+    let known : c.note.new.self.parts.stations ≡ facilities s.scenario = ap (λ (z : PastView). z.parts.stations) c.note.ensures.same ∙ (ap (λ (z : CourseView). z.past.parts.stations) view ∙ c.requires.holds.past.parts.stations) in
+    let given : last_fit c.note.new.self.steps (get_or c.note.new.self.parts.stations i 0) [] ≡ delta_of old.past.steps (next_test s old).station c.args.shown = ap (λ f. last_fit c.note.new.self.steps f []) (ap (λ xs. get_or xs i 0) known ∙ (at.station ∙ sym own)) ∙ fit in
+    let map_is : c.take_if.new.map ≡ record { stations = old.map.stations; entries = map_after old.map.entries standing (delta_of old.past.steps (next_test s old).station c.args.shown) } = c.take_if.ensures
+    ∙ (λ j. record { stations = (view j).map.stations; entries = map_after (view j).map.entries (here j) (given j) }) in
+    let new : CourseView = record { start = c.self.inside.start; standings = c.settle.new.self; map = c.take_if.new.map; past = c.air_if.new.past; total = c.self.inside.total + c.paid.result; round = c.self.inside.round; turn = c.self.inside.turn + 1 } in
+    let same : new ≡ next_course s old c.args.shown i c.air_if.new.past = λ j. record {
+      start = (view j).start;
+      standings = moved j;
+      map = map_is j;
+      past = c.air_if.new.past;
+      total = (view j).total + pay j;
+      round = (view j).round;
+      turn = (view j).turn + 1;
+    } in
+    is-settled s old new c.args.shown i c.air_if.new.past c.requires.holds.sound c.requires.running c.requires.holds c.requires.due at noted c.requires.shown_is same

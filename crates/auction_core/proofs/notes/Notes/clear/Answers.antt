@@ -5,7 +5,7 @@ use Rattle.auction_core.proofs.notes.Notes.clear.Goals as goal
 
 pub loop-i-preserved : goal.loop-i-preserved
 loop-i-preserved c =
-    (emptied-next c.loop-i.i c.self.inside.places.items c.loop-i.self-inside.places.items _ (search rules) c.loop-i.invariant.0 refl, c.loop-i.invariant.1)
+    (emptied-next c.loop-i.i c.self.inside.places.items c.loop-i.self-inside.places.items _ (search rules) c.loop-i.invariant.0 refl, c.loop-i.invariant.1, c.loop-i.invariant.2)
 
 pub returns-clause-none : goal.returns-clause-none
 returns-clause-none c =

@@ -1,5 +1,5 @@
--- The places before this one are empty.
-use Rattle.std.proofs.Common.{◌≡◌, length}
+-- The places before this one are empty, and no list is given out.
+use Rattle.std.proofs.Common.{◌≡◌, [], length}
 use Rattle.auction_core.proofs.Emptied.{emptied}
 use Rattle.auction_core.proofs.notes.Notes.clear.Given as goal
 
@@ -7,3 +7,4 @@ abbrev pub invariant-loop-i : goal.invariant-loop-i
 invariant-loop-i l =
     (l.self-inside.places.items ≡ emptied l.i l.initial.self-inside.places.items)
     × (l.workers ≡ length l.initial.self-inside.places.items)
+    × (l.self-inside.all.items ≡ [])

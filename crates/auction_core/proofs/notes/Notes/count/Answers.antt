@@ -15,4 +15,4 @@ overflow_add-count c =
 pub returns : goal.returns
 returns c =
     all-counted c.loop-place.place-index c.loop-place.count c.deref-place-items.result.now (search rules) c.loop-place.invariant
-    ∙ ap (λ xs. length (notes_of xs)) (c.deref-place-items.ensures.value ∙ c.self.view_is)
+    ∙ (ap (λ xs. length (notes_of xs)) c.deref-place-items.ensures.value ∙ ap (λ v. length v.noted) c.self.view_is)

@@ -1,7 +1,14 @@
--- By the lemma on a worker's place.
-use Rattle.std.proofs.Common.{rules}
-use Rattle.auction_core.proofs.NoteLemmas.{noted-at}
+-- By the lemmas on a worker's place; a worker past the last has none, so it is not noted.
+use Rattle.std.proofs.Common.{rules, sym, ap, ◌∙◌, arith, le-ltb}
+use Rattle.auction_core.specs.Take.{is_noted}
+use Rattle.auction_core.proofs.NoteLemmas.{not-past, noted-at}
 use Rattle.auction_core.proofs.notes.Notes.has.Goals as goal
 
-pub returns : goal.returns
-returns c = rw (← c.self.view_is, noted-at c.args.worker c.self.inside.places.items c.index.result.now (search rules)) (search rules)
+pub returns-then-worker-len : goal.returns-then-worker-len
+returns-then-worker-len c = rw (← c.self.view_is, noted-at c.args.worker c.self.inside.places.items c.index.result.now (search rules)) (search rules)
+
+pub returns-else-worker-len : goal.returns-else-worker-len
+returns-else-worker-len c =
+    let past = c.if-worker-len.false in
+    le-ltb c.args.worker c.len.result past
+    ∙ sym (ap (λ v. is_noted v.noted c.args.worker) (sym c.self.view_is) ∙ not-past 0 c.args.worker c.self.inside.places.items (omega (arith, past, c.len.ensures, c.self.inside.places.ok.0)))

@@ -14,6 +14,7 @@ loop-i-preserved-in_default c =
       c.loop-i.invariant.1 ∙ ap (λ xs. c.args.receipts.now.items ++ xs) (sym (passed-one c.loop-i.i c.self.inside.places.items c.index_mut.result.now none)),
       search rules,
       end,
+      c.loop-i.invariant.4,
     )
 
 pub loop-i-preserved : goal.loop-i-preserved
@@ -29,6 +30,7 @@ loop-i-preserved c =
           ∙ ap (λ xs. c.args.receipts.now.items ++ xs) (sym (taken-one c.loop-i.i c.self.inside.places.items c.index_mut.result.now c.in-Some.receipt h some)))),
       search rules,
       end,
+      c.loop-i.invariant.4,
     )
 
 pub returns-clause-none : goal.returns-clause-none

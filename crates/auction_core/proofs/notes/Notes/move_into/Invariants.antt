@@ -1,5 +1,5 @@
 -- The places before this one are empty, their receipts stand in the list, and there is room for those of the others.
-use Rattle.std.proofs.Common.{◌≡◌, ◌≤◌, ◌+◌, ◌-◌, ◌++◌, length, vec_len, vec_capacity}
+use Rattle.std.proofs.Common.{◌≡◌, ◌≤◌, ◌+◌, ◌-◌, [], ◌++◌, length, vec_len, vec_capacity}
 use Rattle.auction_core.proofs.Emptied.{emptied, first_receipts}
 use Rattle.auction_core.proofs.notes.Notes.move_into.Given as goal
 
@@ -9,3 +9,4 @@ invariant-loop-i l =
     × (l.receipts.items ≡ l.initial.receipts.items ++ first_receipts l.i l.initial.self-inside.places.items)
     × (vec_len l.receipts + (length l.initial.self-inside.places.items - l.i) ≤ vec_capacity l.receipts)
     × (l.i-end ≡ length l.initial.self-inside.places.items)
+    × (l.self-inside.all.items ≡ [])

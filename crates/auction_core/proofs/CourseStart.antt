@@ -1,0 +1,213 @@
+-- The course before the start test, and once that test is settled.
+use Rattle.std.specs.Prelude.{find, option_map}
+use Rattle.std.proofs.Common.{MatchOption, ◌≡◌, ◌∙◌, ℕ, ◌+◌, ◌≤◌, Bool, true, false, not, cond, List, [], ◌∷◌, length, filter, get_or, Option, Some, None, refl, sym, ap, ap₂, subst, sum_by, arith, ◌*◌}
+use Rattle.std.proofs.lemmas.Bool.{cond-false, cond-true, false≢true, not-true}
+use Rattle.std.proofs.lemmas.List.{length-map}
+use Rattle.pack_defs.specs.declared.scenario.Scenario.{Scenario}
+use Rattle.pack_defs.specs.declared.station.Station.{Station}
+use Rattle.pack_defs.specs.Book.{BookView, domain_of}
+use Rattle.pack_defs.specs.ChannelMap.{overlaid}
+use Rattle.pack_defs.specs.Lists.{has_station, is_empty}
+use Rattle.pack_defs.specs.Scenario.{facilities}
+use Rattle.pack_defs.specs.Prices.{bidders, declines, start_set}
+use Rattle.pack_defs.specs.ClockRule.{ClockState, OnAirSince, clock_tests, is_active, opening_state}
+use Rattle.pack_defs.proofs.Members.{Contains-from_filter, is_in-gives}
+use Rattle.auction_core.specs.declared.clock.Standing.{Standing}
+use Rattle.auction_core.specs.declared.record.Shown.{Shown}
+use Rattle.auction_core.specs.declared.record.Shown.TheVariants.{Empty, Fits, Same, NoChannel, Refuted, Outside, Undecided}
+use Rattle.auction_core.specs.declared.record.Step.{Step}
+use Rattle.auction_core.specs.Backed.{IsSettledBy, IsStartShown, after_start, after_steps, shown_start}
+use Rattle.auction_core.specs.Clock.{AreStandings}
+use Rattle.auction_core.specs.Course.{CourseView, GivesWithin, GoesByRule, IsCourse, IsIdle, clock_of, core_state, left_of, most_paid, tests_left}
+use Rattle.auction_core.specs.Parts.{IsPartsOf, last_seen}
+use Rattle.auction_core.specs.Past.{PastView}
+use Rattle.auction_core.specs.Setup.{IsSound, SetupView}
+use Rattle.auction_core.specs.State.{CoreState, before_start, go_on, last_fit, shows_room, start_delta, start_fits, start_task, started}
+use Rattle.auction_core.proofs.Answers.{filter-in}
+use Rattle.auction_core.proofs.CourseLemmas.{sound-auction}
+use Rattle.auction_core.proofs.CourseTests.{go_on-left, left-all, left-runs, walked-same}
+use Rattle.auction_core.proofs.Keeps.{IsBare, first-walk}
+use Rattle.auction_core.proofs.Sets.{within-fit}
+
+-- ---- before the start test
+
+-- those that pass and those that don't are not more than all
+both-kinds : (p : ℕ → Bool) (xs : List ℕ) → length (filter (λ x. not (p x)) xs) + length (filter p xs) ≤ length xs
+both-kinds p [] = omega arith
+both-kinds p (x ∷ xs) =
+    let rest = both-kinds p xs in
+    elim (p x) as (λ b. length (cond (not b) (x ∷ filter (λ x. not (p x)) xs) (filter (λ x. not (p x)) xs)) + length (cond b (x ∷ filter p xs) (filter p xs)) ≤ length (x ∷ xs)) [
+      | true ↦ omega (arith, rest)
+      | false ↦ omega (arith, rest)
+    ]
+
+-- the course before the start test
+abbrev pub first_course : Scenario → List Standing → PastView → CourseView
+first_course sc standings past = record { start = None; standings = standings; map = record { stations = facilities sc; entries = [] }; past = past; total = 0; round = 1; turn = 0 }
+
+-- what is kept before the first test
+pub record IsFirstPast (s : SetupView) (past : PastView) : Type 0 where
+  pub parts : IsPartsOf s.scenario s.book (opening_state s.scenario) past.parts
+  pub on_air : past.on_air ≡ length (opening_state s.scenario).on_air
+  pub long : length past.seen ≡ length s.scenario.stations
+  pub seen : (i : ℕ) → get_or past.seen i 0 ≡ 0
+  pub steps : past.steps ≡ []
+
+pub first-clock : (s : SetupView) (standings : List Standing) (past : PastView) → past.steps ≡ [] → clock_of s (first_course s.scenario standings past) ≡ opening_state s.scenario
+first-clock s standings past none = ap (λ xs. (after_steps s.scenario (after_start s.scenario s.order Empty) xs).clock) none
+
+pub first-holds : (s : SetupView) (standings : List Standing) (past : PastView) → IsSound s → AreStandings s.scenario (opening_state s.scenario) standings → IsFirstPast s past → IsCourse s (first_course s.scenario standings past)
+first-holds s standings past l are f =
+    let sc = s.scenario in
+    let clock = first-clock s standings past f.steps in
+    let all = length-map sc.stations (λ (x : Station). x.id) in
+    let few = both-kinds (λ z. declines sc z 0) (facilities sc) in
+    let on = length-map (start_set sc) (λ z. (let x : OnAirSince = record { station = z; round = 0 } in x)) in
+    record {
+      sound = l;
+      standings = subst (λ z. AreStandings sc z standings) (sym clock) are;
+      stations = refl;
+      begun = omega arith;
+      round = omega arith;
+      turn = omega arith;
+      bid = λ f active. not-true (declines sc f 0) (Contains-from_filter (λ z. not (declines sc z 0)) (facilities sc) f (is_in-gives (bidders sc) f (subst (λ (z : ClockState). is_active z f ≡ true) clock active))).1;
+      idle = λ _. record { steps = f.steps; map = refl; round = refl; turn = refl };
+      sum = sym (ap (λ (z : ClockState). sum_by (λ x. x.price) z.frozen) clock);
+      bound = omega arith;
+      each = subst (λ (z : ClockState). length z.frozen + length z.active + length z.on_air ≤ length sc.stations) (sym clock) (omega (arith, few, on, all));
+      past = record {
+        parts = subst (λ z. IsPartsOf sc s.book z past.parts) (sym clock) f.parts;
+        on_air = f.on_air ∙ sym (ap (λ (z : ClockState). length z.on_air) clock);
+        long = f.long;
+        seen = λ i inside. f.seen i ∙ sym (ap (λ xs. last_seen sc (opening_state sc) xs (get_or (facilities sc) i 0) 0) f.steps);
+        fits = λ z. subst (λ xs. GivesWithin sc (last_fit xs z [])) (sym f.steps) (λ y there. absurd (false≢true there));
+      };
+      rule = λ running. absurd (false≢true running);
+    }
+
+pub first-state : (s : SetupView) (standings : List Standing) (past : PastView) → past.steps ≡ [] → core_state s (first_course s.scenario standings past) 1 ≡ before_start s.scenario s.order
+first-state s standings past none =
+    let first : ClockState → List Step → CoreState = λ c xs. record (before_start s.scenario s.order) { clock = c; steps = xs } in
+    ap₂ first (first-clock s standings past none) none
+
+-- ---- once the start test is settled
+
+-- before a step the clock stands at its opening
+idle-clock : (s : SetupView) (c : CourseView) → IsIdle c → clock_of s c ≡ opening_state s.scenario
+idle-clock s c h = ap (λ xs. (after_steps s.scenario (after_start s.scenario s.order (shown_start c.start)) xs).clock) h.steps
+
+-- what shows no room gives the map nothing
+gives-none : (shown : Shown) → shows_room shown ≡ false → start_delta shown ≡ []
+gives-none Empty h = refl
+gives-none (Fits delta) h = absurd (false≢true (sym h))
+gives-none Same h = refl
+gives-none (NoChannel s) h = refl
+gives-none (Refuted w how) h = refl
+gives-none (Outside proof) h = refl
+gives-none (Undecided receipts) h = refl
+
+-- what is given by the start are channels of the scenario's stations
+pub start-within : (sc : Scenario) (book : BookView) (shown : Shown) → IsStartShown sc book shown → GivesWithin sc (start_delta shown)
+start-within sc book shown h =
+    let bare : Option ℕ = find (λ s. is_empty (domain_of book s)) (start_set sc) in
+    let none : (u : Shown) → start_delta u ≡ [] → shown ≡ u → GivesWithin sc (start_delta shown) = λ u e same z there. absurd (false≢true (sym (ap (λ m. has_station m z) (ap start_delta same ∙ e)) ∙ there)) in
+    let inner : (o : Option ℕ) → MatchOption (option_map NoChannel o) (IsSettledBy sc book (start_task sc 1) shown) (λ unasked. shown ≡ unasked) → GivesWithin sc (start_delta shown) = λ o. elim o as (λ o. MatchOption (option_map NoChannel o) (IsSettledBy sc book (start_task sc 1) shown) (λ unasked. shown ≡ unasked) → GivesWithin sc (start_delta shown)) [
+      | None ↦ λ k. by-query shown k
+      | Some s ↦ λ k. none (NoChannel s) refl k
+    ] in
+    let outer : (b : Bool) → MatchOption (cond b (Some Empty) (option_map NoChannel bare)) (IsSettledBy sc book (start_task sc 1) shown) (λ unasked. shown ≡ unasked) → GivesWithin sc (start_delta shown) = λ b. elim b as (λ b. MatchOption (cond b (Some Empty) (option_map NoChannel bare)) (IsSettledBy sc book (start_task sc 1) shown) (λ unasked. shown ≡ unasked) → GivesWithin sc (start_delta shown)) [
+      | true ↦ λ k. none Empty refl k
+      | false ↦ λ k. inner bare k
+    ] in
+    outer (is_empty (start_set sc)) h
+  where
+    by-query : (shown : Shown) → IsSettledBy sc book (start_task sc 1) shown → GivesWithin sc (start_delta shown)
+    by-query Empty k = absurd k
+    by-query (Fits delta) k = λ z there. (filter-in (λ f. declines sc f 0) (facilities sc) z (within-fit book (start_set sc) [] delta k z there)).0
+    by-query Same k = absurd k
+    by-query (NoChannel s) k = absurd k
+    by-query (Refuted w how) k = λ z there. absurd (false≢true there)
+    by-query (Outside proof) k = absurd k
+    by-query (Undecided receipts) k = λ z there. absurd (false≢true there)
+
+-- the course once the start test is settled so
+abbrev pub begun : CourseView → Shown → CourseView
+begun c shown = record c { start = Some shown; map = record { stations = c.map.stations; entries = overlaid c.map.entries (start_delta shown) } }
+
+begun-idle : (c : CourseView) (shown : Shown) → IsIdle c → shows_room shown ≡ false → IsIdle (begun c shown)
+begun-idle c shown h none = record {
+  steps = h.steps;
+  map = ap (overlaid c.map.entries) (gives-none shown none) ∙ h.map;
+  round = h.round;
+  turn = h.turn;
+}
+
+begun-clock : (s : SetupView) (c : CourseView) (shown : Shown) → IsIdle c → clock_of s (begun c shown) ≡ clock_of s c
+begun-clock s c shown h = ap (λ xs. (after_steps s.scenario (after_start s.scenario s.order shown) xs).clock) h.steps ∙ sym (idle-clock s c h)
+
+none-runs : (c : CourseView) → c.start ≡ None → start_fits c.start ≡ false
+none-runs c fresh = ap start_fits fresh
+
+-- all tests are left
+begun-left : (s : SetupView) (c : CourseView) (shown : Shown) → IsIdle c → shows_room shown ≡ true → left_of s (begun c shown) ≡ clock_tests s.scenario s.order
+begun-left s c shown h room = left-runs s (begun c shown) room ∙ (ap₂ (tests_left s) h.round h.turn ∙ left-all s)
+
+begun-rule : (s : SetupView) (c : CourseView) (shown : Shown) → IsSound s → c.start ≡ None → IsIdle c → IsStartShown s.scenario s.book shown → shows_room shown ≡ true → GoesByRule s (begun c shown)
+begun-rule s c shown l fresh h is room =
+    let bare : IsBare s.scenario (core_state s c 0) = record { clock = idle-clock s c h; left = cond-false (start_fits c.start) (tests_left s c.round c.turn) [] (none-runs c fresh); map = h.map; steps = h.steps } in
+    let walked = first-walk s.scenario s.book shown (core_state s c 0) (sound-auction s l) bare is room in
+    record {
+      before = [];
+      parts = begun-left s c shown h room;
+      walked = walked-same s shown (record (core_state s c 0) { start = Some shown; map = overlaid c.map.entries (start_delta shown) }) (core_state s (begun c shown) 0) [] refl (sym (begun-clock s c shown h)) refl refl walked;
+    }
+
+pub begun-holds : (s : SetupView) (c : CourseView) (shown : Shown) → c.start ≡ None → IsCourse s c → IsStartShown s.scenario s.book shown → IsCourse s (begun c shown)
+begun-holds s c shown fresh h is =
+    let sc = s.scenario in
+    let idle = h.idle (none-runs c fresh) in
+    let clock = begun-clock s c shown idle in
+    let back = sym clock in
+    record {
+      sound = h.sound;
+      standings = subst (λ z. AreStandings sc z c.standings) back h.standings;
+      stations = h.stations;
+      begun = h.begun;
+      round = h.round;
+      turn = h.turn;
+      bid = λ f active. h.bid f (subst (λ (z : ClockState). is_active z f ≡ true) clock active);
+      idle = λ none. begun-idle c shown idle none;
+      sum = subst (λ (z : ClockState). c.total ≡ sum_by (λ x. x.price) z.frozen) back h.sum;
+      bound = subst (λ (z : ClockState). c.total ≤ most_paid * length z.frozen) back h.bound;
+      each = subst (λ (z : ClockState). length z.frozen + length z.active + length z.on_air ≤ length sc.stations) back h.each;
+      past = record {
+        parts = subst (λ z. IsPartsOf sc s.book z c.past.parts) back h.past.parts;
+        on_air = subst (λ (z : ClockState). c.past.on_air ≡ length z.on_air) back h.past.on_air;
+        long = h.past.long;
+        seen = h.past.seen;
+        fits = h.past.fits;
+      };
+      rule = λ room. begun-rule s c shown h.sound fresh idle is room;
+    }
+
+pub begun-state : (s : SetupView) (c : CourseView) (shown : Shown) (n : ℕ) → c.start ≡ None → IsCourse s c → shows_room shown ≡ true →
+    go_on s.scenario s.book (left_of s (begun c shown)) (core_state s (begun c shown) n) ≡ started s.scenario s.book (core_state s c n) shown
+begun-state s c shown n fresh h room =
+    let idle = h.idle (none-runs c fresh) in
+    let mid : CourseView = begun c shown in
+    let on : CoreState = record (core_state s c n) { start = Some shown; map = overlaid c.map.entries (start_delta shown) } in
+    ap (λ z. go_on s.scenario s.book (left_of s mid) (record (core_state s mid n) { clock = z })) (begun-clock s c shown idle)
+    ∙ (go_on-left s.scenario s.book (left_of s mid) (left_of s mid) on
+    ∙ (ap (λ l. go_on s.scenario s.book l on) (begun-left s c shown idle room)
+    ∙ sym (cond-true (shows_room shown) (go_on s.scenario s.book (clock_tests s.scenario s.order) on) (record (core_state s c n) { start = Some shown }) room)))
+
+pub begun-ended : (s : SetupView) (c : CourseView) (shown : Shown) (n : ℕ) → c.start ≡ None → IsCourse s c → shows_room shown ≡ false →
+    core_state s (begun c shown) n ≡ started s.scenario s.book (core_state s c n) shown
+begun-ended s c shown n fresh h none =
+    let idle = h.idle (none-runs c fresh) in
+    let mid : CourseView = begun c shown in
+    let on : CoreState = record (core_state s c n) { start = Some shown; map = overlaid c.map.entries (start_delta shown) } in
+    let off : CoreState = record (core_state s c n) { start = Some shown } in
+    let left : left_of s mid ≡ left_of s c = cond-false (shows_room shown) (tests_left s c.round c.turn) [] none ∙ sym (cond-false (start_fits c.start) (tests_left s c.round c.turn) [] (none-runs c fresh)) in
+    (λ i. record off { clock = begun-clock s c shown idle i; left = left i; map = overlaid c.map.entries (gives-none shown none i) })
+    ∙ sym (cond-false (shows_room shown) (go_on s.scenario s.book (clock_tests s.scenario s.order) on) off none)

@@ -1,0 +1,41 @@
+-- What stands while an auction runs, by what its parts are made of.
+use Rattle.std.proofs.Common.{◌≡◌, ℕ, ◌<◌, ◌≤◌, List, length, get_or, sym, ap, ◌∙◌, subst, arith}
+use Rattle.std.proofs.lemmas.List.{get_or-map, length-map}
+use Rattle.pack_defs.specs.declared.station.Station.{Station}
+use Rattle.pack_defs.specs.Scenario.{facilities}
+use Rattle.pack_defs.specs.Prices.{last_round}
+use Rattle.pack_defs.specs.ClockRule.{turns}
+use Rattle.pack_defs.proofs.Falls.{rounds-within}
+use Rattle.pack_defs.proofs.PriceLaws.{prices_rounds}
+use Rattle.pack_defs.proofs.Turns.{turns-length}
+use Rattle.auction_core.specs.Setup.{IsSetup, SetupView}
+
+-- as many prices as rounds, with round 0 for the last
+pub rounds-are : (s : SetupView) (schedule places : List ℕ) → IsSetup s schedule places → length schedule ≡ last_round s.scenario
+rounds-are s schedule places h = ap length h.offers ∙ prices_rounds s.scenario
+
+pub rounds-few : (s : SetupView) (schedule places : List ℕ) → IsSetup s schedule places → length schedule ≤ 1001
+rounds-few s schedule places h =
+    let few = rounds-within s.scenario h.sound.auction.limits in
+    let are = rounds-are s schedule places h in
+    omega (arith, few, are)
+
+-- a place for each station
+pub as-many : (s : SetupView) (schedule places : List ℕ) → IsSetup s schedule places → length places ≡ length s.scenario.stations
+as-many s schedule places h =
+    let own = length-map places (λ i. get_or (facilities s.scenario) i 0) in
+    let all = length-map s.scenario.stations (λ (x : Station). x.id) in
+    let turns_all = ap length h.turns_are ∙ turns-length s.scenario s.order in
+    omega (arith, own, all, turns_all)
+
+-- the station at the place of a turn
+pub station-at : (s : SetupView) (schedule places : List ℕ) (turn place d : ℕ) → IsSetup s schedule places → turn < length s.scenario.stations → get_or places turn d ≡ place →
+    (place < length s.scenario.stations) × (get_or (facilities s.scenario) place 0 ≡ get_or (turns s.scenario s.order) turn 0)
+station-at s schedule places turn place d h inside at =
+    let many = as-many s schedule places h in
+    let here : turn < length places = omega (arith, many, inside) in (
+      subst (λ i. i < length s.scenario.stations) at (h.within turn d here),
+      ap (λ i. get_or (facilities s.scenario) i 0) (sym at)
+          ∙ (sym (get_or-map (λ i. get_or (facilities s.scenario) i 0) places turn d 0 here)
+          ∙ ap (λ xs. get_or xs turn 0) h.turns_are),
+    )

@@ -1,0 +1,162 @@
+-- The parts of the stations that are on air from the start, one station after another.
+use Rattle.std.proofs.Common.{◌≡◌, ◌∙◌, ℕ, zero, suc, ◌+◌, ◌<◌, ◌≤◌, Bool, true, false, not, cond, ◌||◌, ◌==◌, Contains, List, [], ◌∷◌, ◌++◌, length, map, filter, take, get_or, inl, inr, refl, sym, ap, subst, arith, append-nil, length-append}
+use Rattle.std.proofs.lemmas.Bool.{both_ways, cond-false, cond-true, false_from_ne_true, ne_eqb, true≢false, cases_Bool}
+use Rattle.std.proofs.lemmas.List.{length-map, map-append, take_all}
+use Rattle.std.proofs.lemmas.List.Kept.{AllPairs-from_increasing}
+use Rattle.std.proofs.lemmas.List.Elements.{Contains-get_or}
+use Rattle.pack_defs.specs.declared.scenario.Scenario.{Scenario}
+use Rattle.pack_defs.specs.declared.station.Station.{Station}
+use Rattle.pack_defs.specs.Book.{BookView}
+use Rattle.pack_defs.specs.Lists.{is_in}
+use Rattle.pack_defs.specs.Scenario.{StationsAscend, facilities}
+use Rattle.pack_defs.specs.Prices.{declines, start_set}
+use Rattle.pack_defs.specs.ClockRule.{ClockState, ClockTest, OnAirSince, goes_on_air, is_on_air, opening_state}
+use Rattle.pack_defs.proofs.Members.{Contains-from_filter, is_in-from}
+use Rattle.pack_defs.proofs.Words.{list_any-map}
+use Rattle.auction_core.specs.declared.clock.Standing.{Standing}
+use Rattle.auction_core.specs.Clock.{AreStandings, stands_on_air}
+use Rattle.auction_core.specs.Past.{PastView}
+use Rattle.auction_core.specs.declared.clock.Standing.TheVariants.{Active}
+use Rattle.auction_core.specs.Parts.{IsPartsOf, PartsView, label_of, labelled, relabelled}
+use Rattle.auction_core.proofs.Answers.{filter-in, in-filter}
+use Rattle.auction_core.proofs.ClockLemmas.{is_on_air_at}
+use Rattle.auction_core.proofs.Since.{joined-parts}
+use Rattle.auction_core.proofs.StartLemmas.{starts-more}
+
+-- a station on air from the start
+abbrev starter : ℕ → OnAirSince
+starter s = record { station = s; round = 0 }
+
+-- those of the first so many stations that start on air
+abbrev starters : Scenario → ℕ → List ℕ
+starters sc i = filter (λ s. declines sc s 0) (take i (facilities sc))
+
+-- the opening, had only these gone on air
+abbrev pub aired : Scenario → ℕ → ClockState
+aired sc i = record (opening_state sc) { on_air = map starter (starters sc i) }
+
+-- the parts hang on the list of those on air alone
+parts-same : (sc : Scenario) (book : BookView) (a b : ClockState) (parts : PartsView) → a.on_air ≡ b.on_air → IsPartsOf sc book a parts → IsPartsOf sc book b parts
+parts-same sc book a b parts e h =
+    let at : IsPartsOf sc book (record b { on_air = a.on_air }) parts = record { stations = h.stations; on_air = h.on_air; are = h.are; most = h.most } in
+    let done = subst (λ o. IsPartsOf sc book (record b { on_air = o }) parts) e at in
+    record { stations = done.stations; on_air = done.on_air; are = done.are; most = done.most }
+
+-- none is on air where no station has a label
+pub aired-none : (sc : Scenario) (book : BookView) (parts : PartsView) → parts.stations ≡ facilities sc → ((z : ℕ) → label_of parts z ≡ 0) → IsPartsOf sc book (aired sc 0) parts
+aired-none sc book parts e none = record {
+  stations = e;
+  on_air = λ z c. ap (λ n. not (n == 0)) (none z);
+  are = record {
+    same = λ v w c d. absurd (off v c);
+    own = λ v c. absurd (off v c);
+    last = λ v c. absurd (off v c);
+  };
+  most = λ z. let nought = none z in omega (arith, nought);
+}
+  where
+    off : (v : ℕ) → Contains (labelled parts) v → ⊥
+    off v c = true≢false (sym (Contains-from_filter (λ v. not (label_of parts v == 0)) parts.stations v c).1 ∙ ap (λ n. not (n == 0)) (none v))
+
+-- ---- whether the station at a place starts on air
+
+member-passes : (p : ℕ → Bool) (xs : List ℕ) (z : ℕ) → is_in xs z ≡ true → is_in (filter p xs) z ≡ p z
+member-passes p xs z there =
+    (elim (p z) as (λ b. p z ≡ b → is_in (filter p xs) z ≡ b) [
+      | true ↦ λ e. in-filter p xs z there e
+      | false ↦ λ e. false_from_ne_true (is_in (filter p xs) z) (λ yes. both_ways (p z) e (filter-in p xs z yes).1)
+    ]) refl
+
+known-at : (sc : Scenario) (i : ℕ) → i < length sc.stations → is_in (facilities sc) (get_or (facilities sc) i 0) ≡ true
+known-at sc i inside = is_in-from (facilities sc) (get_or (facilities sc) i 0) (Contains-get_or (facilities sc) i 0 (rw (length-map sc.stations (λ (x : Station). x.id)) inside))
+
+starts-by : (sc : Scenario) (standings : List Standing) (i : ℕ) (d : Standing) → AreStandings sc (opening_state sc) standings → i < length sc.stations → declines sc (get_or (facilities sc) i 0) 0 ≡ stands_on_air (get_or standings i d)
+starts-by sc standings i d are inside =
+    let f : ℕ = get_or (facilities sc) i 0 in
+    sym (list_any-map (λ (x : OnAirSince). x.station == f) starter (start_set sc) ∙ member-passes (λ s. declines sc s 0) (facilities sc) f (known-at sc i inside))
+    ∙ is_on_air_at i f d are inside refl
+
+-- a number of a list that rises is not among those before it
+not-before : (xs : List ℕ) (i : ℕ) → ((j k : ℕ) → j < k → k < length xs → get_or xs j 0 < get_or xs k 0) → i < length xs → is_in (take i xs) (get_or xs i 0) ≡ false
+not-before [] i up inside = absurd (omega (arith, inside))
+not-before (x ∷ xs) zero up inside = refl
+not-before (x ∷ xs) (suc i) up inside =
+    let less = up 0 (suc i) (omega arith) inside in
+    ap (λ b. b || is_in (take i xs) (get_or xs i 0)) (ne_eqb x (get_or xs i 0) (λ e. absurd (omega (arith, less, e))))
+    ∙ not-before xs i (λ j k l m. up (suc j) (suc k) (omega (arith, l)) (omega (arith, m))) (omega (arith, inside))
+
+-- ---- one station more
+
+-- one that doesn't start on air
+pub passed-list : (sc : Scenario) (standings : List Standing) (i : ℕ) (d : Standing) → AreStandings sc (opening_state sc) standings → i < length sc.stations → stands_on_air (get_or standings i d) ≡ false → (aired sc (i + 1)).on_air ≡ (aired sc i).on_air
+passed-list sc standings i d are inside off =
+    ap (map starter) (starts-more sc i inside ∙ (ap (λ z. starters sc i ++ z) (cond-false _ _ _ (starts-by sc standings i d are inside ∙ off)) ∙ append-nil (starters sc i)))
+
+pub aired-passed : (sc : Scenario) (book : BookView) (standings : List Standing) (i : ℕ) (d : Standing) (parts : PartsView) → AreStandings sc (opening_state sc) standings → i < length sc.stations → stands_on_air (get_or standings i d) ≡ false → IsPartsOf sc book (aired sc i) parts → IsPartsOf sc book (aired sc (i + 1)) parts
+aired-passed sc book standings i d parts are inside off h = parts-same sc book (aired sc i) (aired sc (i + 1)) parts (sym (passed-list sc standings i d are inside off)) h
+
+-- one that does
+pub taken-list : (sc : Scenario) (standings : List Standing) (i : ℕ) (d : Standing) → AreStandings sc (opening_state sc) standings → i < length sc.stations → stands_on_air (get_or standings i d) ≡ true → (aired sc (i + 1)).on_air ≡ (aired sc i).on_air ++ starter (get_or (facilities sc) i 0) ∷ []
+taken-list sc standings i d are inside on =
+    ap (map starter) (starts-more sc i inside ∙ ap (λ z. starters sc i ++ z) (cond-true _ _ _ (starts-by sc standings i d are inside ∙ on)))
+    ∙ map-append starter (starters sc i) (get_or (facilities sc) i 0 ∷ [])
+
+pub aired-taken : (sc : Scenario) (book : BookView) (standings : List Standing) (i : ℕ) (d : Standing) (old new : PartsView) (n : ℕ) → StationsAscend sc → AreStandings sc (opening_state sc) standings → i < length sc.stations → stands_on_air (get_or standings i d) ≡ true →
+    IsPartsOf sc book (aired sc i) old → n ≡ length (aired sc i).on_air → new.stations ≡ old.stations → ((z : ℕ) → label_of new z ≡ relabelled book (labelled old) (label_of old) (get_or (facilities sc) i 0) (n + 1) z) → IsPartsOf sc book (aired sc (i + 1)) new
+aired-taken sc book standings i d old new n ascend are inside on h count same labels =
+    let f : ℕ = get_or (facilities sc) i 0 in
+    let t : ClockTest = record { round = 0; station = f } in
+    let all = length-map sc.stations (λ (x : Station). x.id) in
+    let within : i < length (facilities sc) = rw all inside in
+    let off : is_on_air (aired sc i) f ≡ false =
+    list_any-map (λ (x : OnAirSince). x.station == f) starter (starters sc i)
+    ∙ false_from_ne_true (is_in (starters sc i) f) (λ yes. both_ways (is_in (take i (facilities sc)) f) (not-before (facilities sc) i (λ j k l m. AllPairs-from_increasing (facilities sc) ascend j k 0 l m) within) (filter-in (λ s. declines sc s 0) (take i (facilities sc)) f yes).0) in
+    let joined = joined-parts sc book (aired sc i) t old new (Contains-get_or (facilities sc) i 0 within) off h same (subst (λ m. (z : ℕ) → label_of new z ≡ relabelled book (labelled old) (label_of old) f (m + 1) z) count labels) in
+    parts-same sc book (goes_on_air (aired sc i) t) (aired sc (i + 1)) new (sym (taken-list sc standings i d are inside on)) joined
+
+-- by whether it does
+pub aired-more : (sc : Scenario) (book : BookView) (standings : List Standing) (i : ℕ) (old new : PastView) → StationsAscend sc → AreStandings sc (opening_state sc) standings → i < length sc.stations →
+    IsPartsOf sc book (aired sc i) old.parts → old.on_air ≡ length (aired sc i).on_air → new.parts.stations ≡ old.parts.stations →
+    (stands_on_air (get_or standings i Active) ≡ true → (new.on_air ≡ old.on_air + 1) × ((z : ℕ) → label_of new.parts z ≡ relabelled book (labelled old.parts) (label_of old.parts) (get_or (facilities sc) i 0) (old.on_air + 1) z)) →
+    (stands_on_air (get_or standings i Active) ≡ false → (new.on_air ≡ old.on_air) × (new.parts ≡ old.parts)) →
+    IsPartsOf sc book (aired sc (i + 1)) new.parts × (new.on_air ≡ length (aired sc (i + 1)).on_air)
+aired-more sc book standings i old new ascend are inside h count same went stood =
+    elim (cases_Bool (stands_on_air (get_or standings i Active))) [
+      | inl on ↦
+          let w = went on in
+          let list = taken-list sc standings i Active are inside on in (
+            aired-taken sc book standings i Active old.parts new.parts old.on_air ascend are inside on h count same w.1,
+            w.0 ∙ (ap (λ n. n + 1) count ∙ (sym (length-append (aired sc i).on_air (starter (get_or (facilities sc) i 0) ∷ [])) ∙ sym (ap length list))),
+          )
+      | inr off ↦
+          let st = stood off in (
+            subst (IsPartsOf sc book (aired sc (i + 1))) (sym st.1) (aired-passed sc book standings i Active old.parts are inside off h),
+            st.0 ∙ (count ∙ sym (ap length (passed-list sc standings i Active are inside off))),
+          )
+    ]
+
+-- ---- all of them
+
+pub aired-all : (sc : Scenario) → (aired sc (length sc.stations)).on_air ≡ (opening_state sc).on_air
+aired-all sc = ap (λ xs. map starter (filter (λ s. declines sc s 0) xs)) (take_all (length sc.stations) (facilities sc) (let all = length-map sc.stations (λ (x : Station). x.id) in omega (arith, all)))
+
+pub aired-opening : (sc : Scenario) (book : BookView) (parts : PartsView) → IsPartsOf sc book (aired sc (length sc.stations)) parts → IsPartsOf sc book (opening_state sc) parts
+aired-opening sc book parts h = parts-same sc book (aired sc (length sc.stations)) (opening_state sc) parts (aired-all sc) h
+
+-- there are no more of them than stations
+pub aired-few : (sc : Scenario) (i : ℕ) → length (aired sc i).on_air ≤ i
+aired-few sc i = let kept = kept_at_most (λ s. declines sc s 0) (take i (facilities sc)) in let first = first_at_most i (facilities sc) in let same = length-map (starters sc i) starter in omega (arith, kept, first, same)
+  where
+    kept_at_most : (p : ℕ → Bool) (xs : List ℕ) → length (filter p xs) ≤ length xs
+    kept_at_most p [] = omega arith
+    kept_at_most p (x ∷ xs) =
+        let rest = kept_at_most p xs in
+        elim (p x) as (λ b. length (cond b (x ∷ filter p xs) (filter p xs)) ≤ length (x ∷ xs)) [
+          | true ↦ omega (arith, rest)
+          | false ↦ omega (arith, rest)
+        ]
+
+    first_at_most : (i : ℕ) (xs : List ℕ) → length (take i xs) ≤ i
+    first_at_most zero xs = omega arith
+    first_at_most (suc i) [] = omega arith
+    first_at_most (suc i) (x ∷ xs) = let rest = first_at_most i xs in omega (arith, rest)

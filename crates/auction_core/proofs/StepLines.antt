@@ -1,0 +1,155 @@
+-- Steps kept in lines and verdicts: what one step more makes of them, and where a fit stands.
+use Rattle.std.proofs.Common.{◌≡◌, ℕ, zero, suc, ◌+◌, ◌-◌, ◌<◌, ◌≤◌, Bool, true, false, if◌then◌else◌, List, [], ◌∷◌, ◌++◌, length, get_or, is_some, unwrap_or, refl, sym, ap, ◌∙◌, eqb-true, arith}
+use Rattle.std.proofs.lemmas.List.{get_or_push, length_push}
+use Rattle.auction_core.specs.declared.record.Shown.{Shown}
+use Rattle.auction_core.specs.declared.record.Shown.TheVariants.{Empty, Fits, Same, NoChannel, Refuted, Outside, Undecided}
+use Rattle.auction_core.specs.declared.record.Step.{Step}
+use Rattle.auction_core.specs.declared.step_list.Line.{Line}
+use Rattle.auction_core.specs.declared.step_list.Way.{Way}
+use Rattle.auction_core.specs.declared.step_list.Way.TheVariants.{Verdict, LikeBefore, Bare}
+use Rattle.auction_core.specs.State.{fit_of}
+use Rattle.auction_core.specs.StepList.{fit_at, merged, names_only, shown_by, takers, takes_verdict, told_behind, told_with, way_of}
+
+abbrev pub line_as : ℕ → ℕ → Way → Line
+line_as r s w = record { round = r; station = s; way = w }
+
+abbrev pub step_as : ℕ → ℕ → Shown → Step
+step_as r s x = record { round = r; station = s; shown = x }
+
+pub length-merged : (ls : List Line) (told : List Shown) → length (merged ls told) ≡ length ls
+length-merged [] told = refl
+length-merged (l ∷ ls) told = ap suc (length-merged ls (told_behind l.way told))
+
+-- ---- one step more
+
+-- with a verdict of its own
+more-told : (ls : List Line) (told : List Shown) (r s : ℕ) (x : Shown) → takers ls ≡ length told →
+    merged (ls ++ line_as r s Verdict ∷ []) (told ++ x ∷ []) ≡ merged ls told ++ step_as r s x ∷ []
+more-told [] [] r s x e = refl
+more-told [] (y ∷ ys) r s x e = absurd (omega arith)
+more-told (l ∷ ls) told r s x e = behind l.way told e (λ rest f. more-told ls rest r s x f)
+  where
+    behind : (w : Way) (told : List Shown) → (if takes_verdict w then 1 else 0) + takers ls ≡ length told →
+        ((rest : List Shown) → takers ls ≡ length rest → merged (ls ++ line_as r s Verdict ∷ []) (rest ++ x ∷ []) ≡ merged ls rest ++ step_as r s x ∷ []) →
+        step_as l.round l.station (shown_by w l.station (told ++ x ∷ [])) ∷ merged (ls ++ line_as r s Verdict ∷ []) (told_behind w (told ++ x ∷ [])) ≡ step_as l.round l.station (shown_by w l.station told) ∷ (merged ls (told_behind w told) ++ step_as r s x ∷ [])
+    behind Verdict [] e next = absurd (omega arith)
+    behind Verdict (y ∷ ys) e next = ap (λ xs. step_as l.round l.station y ∷ xs) (next ys (omega arith))
+    behind LikeBefore told e next = ap (λ xs. step_as l.round l.station Same ∷ xs) (next told (omega arith))
+    behind Bare told e next = ap (λ xs. step_as l.round l.station (NoChannel l.station) ∷ xs) (next told (omega arith))
+
+-- without one
+more-plain : (ls : List Line) (told : List Shown) (r s : ℕ) (way : Way) → takers ls ≡ length told →
+    merged (ls ++ line_as r s way ∷ []) told ≡ merged ls told ++ step_as r s (shown_by way s []) ∷ []
+more-plain [] [] r s way e = refl
+more-plain [] (y ∷ ys) r s way e = absurd (omega arith)
+more-plain (l ∷ ls) told r s way e = behind l.way told e (λ rest f. more-plain ls rest r s way f)
+  where
+    behind : (w : Way) (told : List Shown) → (if takes_verdict w then 1 else 0) + takers ls ≡ length told →
+        ((rest : List Shown) → takers ls ≡ length rest → merged (ls ++ line_as r s way ∷ []) rest ≡ merged ls rest ++ step_as r s (shown_by way s []) ∷ []) →
+        step_as l.round l.station (shown_by w l.station told) ∷ merged (ls ++ line_as r s way ∷ []) (told_behind w told) ≡ step_as l.round l.station (shown_by w l.station told) ∷ (merged ls (told_behind w told) ++ step_as r s (shown_by way s []) ∷ [])
+    behind Verdict [] e next = absurd (omega arith)
+    behind Verdict (y ∷ ys) e next = ap (λ xs. step_as l.round l.station y ∷ xs) (next ys (omega arith))
+    behind LikeBefore told e next = ap (λ xs. step_as l.round l.station Same ∷ xs) (next told (omega arith))
+    behind Bare told e next = ap (λ xs. step_as l.round l.station (NoChannel l.station) ∷ xs) (next told (omega arith))
+
+-- however it is shown
+pub pushed : (ls : List Line) (told : List Shown) (r s : ℕ) (x : Shown) → takers ls ≡ length told → names_only s x ≡ true →
+    merged (ls ++ line_as r s (way_of x) ∷ []) (told_with told x) ≡ merged ls told ++ step_as r s x ∷ []
+pushed ls told r s Empty e n = more-told ls told r s Empty e
+pushed ls told r s (Fits delta) e n = more-told ls told r s (Fits delta) e
+pushed ls told r s Same e n = more-plain ls told r s LikeBefore e
+pushed ls told r s (NoChannel f) e n = more-plain ls told r s Bare e ∙ ap (λ g. merged ls told ++ step_as r s (NoChannel g) ∷ []) (sym (eqb-true f s n))
+pushed ls told r s (Refuted worker how) e n = more-told ls told r s (Refuted worker how) e
+pushed ls told r s (Outside proof) e n = more-told ls told r s (Outside proof) e
+pushed ls told r s (Undecided receipts) e n = more-told ls told r s (Undecided receipts) e
+
+-- the lines with a verdict, once there is one line more
+takers-more : (ls : List Line) (l : Line) → takers (ls ++ l ∷ []) ≡ takers ls + (if takes_verdict l.way then 1 else 0)
+takers-more [] l = omega arith
+takers-more (m ∷ ls) l = let rest = takers-more ls l in omega (arith, rest)
+
+pub still-told : (ls : List Line) (told : List Shown) (r s : ℕ) (x : Shown) → takers ls ≡ length told →
+    takers (ls ++ line_as r s (way_of x) ∷ []) ≡ length (told_with told x)
+still-told ls told r s x e =
+    takers-more ls (line_as r s (way_of x))
+    ∙ elim (takes_verdict (way_of x)) as (λ b. takers ls + (if b then 1 else 0) ≡ length (if b then told ++ x ∷ [] else told)) [
+      | true ↦ let one = length_push told x in omega (arith, one, e)
+      | false ↦ omega (arith, e)
+    ]
+
+-- the lines and the verdicts once a step is pushed
+pub plain-with : (told : List Shown) (x : Shown) (w : Way) (b : Bool) → w ≡ way_of x → b ≡ takes_verdict w → b ≡ false → told ≡ told_with told x
+plain-with told x w b way is none =
+    sym (ap (λ c. if c then told ++ x ∷ [] else told) (ap takes_verdict (sym way) ∙ (sym is ∙ none)))
+
+pub more-with : (told : List Shown) (x : Shown) (w : Way) (b : Bool) → w ≡ way_of x → b ≡ takes_verdict w → b ≡ true → told ++ x ∷ [] ≡ told_with told x
+more-with told x w b way is some =
+    sym (ap (λ c. if c then told ++ x ∷ [] else told) (ap takes_verdict (sym way) ∙ (sym is ∙ some)))
+
+pub takers-now : (ls now : List Line) (told told_now : List Shown) (r s : ℕ) (w : Way) (x : Shown) → w ≡ way_of x → now ≡ ls ++ line_as r s w ∷ [] → told_now ≡ told_with told x → takers ls ≡ length told → takers now ≡ length told_now
+takers-now ls now told told_now r s w x way lines verdicts e =
+    ap takers (lines ∙ ap (λ v. ls ++ line_as r s v ∷ []) way) ∙ (still-told ls told r s x e ∙ ap length (sym verdicts))
+
+pub steps-now : (ls now : List Line) (told told_now : List Shown) (r s : ℕ) (w : Way) (x : Shown) → w ≡ way_of x → now ≡ ls ++ line_as r s w ∷ [] → told_now ≡ told_with told x → takers ls ≡ length told → names_only s x ≡ true → merged now told_now ≡ merged ls told ++ step_as r s x ∷ []
+steps-now ls now told told_now r s w x way lines verdicts e named =
+    ap (λ ks. merged ks told_now) (lines ∙ ap (λ v. ls ++ line_as r s v ∷ []) way)
+    ∙ (ap (merged (ls ++ line_as r s (way_of x) ∷ [])) verdicts ∙ pushed ls told r s x e named)
+
+-- ---- where a fit stands among the verdicts
+
+fit-behind : (told : List Shown) (k : ℕ) (d : Shown) → k < length told → fit_at told (suc k) ≡ unwrap_or (fit_of (get_or told k d)) []
+fit-behind [] k d h = absurd (omega arith)
+fit-behind (x ∷ xs) zero d h = refl
+fit-behind (x ∷ xs) (suc k) d h = fit-behind xs k d (omega arith)
+
+no-fit-behind : (told : List Shown) (k : ℕ) → length told ≤ k → fit_at told (suc k) ≡ []
+no-fit-behind [] k h = refl
+no-fit-behind (x ∷ xs) zero h = absurd (omega arith)
+no-fit-behind (x ∷ xs) (suc k) h = no-fit-behind xs k (omega arith)
+
+pub fit-there : (told : List Shown) (n : ℕ) (d : Shown) → 0 < n → n ≤ length told → fit_at told n ≡ unwrap_or (fit_of (get_or told (n - 1) d)) []
+fit-there told n d some h =
+    let next : n ≡ suc (n - 1) = omega arith in
+    ap (fit_at told) next ∙ fit-behind told (n - 1) d (omega arith)
+
+pub no-fit-there : (told : List Shown) (n : ℕ) → length told < n → fit_at told n ≡ []
+no-fit-there told n h =
+    let next : n ≡ suc (n - 1) = omega arith in
+    ap (fit_at told) next ∙ no-fit-behind told (n - 1) (omega arith)
+
+-- it stands there when more is told
+fit-stays : (told more : List Shown) (n : ℕ) → n ≤ length told → fit_at (told ++ more) n ≡ fit_at told n
+fit-stays told more zero h = refl
+fit-stays [] more (suc n) h = absurd (omega arith)
+fit-stays (x ∷ xs) more (suc zero) h = refl
+fit-stays (x ∷ xs) more (suc (suc n)) h = fit-stays xs more (suc n) (omega arith)
+
+pub fit-still : (told : List Shown) (x : Shown) (n : ℕ) → n ≤ length told → fit_at (told_with told x) n ≡ fit_at told n
+fit-still told x n h =
+    elim (takes_verdict (way_of x)) as (λ b. fit_at (if b then told ++ x ∷ [] else told) n ≡ fit_at told n) [
+      | true ↦ fit-stays told (x ∷ []) n h
+      | false ↦ refl
+    ]
+
+pub told-grows : (told : List Shown) (x : Shown) → length told ≤ length (told_with told x)
+told-grows told x =
+    elim (takes_verdict (way_of x)) as (λ b. length told ≤ length (if b then told ++ x ∷ [] else told)) [
+      | true ↦ let one = length_push told x in omega (arith, one)
+      | false ↦ omega arith
+    ]
+
+-- a fit is a verdict, and stands behind those before it
+fit-is-told : (told : List Shown) (x : Shown) → is_some (fit_of x) ≡ true → told_with told x ≡ told ++ x ∷ []
+fit-is-told told Empty h = cc
+fit-is-told told (Fits delta) h = refl
+fit-is-told told Same h = cc
+fit-is-told told (NoChannel s) h = cc
+fit-is-told told (Refuted worker how) h = cc
+fit-is-told told (Outside proof) h = cc
+fit-is-told told (Undecided receipts) h = cc
+
+pub fit-told : (told : List Shown) (x : Shown) → is_some (fit_of x) ≡ true → fit_at (told_with told x) (length (told_with told x)) ≡ unwrap_or (fit_of x) []
+fit-told told x h =
+    ap (λ xs. fit_at xs (length xs)) (fit-is-told told x h)
+    ∙ (fit-there (told ++ x ∷ []) (length (told ++ x ∷ [])) x (let one = length_push told x in omega (arith, one)) (omega arith)
+    ∙ ap (λ y. unwrap_or (fit_of y) []) (get_or_push told x x (length (told ++ x ∷ []) - 1) (let one = length_push told x in omega (arith, one))))

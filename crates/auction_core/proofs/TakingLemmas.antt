@@ -1,0 +1,90 @@
+-- What is noted is no part of a query, and a settled query leaves none noted.
+use Rattle.std.proofs.Common.{◌≡◌, ℕ, ◌+◌, Bool, true, false, if◌then◌else◌, List, [], ◌∷◌, Option, Some, None, is_none, refl, sym, ap, ◌∙◌, subst, MatchOption}
+use Rattle.std.specs.Option.{option_map_or}
+use Rattle.pack_defs.specs.Book.{BookView}
+use Rattle.pack_defs.specs.declared.order.Order.{Order}
+use Rattle.pack_defs.specs.declared.scenario.Scenario.{Scenario}
+use Rattle.pack_defs.specs.ClockRule.{ClockTest, clock_tests}
+use Rattle.pack_defs.specs.ChannelMap.{overlaid}
+use Rattle.auction_core.specs.declared.posting.Posting.{Posting}
+use Rattle.auction_core.specs.declared.posting.Reply.{Reply}
+use Rattle.auction_core.specs.declared.posting.Reply.TheVariants.{Advanced}
+use Rattle.auction_core.specs.declared.posting.Said.{Said}
+use Rattle.auction_core.specs.declared.record.Shown.{Shown}
+use Rattle.auction_core.specs.Backed.{IsSettledBy}
+use Rattle.auction_core.specs.Rule.{SettlesQuery}
+use Rattle.auction_core.specs.Said.{taken, told}
+use Rattle.auction_core.specs.State.{CoreState, NotedSpent, answered, before_start, go_on, has_ended, opening, past_first, settled, shows_room, start_delta, start_unasked, started, task_of}
+use Rattle.auction_core.specs.Take.{advanced, turned_away}
+use Rattle.auction_core.proofs.Keeps.{go-on-start}
+
+pub task-noted : (sc : Scenario) (book : BookView) (state : CoreState) (noted : List NotedSpent) → task_of sc book (record state { noted = noted }) ≡ task_of sc book state
+unfolding task_of
+task-noted sc book state noted = refl
+
+pub settles-noted : (sc : Scenario) (book : BookView) (state : CoreState) (noted : List NotedSpent) (shown : Shown) → SettlesQuery sc book (record state { noted = noted }) shown → SettlesQuery sc book state shown
+settles-noted sc book state noted shown h = subst (λ o. MatchOption o ⊥ (λ task. IsSettledBy sc book task shown)) (task-noted sc book state noted) h
+
+pub noted-settles : (sc : Scenario) (book : BookView) (state : CoreState) (noted : List NotedSpent) (shown : Shown) → SettlesQuery sc book state shown → SettlesQuery sc book (record state { noted = noted }) shown
+noted-settles sc book state noted shown h = subst (λ o. MatchOption o ⊥ (λ task. IsSettledBy sc book task shown)) (sym (task-noted sc book state noted)) h
+
+started-none : (sc : Scenario) (book : BookView) (state : CoreState) (shown : Shown) → state.noted ≡ [] → (started sc book state shown).noted ≡ []
+started-none sc book state shown e =
+    let on : CoreState = record state { start = Some shown; map = overlaid state.map (start_delta shown) } in
+    let off : CoreState = record state { start = Some shown } in
+    let go : (b : Bool) → (if b then go_on sc book (clock_tests sc state.order) on else off).noted ≡ [] = λ b. elim b as (λ b. (if b then go_on sc book (clock_tests sc state.order) on else off).noted ≡ []) [
+      | true ↦ (go-on-start sc book (clock_tests sc state.order) on).1 ∙ e
+      | false ↦ e
+    ] in
+    go (shows_room shown)
+
+-- nor does an opening
+opening-noted : (sc : Scenario) (book : BookView) (order : Order) → (opening sc book order).noted ≡ []
+unfolding opening
+opening-noted sc book order =
+    let first : CoreState = before_start sc order in
+    let go : (o : Option Shown) → (option_map_or (started sc book first) o first).noted ≡ [] = λ o. elim o as (λ o. (option_map_or (started sc book first) o first).noted ≡ []) [
+      | None ↦ refl
+      | Some shown ↦ started-none sc book first shown refl
+    ] in
+    go (start_unasked sc book)
+
+-- with none noted a state that opens so is the opening
+pub opening-is : (sc : Scenario) (book : BookView) (order : Order) (state : CoreState) (noted : List NotedSpent) → state ≡ opening sc book order → noted ≡ [] → record state { noted = noted } ≡ opening sc book order
+opening-is sc book order state noted e n =
+    ap (λ ns. record state { noted = ns }) (n ∙ sym (ap (λ s. s.noted) e ∙ opening-noted sc book order)) ∙ e
+
+past-none : (sc : Scenario) (book : BookView) (state : CoreState) (shown : Shown) (ts : List ClockTest) → state.noted ≡ [] → (past_first sc book state shown ts).noted ≡ []
+past-none sc book state shown [] e = e
+past-none sc book state shown (t ∷ ts) e = (go-on-start sc book ts (settled sc state t shown)).1 ∙ e
+
+-- a settled query leaves none noted
+pub answered-none : (sc : Scenario) (book : BookView) (state : CoreState) (shown : Shown) → (answered sc book state shown).noted ≡ []
+answered-none sc book state shown =
+    let next : CoreState = record state { noted = []; number = state.number + 1 } in
+    let go : (b : Bool) → (if b then started sc book next shown else past_first sc book next shown state.left).noted ≡ [] = λ b. elim b as (λ b. (if b then started sc book next shown else past_first sc book next shown state.left).noted ≡ []) [
+      | true ↦ started-none sc book next shown refl
+      | false ↦ past-none sc book next shown state.left refl
+    ] in
+    go (is_none state.start)
+
+-- what a settled query is told and leaves, whatever was noted on it
+pub advanced-is : (sc : Scenario) (book : BookView) (state after : CoreState) (noted : List NotedSpent) (shown : Shown) (next : Option ℕ) → after ≡ answered sc book state shown → noted ≡ [] → next ≡ (if has_ended after then None else Some after.number) → (Advanced next, record after { noted = noted }) ≡ advanced sc book state shown
+advanced-is sc book state after noted shown next a n e =
+    let same : record after { noted = noted } ≡ after = ap (λ ns. record after { noted = ns }) (n ∙ sym (ap (λ s. s.noted) a ∙ answered-none sc book state shown)) in
+    ap (λ o. (Advanced o, record after { noted = noted })) e
+    ∙ (ap (λ s. (Advanced (if has_ended after then None else Some after.number), s)) same
+    ∙ ap (λ s. (Advanced (if has_ended s then None else Some s.number), s)) a)
+
+-- a posting that is turned away
+pub taken-turned : (sc : Scenario) (book : BookView) (state : CoreState) (posting : Posting) (reply : Reply) → turned_away sc state posting.worker posting.number ≡ Some reply → (reply, state) ≡ taken sc book state posting
+unfolding taken
+taken-turned sc book state posting reply e =
+    sym (ap (λ o. option_map_or (λ reply. (reply, state)) o (told sc book state posting.worker posting.said)) e)
+
+-- one that isn't
+pub taken-told : (sc : Scenario) (book : BookView) (state : CoreState) (posting : Posting) (said : Said) → turned_away sc state posting.worker posting.number ≡ None → posting.said ≡ said → told sc book state posting.worker said ≡ taken sc book state posting
+unfolding taken
+taken-told sc book state posting said e s =
+    ap (told sc book state posting.worker) (sym s)
+    ∙ sym (ap (λ o. option_map_or (λ reply. (reply, state)) o (told sc book state posting.worker posting.said)) e)

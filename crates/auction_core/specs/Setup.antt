@@ -1,0 +1,30 @@
+-- What stands while an auction runs: its scenario and its book, and in which order a round tests the stations.
+use Rattle.std.specs.Prelude.{ℕ, ◌≡◌, ◌<◌, List, All, length, map, slice_index}
+use Rattle.pack_defs.specs.Book.{BookView, IsInOrder, stations_of}
+use Rattle.pack_defs.specs.declared.order.Order.{Order}
+use Rattle.pack_defs.specs.declared.scenario.Scenario.{Scenario}
+use Rattle.pack_defs.specs.Scenario.{IsWithinLimits, facilities}
+use Rattle.pack_defs.specs.Prices.{prices}
+use Rattle.pack_defs.specs.ClockRule.{turns}
+
+pub record SetupView : Type 0 where
+  pub scenario : Scenario
+  pub book : BookView
+  pub order : Order
+
+-- a scenario within the limits, and a book of exactly its stations
+pub record IsOfAuction (sc : Scenario) (book : BookView) : Type 0 where
+  pub limits : IsWithinLimits sc
+  pub stations : stations_of book ≡ facilities sc
+
+-- and the book is in order
+pub record IsSound (s : SetupView) : Type 0 where
+  pub auction : IsOfAuction s.scenario s.book
+  pub in_order : IsInOrder s.book
+
+-- What the program keeps of it: the prices by round, and the places of the stations in a round's order.
+pub record IsSetup (s : SetupView) (schedule places : List ℕ) : Type 0 where
+  pub sound : IsSound s
+  pub offers : schedule ≡ prices s.scenario
+  pub turns_are : map (slice_index (facilities s.scenario)) places ≡ turns s.scenario s.order
+  pub within : All (λ i. i < length s.scenario.stations) places

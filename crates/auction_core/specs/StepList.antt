@@ -1,0 +1,74 @@
+-- How the steps of an auction are kept: a line for each, and beside the lines the verdicts of those that have one of their
+-- own. That they are so kept is this project's own.
+use Rattle.std.specs.Prelude.{ℕ, zero, suc, Bool, true, false, ◌+◌, ◌==◌, if◌then◌else◌, List, [], ◌∷◌, ◌++◌, unwrap_or}
+use Rattle.auction_core.specs.declared.record.Shown.{Shown}
+use Rattle.auction_core.specs.declared.record.Shown.TheVariants.{Empty, Fits, Same, NoChannel, Refuted, Outside, Undecided}
+use Rattle.auction_core.specs.declared.record.Step.{Step}
+use Rattle.auction_core.specs.declared.step_list.Line.{Line}
+use Rattle.auction_core.specs.declared.step_list.Way.{Way}
+use Rattle.auction_core.specs.declared.step_list.Way.TheVariants.{Verdict, LikeBefore, Bare}
+use Rattle.auction_core.specs.State.{fit_of}
+
+-- how a step shown so is kept
+abbrev pub way_of : Shown → Way
+way_of Empty = Verdict
+way_of (Fits delta) = Verdict
+way_of Same = LikeBefore
+way_of (NoChannel s) = Bare
+way_of (Refuted worker how) = Verdict
+way_of (Outside proof) = Verdict
+way_of (Undecided receipts) = Verdict
+
+-- the line has a verdict of its own
+abbrev pub takes_verdict : Way → Bool
+takes_verdict Verdict = true
+takes_verdict LikeBefore = false
+takes_verdict Bare = false
+
+-- no station without a channel is named but this one
+abbrev pub names_only : ℕ → Shown → Bool
+names_only s (NoChannel f) = f == s
+names_only s _ = true
+
+-- how the first of some steps is shown, whose line says so and whose verdict, if it has one, is the first of these
+abbrev pub shown_by : Way → ℕ → List Shown → Shown
+shown_by Verdict s [] = Empty
+shown_by Verdict s (x ∷ xs) = x
+shown_by LikeBefore s told = Same
+shown_by Bare s told = NoChannel s
+
+-- the verdicts of the steps behind it
+abbrev pub told_behind : Way → List Shown → List Shown
+told_behind Verdict [] = []
+told_behind Verdict (x ∷ xs) = xs
+told_behind LikeBefore told = told
+told_behind Bare told = told
+
+-- the steps of these lines and verdicts
+abbrev pub merged : List Line → List Shown → List Step
+merged [] told = []
+merged (l ∷ ls) told =
+    record { round = l.round; station = l.station; shown = shown_by l.way l.station told } ∷ merged ls (told_behind l.way told)
+
+-- how many of the lines have a verdict of their own
+abbrev pub takers : List Line → ℕ
+takers [] = 0
+takers (l ∷ ls) = (if takes_verdict l.way then 1 else 0) + takers ls
+
+-- the verdicts once a test is settled so
+abbrev pub told_with : List Shown → Shown → List Shown
+told_with told shown = if takes_verdict (way_of shown) then told ++ shown ∷ [] else told
+
+-- the entries of the fit that stands at this place among the verdicts, counted from 1; at 0 there is none
+abbrev pub fit_at : List Shown → ℕ → List (ℕ × ℕ)
+fit_at told zero = []
+fit_at [] (suc n) = []
+fit_at (x ∷ xs) (suc zero) = unwrap_or (fit_of x) []
+fit_at (x ∷ xs) (suc (suc n)) = fit_at xs (suc n)
+
+-- the steps, the verdicts among them, and for how many steps and verdicts more there is room
+pub record StepListView : Type 0 where
+  pub steps : List Step
+  pub told : List Shown
+  pub room : ℕ
+  pub verdicts : ℕ

@@ -1,0 +1,268 @@
+//! The parts of the stations on air: which of them reach one another, and when a part last changed.
+
+ghost use Rattle.std.specs.Prelude.{◌≡◌, ◌<◌, ◌≤◌, ℕ, List, IfOk, IsTrue, false, filter, length, map, nat_le, ◌==◌, if◌then◌else◌};
+ghost use Rattle.std.specs.List.{list_any};
+ghost use Rattle.pack_defs.specs.Lists.{is_ascending, is_in};
+ghost use Rattle.auction_core.specs.Parts.{is_asked, label_in, label_of, labelled, marked, merged_label, merged_labels, relabelled, swapped, touched_set, touches_since};
+
+use crate::air_map::place_of;
+use pack_defs::book::Book;
+use pack_defs::pair::Pair;
+use std::alloc::{AllocError as NoMemory, Global};
+use std::marker::Model;
+
+/// A label for each station of an auction, ascending by station: 0 off air, and else the number of the station of its part
+/// that went on air last.
+#[derive(Debug, Drop)]
+pub struct Parts {
+    stations: Vec<u32>,
+    labels: Vec<u32>,
+}
+
+impl Model for Parts {
+    ghost use Rattle.std.specs.Prelude.{◌≡◌, IsTrue, length};
+    ghost use Rattle.pack_defs.specs.Lists.{is_ascending};
+    ghost use Rattle.auction_core.specs.Parts.{PartsView};
+
+    ghost Value = { PartsView };
+
+    ghost view = { λ p. record { stations = p.stations.items; labels = p.labels.items } };
+
+    ghost invariant = { λ p. IsTrue (is_ascending p.stations.items) × (length p.labels.items ≡ length p.stations.items) };
+}
+
+impl Parts {
+    /// No station on air, among these. The only error is want of memory.
+    pub fn none(alloc: Global, stations: &[u32]) -> Result<Parts, NoMemory>
+        requires { IsTrue (is_ascending stations.now) }
+        ensures stations { IfOk result (λ p. p.stations ≡ stations.now) }
+        ensures none { IfOk result (λ p. (s : ℕ) → label_of p s ≡ 0) }
+    {
+        Ok(Parts {
+            stations: Vec::from_slice(alloc, stations)?,
+            labels: zeros(alloc, stations.len())?,
+        })
+    }
+
+    /// The label of a station. It searches by halves.
+    pub fn label(&self, station: u32) -> u32
+        ensures { result ≡ label_of self.now station }
+    {
+        label_at(&self.stations, &self.labels, station)
+    }
+
+    /// The station goes on air, with this number: the parts that it interferes with become one, of this label. It costs the
+    /// station's pairs, and a pass over the stations for each of these parts. It takes no memory.
+    pub fn join(&mut self, book: &Book, station: u32, number: u32)
+        requires { IsTrue (is_in self.old.stations station) }
+        ensures stations { self.new.stations ≡ self.old.stations }
+        ensures labels { (z : ℕ) → label_of self.new z ≡ relabelled book.now (labelled self.old) (label_of self.old) station number z }
+    {
+        self.merge_firsts(book.pairs_to(station), number);
+        self.merge_seconds(book.pairs_from(station), number);
+        self.put(station, number);
+    }
+
+    /// Whether the station interferes with one on air whose part changed at this time or later. It costs the station's
+    /// pairs.
+    pub fn touches_since(&self, book: &Book, station: u32, time: u32) -> bool
+        requires { 0 < time }
+        ensures { result ≡ touches_since book.now self.now station time }
+    {
+        if self.any_first(book.pairs_to(station), time) {
+            return true;
+        }
+        self.any_second(book.pairs_from(station), time)
+    }
+
+    /// The station and the stations on air of the labels that it touches, ascending: those that a test of it asks about. No
+    /// label is above `most`. It costs the station's pairs, a pass over the stations, and room for `most` marks. The only
+    /// error is want of memory.
+    pub fn touched_set(
+        &self,
+        alloc: Global,
+        book: &Book,
+        station: u32,
+        most: u32,
+    ) -> Result<Vec<u32>, NoMemory>
+        requires { (z : ℕ) → label_of self.now z ≤ most }
+        ensures { IfOk result (λ set. set.items ≡ touched_set book.now self.now station) }
+    {
+        let mut marks = vec![in alloc; false; most as usize + 1]?;
+        self.mark_firsts(book.pairs_to(station), &mut marks);
+        self.mark_seconds(book.pairs_from(station), &mut marks);
+        self.marked(alloc, station, &marks)
+    }
+
+    // The label of each first station of these pairs is marked.
+    fn mark_firsts(&self, pairs: &[Pair], marks: &mut Vec<bool>)
+        requires { (z : ℕ) → label_of self.now z < length marks.old.items }
+        ensures { marks.new.items ≡ marked (label_of self.now) (map (λ p. p.f) pairs.now) marks.old.items }
+    {
+        for p in pairs {
+            let label = self.label(p.f) as usize;
+            marks[label] = true;
+        }
+    }
+
+    // The label of each second station of these pairs is marked.
+    fn mark_seconds(&self, pairs: &[Pair], marks: &mut Vec<bool>)
+        requires { (z : ℕ) → label_of self.now z < length marks.old.items }
+        ensures { marks.new.items ≡ marked (label_of self.now) (map (λ p. p.g) pairs.now) marks.old.items }
+    {
+        for p in pairs {
+            let label = self.label(p.g) as usize;
+            marks[label] = true;
+        }
+    }
+
+    // The station and the stations on air whose label is marked, ascending.
+    fn marked(&self, alloc: Global, station: u32, marks: &[bool]) -> Result<Vec<u32>, NoMemory>
+        requires { (z : ℕ) → label_of self.now z < length marks.now }
+        ensures { IfOk result (λ set. set.items ≡ filter (λ z. is_asked station marks.now z (label_of self.now z)) self.now.stations) }
+    {
+        asked(alloc, &self.stations, &self.labels, station, marks)
+    }
+
+    // The parts of the first stations of these pairs have this label.
+    fn merge_firsts(&mut self, pairs: &[Pair], number: u32)
+        ensures stations { self.new.stations ≡ self.old.stations }
+        ensures labels { label_of self.new ≡ merged_labels (label_of self.old) (map (λ p. p.f) pairs.now) number }
+    {
+        for p in pairs {
+            self.merge(p.f, number);
+        }
+    }
+
+    // The parts of the second stations of these pairs have this label.
+    fn merge_seconds(&mut self, pairs: &[Pair], number: u32)
+        ensures stations { self.new.stations ≡ self.old.stations }
+        ensures labels { label_of self.new ≡ merged_labels (label_of self.old) (map (λ p. p.g) pairs.now) number }
+    {
+        for p in pairs {
+            self.merge(p.g, number);
+        }
+    }
+
+    // The part of a station, if it is on air, has this label.
+    fn merge(&mut self, station: u32, number: u32)
+        ensures stations { self.new.stations ≡ self.old.stations }
+        ensures labels { label_of self.new ≡ merged_label (label_of self.old) station number }
+    {
+        let label = self.label(station);
+        if label == 0 {
+            return;
+        }
+        if label == number {
+            return;
+        }
+        swap(&mut self.labels, label, number);
+    }
+
+    // The station has this label.
+    fn put(&mut self, station: u32, number: u32)
+        requires { IsTrue (is_in self.old.stations station) }
+        ensures stations { self.new.stations ≡ self.old.stations }
+        ensures labels { (z : ℕ) → label_of self.new z ≡ (if z == station then number else label_of self.old z) }
+    {
+        let Some(place) = place_of(&self.stations, station) else {
+            unreachable!()
+        };
+        self.labels[place] = number;
+    }
+
+    // Whether the first station of one of these pairs has this label or a greater one.
+    fn any_first(&self, pairs: &[Pair], time: u32) -> bool
+        ensures { result ≡ list_any (λ p. nat_le time (label_of self.now p.f)) pairs.now }
+    {
+        for p in pairs {
+            if time <= self.label(p.f) {
+                return true;
+            }
+        }
+        false
+    }
+
+    // Whether the second station of one of these pairs has this label or a greater one.
+    fn any_second(&self, pairs: &[Pair], time: u32) -> bool
+        ensures { result ≡ list_any (λ p. nat_le time (label_of self.now p.g)) pairs.now }
+    {
+        for p in pairs {
+            if time <= self.label(p.g) {
+                return true;
+            }
+        }
+        false
+    }
+}
+
+// So many zeros.
+fn zeros(alloc: Global, places: usize) -> Result<Vec<u32>, NoMemory>
+    ensures length { IfOk result (λ labels. length labels.items ≡ places) }
+    ensures none { IfOk result (λ labels. (fs : List ℕ) (s : ℕ) → label_in fs labels.items s ≡ 0) }
+{
+    let mut labels = Vec::with_capacity(alloc, places)?;
+    for _ in 0..places {
+        labels.push(0)?;
+    }
+    Ok(labels)
+}
+
+// The number at a station's place; 0 where there is none.
+fn label_at(stations: &[u32], labels: &[u32], station: u32) -> u32
+    requires ascending { IsTrue (is_ascending stations.now) }
+    requires places { length labels.now ≡ length stations.now }
+    ensures { result ≡ label_in stations.now labels.now station }
+{
+    let Some(place) = place_of(stations, station) else {
+        return 0;
+    };
+    labels[place]
+}
+
+// This station, and the stations whose label is marked, ascending.
+fn asked(
+    alloc: Global,
+    stations: &[u32],
+    labels: &[u32],
+    station: u32,
+    marks: &[bool],
+) -> Result<Vec<u32>, NoMemory>
+    requires ascending { IsTrue (is_ascending stations.now) }
+    requires places { length labels.now ≡ length stations.now }
+    requires marks { (z : ℕ) → label_in stations.now labels.now z < length marks.now }
+    ensures { IfOk result (λ set. set.items ≡ filter (λ z. is_asked station marks.now z (label_in stations.now labels.now z)) stations.now) }
+{
+    let mut set = Vec::new(alloc);
+    for (place, z) in stations.iter().enumerate() {
+        if !is_asked(station, marks, *z, labels[place]) {
+            continue;
+        }
+        set.push(*z)?;
+    }
+    Ok(set)
+}
+
+// Whether a station of this label is this station, or is on air and its label is marked.
+fn is_asked(station: u32, marks: &[bool], z: u32, label: u32) -> bool
+    requires { label < length marks.now }
+    ensures { result ≡ is_asked station marks.now z label }
+{
+    z == station || (label != 0 && marks[label as usize])
+}
+
+// Each of these numbers that is the one becomes the other.
+fn swap(labels: &mut Vec<u32>, old: u32, new: u32)
+    ensures { labels.new.items ≡ map (λ x. swapped old new x) labels.old.items }
+{
+    for i in 0..labels.len() {
+        labels[i] = swapped(labels[i], old, new);
+    }
+}
+
+// The number, or `new` in the place of `old`.
+fn swapped(x: u32, old: u32, new: u32) -> u32
+    ensures { result ≡ swapped old new x }
+{
+    if x == old { new } else { x }
+}

@@ -1,0 +1,227 @@
+//! What is kept of the tests so far, so that a test like the one before is found without memory.
+
+ghost use Rattle.std.specs.Prelude.{◌≡◌, ◌≤◌, ◌<◌, ◌+◌, ◌++◌, ◌∷◌, ℕ, [], IfOk, IsTrue, OnOk, is_some, length, map, option_map, slice_index, slice_set, true, unwrap_or};
+ghost use Rattle.pack_defs.specs.Lists.{is_ascending, is_in};
+ghost use Rattle.auction_core.specs.Parts.{label_of, labelled, relabelled, touches_since};
+ghost use Rattle.auction_core.specs.State.{fit_of, last_fit};
+ghost use Rattle.auction_core.specs.StepList.{names_only, takes_verdict, way_of};
+
+use crate::air_map::ids;
+use crate::parts::Parts;
+use crate::record::{Shown, Step};
+use crate::step_list::StepList;
+use pack_defs::book::Book;
+use pack_defs::channel_map::ChannelMap;
+use pack_defs::items::Items;
+use pack_defs::station::Station;
+use std::alloc::{AllocError as NoMemory, Global};
+use std::marker::Model;
+
+/// The parts of the stations on air, the steps so far, and of each station how many were on air at its last test and where
+/// its last fit was told.
+#[derive(Debug, Drop)]
+pub struct Past {
+    parts: Parts,
+    on_air: u32,
+    seen: Vec<u32>,
+    steps: StepList,
+    // Places among the verdicts of the steps, from 1; 0 before a station's first fit.
+    fits: Vec<usize>,
+}
+
+impl Model for Past {
+    ghost use Rattle.std.specs.Prelude.{IsTrue};
+    ghost use Rattle.pack_defs.specs.Lists.{is_ascending};
+    ghost use Rattle.auction_core.specs.Past.{AreLastFits, AreSeen, PastView};
+
+    ghost Value = { PastView };
+
+    ghost view = { λ p. record {
+      parts = p.parts;
+      on_air = p.on_air;
+      seen = p.seen.items;
+      steps = p.steps.steps;
+      room = p.steps.room;
+      verdicts = p.steps.verdicts;
+    } };
+
+    ghost invariant = { λ p. IsTrue (is_ascending p.parts.stations) × AreSeen p.parts.stations p.on_air p.seen.items × AreLastFits p.parts.stations p.steps.steps p.steps.told p.fits.items };
+}
+
+impl Past {
+    /// No station on air, among these, and no step. The only error is want of memory.
+    pub fn none(alloc: Global, stations: &[Station]) -> Result<Past, NoMemory>
+        requires { IsTrue (is_ascending (map (λ x. x.id) stations.now)) }
+        ensures stations { IfOk result (λ p. p.parts.stations ≡ map (λ x. x.id) stations.now) }
+        ensures labels { IfOk result (λ p. (s : ℕ) → label_of p.parts s ≡ 0) }
+        ensures on_air { IfOk result (λ p. p.on_air ≡ 0) }
+        ensures long { IfOk result (λ p. length p.seen ≡ length stations.now) }
+        ensures seen { IfOk result (λ p. (i : ℕ) → slice_index p.seen i ≡ 0) }
+        ensures steps { IfOk result (λ p. p.steps ≡ []) }
+    {
+        Ok(Past {
+            parts: Parts::none(alloc, &ids(alloc, stations)?)?,
+            on_air: 0,
+            seen: vec![in alloc; 0; stations.len()]?,
+            steps: StepList::none(alloc),
+            fits: vec![in alloc; 0; stations.len()]?,
+        })
+    }
+
+    /// The parts of the stations on air.
+    pub fn parts(&self) -> &Parts
+        ensures { result.now ≡ self.now.parts }
+    {
+        &self.parts
+    }
+
+    /// The steps so far.
+    pub fn steps(&self) -> &StepList
+        ensures { result.now.steps ≡ self.now.steps }
+    {
+        &self.steps
+    }
+
+    /// How many stations are on air.
+    pub fn on_air(&self) -> u32
+        ensures { result ≡ self.now.on_air }
+    {
+        self.on_air
+    }
+
+    /// Makes room for so many steps more, of which one has a verdict. The only error is want of memory, and nothing else is
+    /// changed.
+    pub fn reserve(&mut self, more: usize) -> Result<(), NoMemory>
+        ensures room { OnOk result (more ≤ self.new.room) }
+        ensures verdicts { OnOk result (1 ≤ self.new.verdicts) }
+        ensures same { self.new ≡ record self.old { room = self.new.room; verdicts = self.new.verdicts } }
+    {
+        self.steps.reserve(more)
+    }
+
+    /// The station goes on air, and joins the parts that it interferes with. It costs the station's pairs, and a pass over
+    /// the stations for each of these parts. It takes no memory.
+    pub fn air(&mut self, book: &Book, station: u32)
+        requires known { IsTrue (is_in self.old.parts.stations station) }
+        requires few { self.old.on_air < 8192 }
+        ensures same { self.new ≡ record self.old { parts = self.new.parts; on_air = self.old.on_air + 1 } }
+        ensures stations { self.new.parts.stations ≡ self.old.parts.stations }
+        ensures labels { (z : ℕ) → label_of self.new.parts z ≡ relabelled book.now (labelled self.old.parts) (label_of self.old.parts) station (self.old.on_air + 1) z }
+    {
+        self.on_air += 1;
+        self.parts.join(book, station, self.on_air);
+    }
+
+    /// The test of the station at this place is settled so in this round. It takes no memory.
+    pub fn note(&mut self, place: usize, step: Step)
+        requires place { place < length self.old.parts.stations }
+        requires station { slice_index self.old.parts.stations place ≡ step.station }
+        requires names { names_only step.station step.shown ≡ true }
+        requires room { 1 ≤ self.old.room }
+        requires verdict { takes_verdict (way_of step.shown) ≡ true → 1 ≤ self.old.verdicts }
+        ensures same { self.new ≡ record self.old {
+          seen = slice_set self.old.seen place self.old.on_air;
+          steps = self.old.steps ++ step ∷ [];
+          room = self.new.room;
+          verdicts = self.new.verdicts;
+        } }
+        ensures room { self.old.room ≤ self.new.room + 1 }
+    {
+        let is_fit = is_fit(&step.shown);
+        self.seen[place] = self.on_air;
+        self.steps.push(step);
+        if !is_fit {
+            return;
+        }
+        self.fits[place] = self.steps.told();
+    }
+
+    /// Whether the station at this place interferes with one on air whose part changed since the station's last test. It
+    /// costs the station's pairs.
+    pub fn has_changed(&self, book: &Book, place: usize, station: u32) -> bool
+        requires { place < length self.now.parts.stations }
+        ensures { result ≡ touches_since book.now self.now.parts station (slice_index self.now.seen place + 1) }
+    {
+        self.parts
+            .touches_since(book, station, self.seen[place] + 1)
+    }
+
+    /// The entries of the last fit of the station at this place, if it had one.
+    pub fn last_fit(&self, place: usize) -> Option<&ChannelMap>
+        requires { place < length self.now.parts.stations }
+        ensures { unwrap_or (option_map (λ m. m.now) result) [] ≡ last_fit self.now.steps (slice_index self.now.parts.stations place) [] }
+    {
+        self.steps.fit(self.fits[place])
+    }
+
+    /// The steps in one list. The only error is want of memory.
+    pub fn into_steps(self, alloc: Global) -> Result<Items<Step>, NoMemory>
+        ensures { IfOk result (λ steps. steps ≡ self.steps) }
+    {
+        let Past { steps, .. } = self;
+        steps.into_items(alloc)
+    }
+}
+
+// Whether the step is shown by a fit.
+fn is_fit(shown: &Shown) -> bool
+    ensures { result ≡ is_some (fit_of shown.now) }
+{
+    matches!(shown, Shown::Fits(_))
+}
+
+#[cfg(test)]
+mod tests {
+    use super::*;
+    use crate::samples::{bid, three_stations};
+    use std::test::Fail;
+
+    // Stations 1 to 3, none of them on air.
+    fn three(alloc: Global) -> Result<Past, NoMemory>
+        ensures stations { IfOk result (λ p. p.parts.stations ≡ 1 ∷ 2 ∷ 3 ∷ []) }
+        ensures on_air { IfOk result (λ p. p.on_air ≡ 0) }
+    {
+        Past::none(alloc, &[bid(1, None), bid(2, None), bid(3, None)])
+    }
+
+    // The test of station 2 in this round fits with the station on this channel.
+    fn fits_on(alloc: Global, past: &mut Past, round: u32, channel: u8) -> Result<(), NoMemory>
+        requires { past.old.parts.stations ≡ 1 ∷ 2 ∷ 3 ∷ [] }
+        ensures parts { past.new.parts ≡ past.old.parts }
+        ensures on_air { past.new.on_air ≡ past.old.on_air }
+    {
+        let shown = Shown::Fits(ChannelMap::of(alloc, &[(2, channel)])?);
+        past.reserve(1)?;
+        past.note(
+            1,
+            Step {
+                round,
+                station: 2,
+                shown,
+            },
+        );
+        Ok(())
+    }
+
+    // The channel of station 2 in the last fit of the station at this place.
+    fn channel(past: &Past, place: usize) -> Option<u8>
+        requires { place < length past.now.parts.stations }
+    {
+        past.last_fit(place)?.get(2)
+    }
+
+    #[test]
+    fn knows_the_last_test(rt: HostRuntime) -> Result<(), Fail> {
+        let alloc = rt.alloc();
+        let book = three_stations(alloc)?;
+        let mut past = three(alloc)?;
+        fits_on(alloc, &mut past, 1, 14)?;
+        past.air(&book, 1);
+        assert!(rt; past.has_changed(&book, 1, 2));
+        fits_on(alloc, &mut past, 2, 15)?;
+        assert!(rt; !past.has_changed(&book, 1, 2));
+        assert_eq!(rt; channel(&past, 1), Some(15));
+        assert_eq!(rt; channel(&past, 0), None);
+        Ok(())
+    }
+}

@@ -1,0 +1,108 @@
+//! What stands while an auction runs.
+
+ghost use Rattle.std.specs.Prelude.{◌≡◌, ◌<◌, ◌≤◌, IfOk, length, slice_index};
+ghost use Rattle.pack_defs.specs.ClockRule.{turns};
+ghost use Rattle.pack_defs.specs.Prices.{last_round, prices};
+ghost use Rattle.pack_defs.specs.Scenario.{facilities};
+ghost use Rattle.auction_core.specs.Setup.{IsOfAuction, IsSound};
+
+use crate::turns::places;
+use offer_sched::offers::schedule;
+use pack_defs::book::Book;
+use pack_defs::order::Order;
+use pack_defs::scenario::Scenario;
+use std::alloc::{AllocError as NoMemory, Global};
+use std::marker::Model;
+
+/// The scenario and the book of an auction, its prices, and the order in which a round tests the stations.
+#[derive(Debug, Drop)]
+pub struct Setup {
+    scenario: Scenario,
+    book: Book,
+    order: Order,
+    // The price of each round, in cents, from round 0 on.
+    schedule: Vec<u32>,
+    // Where each station of a round's order stands in the scenario.
+    places: Vec<usize>,
+}
+
+impl Model for Setup {
+    ghost use Rattle.auction_core.specs.Setup.{IsSetup, SetupView};
+
+    ghost Value = { SetupView };
+
+    ghost view = { λ s. record { scenario = s.scenario; book = s.book; order = s.order } };
+
+    ghost invariant = { λ s. IsSetup (record { scenario = s.scenario; book = s.book; order = s.order }) s.schedule.items s.places.items };
+}
+
+impl Setup {
+    /// The auction of this scenario and book, tested in this order. It keeps a copy of both. The only error is want of
+    /// memory.
+    pub fn make(alloc: Global, sc: &Scenario, book: &Book, order: Order) -> Result<Setup, NoMemory>
+        requires { IsOfAuction sc.now book.now }
+        ensures { IfOk result (λ setup. setup ≡ record { scenario = sc.now; book = book.now; order = order }) }
+    {
+        Ok(Setup {
+            scenario: sc.copy(alloc)?,
+            book: book.copy(alloc)?,
+            order,
+            schedule: schedule(alloc, sc)?,
+            places: places(alloc, sc, order)?,
+        })
+    }
+
+    /// The scenario. It is within the limits, and the book is of its stations and in order.
+    pub fn scenario(&self) -> &Scenario
+        ensures value { result.now ≡ self.now.scenario }
+        ensures sound { IsSound self.now }
+    {
+        &self.scenario
+    }
+
+    /// The book.
+    pub fn book(&self) -> &Book
+        ensures { result.now ≡ self.now.book }
+    {
+        &self.book
+    }
+
+    /// The order in which a round tests the stations.
+    pub fn order(&self) -> Order
+        ensures { result ≡ self.now.order }
+    {
+        self.order
+    }
+
+    /// The price of each round, in cents, from round 0 on.
+    pub fn schedule(&self) -> &[u32]
+        ensures { result.now ≡ prices self.now.scenario }
+    {
+        &self.schedule
+    }
+
+    /// The last round: the one after the last fall of the price.
+    pub fn last_round(&self) -> u32
+        ensures value { result ≡ last_round self.now.scenario }
+        ensures few { result ≤ 1001 }
+    {
+        self.schedule.len() as u32
+    }
+
+    /// How many stations a round may test.
+    pub fn turns(&self) -> usize
+        ensures value { result ≡ length self.now.scenario.stations }
+        ensures few { result ≤ 8192 }
+    {
+        self.scenario.stations.as_slice().len()
+    }
+
+    /// Where the station that comes here in a round stands in the scenario.
+    pub fn place(&self, turn: usize) -> usize
+        requires { turn < length self.now.scenario.stations }
+        ensures within { result < length self.now.scenario.stations }
+        ensures station { slice_index (facilities self.now.scenario) result ≡ slice_index (turns self.now.scenario self.now.order) turn }
+    {
+        self.places[turn]
+    }
+}

@@ -1,0 +1,267 @@
+//! The steps of an auction, kept so that one that needed no query costs a few bytes.
+
+ghost use Rattle.std.specs.Prelude.{◌≡◌, ◌≤◌, ◌+◌, ◌++◌, ◌∷◌, [], IfOk, OnOk, length, option_map, true, unwrap_or};
+ghost use Rattle.std.specs.Vec.Iter.{into_iter_items};
+ghost use Rattle.auction_core.specs.State.{fit_of};
+ghost use Rattle.auction_core.specs.StepList.{fit_at, names_only, shown_by, takes_verdict, told_behind, told_with, way_of};
+
+use crate::record::{Shown, Step};
+use pack_defs::channel_map::ChannelMap;
+use pack_defs::items::Items;
+use std::alloc::{AllocError as NoMemory, Global};
+use std::marker::Model;
+use std::vec::IntoIter;
+
+/// What shows a step.
+#[derive(Clone, Copy, Debug, PartialEq, Eq)]
+pub enum Way {
+    /// A verdict of its own, by which its query was settled.
+    Verdict,
+    /// The test of its station one round before.
+    LikeBefore,
+    /// That its station has no channel.
+    Bare,
+}
+
+/// A step without its verdict.
+#[derive(Clone, Copy, Debug, PartialEq, Eq)]
+pub struct Line {
+    /// The round, from 1.
+    pub round: u32,
+    /// The station, by its facility number.
+    pub station: u32,
+    pub way: Way,
+}
+
+/// The steps of an auction, in order. One that needed no query takes twelve bytes.
+#[derive(Debug, Drop)]
+pub struct StepList {
+    lines: Vec<Line>,
+    told: Vec<Shown>,
+}
+
+impl Model for StepList {
+    ghost use Rattle.std.specs.Prelude.{◌≡◌, ◌-◌, length, vec_capacity, vec_len};
+    ghost use Rattle.auction_core.specs.StepList.{StepListView, merged, takers};
+
+    ghost Value = { StepListView };
+
+    ghost view = { λ l. record {
+      steps = merged l.lines.items l.told.items;
+      told = l.told.items;
+      room = vec_capacity l.lines - vec_len l.lines;
+      verdicts = vec_capacity l.told - vec_len l.told;
+    } };
+
+    ghost invariant = { λ l. takers l.lines.items ≡ length l.told.items };
+}
+
+impl StepList {
+    /// No step.
+    pub fn none(alloc: Global) -> StepList
+        ensures steps { result.steps ≡ [] }
+        ensures told { result.told ≡ [] }
+    {
+        StepList {
+            lines: Vec::new(alloc),
+            told: Vec::new(alloc),
+        }
+    }
+
+    /// How many steps there are.
+    pub fn len(&self) -> usize
+        ensures { result ≡ length self.now.steps }
+    {
+        self.lines.len()
+    }
+
+    /// How many verdicts there are among the steps.
+    pub fn told(&self) -> usize
+        ensures { result ≡ length self.now.told }
+    {
+        self.told.len()
+    }
+
+    /// The fit at this place among the verdicts, counted from 1; none at 0, or where the verdict there is no fit.
+    pub fn fit(&self, place: usize) -> Option<&ChannelMap>
+        ensures { unwrap_or (option_map (λ m. m.now) result) [] ≡ fit_at self.now.told place }
+    {
+        if place == 0 {
+            return None;
+        }
+        let Some(shown) = self.told.get(place - 1) else {
+            return None;
+        };
+        fit_of(shown)
+    }
+
+    /// Makes room for so many steps more, of which one has a verdict. The only error is want of memory, and nothing else is
+    /// changed.
+    pub fn reserve(&mut self, more: usize) -> Result<(), NoMemory>
+        ensures room { OnOk result (more ≤ self.new.room) }
+        ensures verdicts { OnOk result (1 ≤ self.new.verdicts) }
+        ensures steps { self.new.steps ≡ self.old.steps }
+        ensures told { self.new.told ≡ self.old.told }
+    {
+        self.lines.reserve(more)?;
+        self.told.reserve(1)
+    }
+
+    /// One step more, behind the others. It takes no memory.
+    pub fn push(&mut self, step: Step)
+        requires names { names_only step.station step.shown ≡ true }
+        requires room { 1 ≤ self.old.room }
+        requires verdict { takes_verdict (way_of step.shown) ≡ true → 1 ≤ self.old.verdicts }
+        ensures steps { self.new.steps ≡ self.old.steps ++ step ∷ [] }
+        ensures told { self.new.told ≡ told_with self.old.told step.shown }
+        ensures room { self.old.room ≤ self.new.room + 1 }
+    {
+        let Step {
+            round,
+            station,
+            shown,
+        } = step;
+        let way = way_of(&shown);
+        self.lines.push_reserved(Line {
+            round,
+            station,
+            way,
+        });
+        if !takes_verdict(way) {
+            return;
+        }
+        self.told.push_reserved(shown);
+    }
+
+    /// The steps in one list. The only error is want of memory.
+    pub fn into_items(self, alloc: Global) -> Result<Items<Step>, NoMemory>
+        ensures { IfOk result (λ steps. steps ≡ self.steps) }
+    {
+        let StepList { lines, told } = self;
+        let mut steps = Vec::with_capacity(alloc, lines.len())?;
+        let mut told = told.into_iter();
+        for line in &lines {
+            steps.push(Step {
+                round: line.round,
+                station: line.station,
+                shown: shown_by(line, &mut told),
+            })?;
+        }
+        Ok(Items::from_vec(steps))
+    }
+}
+
+// How a step shown so is kept.
+fn way_of(shown: &Shown) -> Way
+    ensures { result ≡ way_of shown.now }
+{
+    match shown {
+        Shown::Empty | Shown::Fits(_) => Way::Verdict,
+        Shown::Same => Way::LikeBefore,
+        Shown::NoChannel(_) => Way::Bare,
+        Shown::Refuted { .. } | Shown::Outside(_) => Way::Verdict,
+        Shown::Undecided(_) => Way::Verdict,
+    }
+}
+
+// The line has a verdict of its own.
+fn takes_verdict(way: Way) -> bool
+    ensures { result ≡ takes_verdict way }
+{
+    match way {
+        Way::Verdict => true,
+        Way::LikeBefore | Way::Bare => false,
+    }
+}
+
+// The entries of a fit, if the step was shown by one.
+fn fit_of(shown: &Shown) -> Option<&ChannelMap>
+    ensures { option_map (λ m. m.now) result ≡ fit_of shown.now }
+{
+    match shown {
+        Shown::Fits(delta) => Some(delta),
+        _ => None,
+    }
+}
+
+// How the step of this line is shown. Its verdict, if it has one, is the first of these, and is taken out.
+fn shown_by(line: &Line, told: &mut IntoIter<Shown>) -> Shown
+    ensures shown { result ≡ shown_by line.now.way line.now.station (into_iter_items told.old) }
+    ensures told { into_iter_items told.new ≡ told_behind line.now.way (into_iter_items told.old) }
+{
+    match line.way {
+        Way::Verdict => told.next().unwrap_or(Shown::Empty),
+        Way::LikeBefore => Shown::Same,
+        Way::Bare => Shown::NoChannel(line.station),
+    }
+}
+
+#[cfg(test)]
+mod tests {
+    use super::*;
+    use std::test::Fail;
+
+    // One step more, for which room is made.
+    fn add(list: &mut StepList, round: u32, station: u32, shown: Shown) -> Result<(), NoMemory>
+        requires { names_only station shown ≡ true }
+    {
+        list.reserve(1)?;
+        list.push(Step {
+            round,
+            station,
+            shown,
+        });
+        Ok(())
+    }
+
+    // How the step is shown, in a word.
+    fn word(shown: &Shown) -> &'static str {
+        match shown {
+            Shown::Empty => "empty",
+            Shown::Fits(_) => "fits",
+            Shown::Same => "same",
+            Shown::NoChannel(_) => "no channel",
+            _ => "other",
+        }
+    }
+
+    // Whether these are steps of these rounds and stations, so shown.
+    fn are(steps: &[Step], rows: &[(u32, u32, &str)]) -> bool {
+        if steps.len() != rows.len() {
+            return false;
+        }
+        for (i, row) in rows.iter().enumerate() {
+            let step = &steps[i];
+            if step.round != row.0 || step.station != row.1 || word(&step.shown) != row.2 {
+                return false;
+            }
+        }
+        true
+    }
+
+    const STEPS: &[(u32, u32, &str)] = &[
+        (1, 4, "fits"),
+        (1, 6, "no channel"),
+        (1, 7, "empty"),
+        (2, 4, "same"),
+        (3, 4, "fits"),
+    ];
+
+    #[test]
+    fn gives_out_what_was_pushed(rt: HostRuntime) -> Result<(), Fail> {
+        let alloc = rt.alloc();
+        let first = Shown::Fits(ChannelMap::of(alloc, &[(4, 14)])?);
+        let last = Shown::Fits(ChannelMap::of(alloc, &[(4, 15)])?);
+        let mut list = StepList::none(alloc);
+        add(&mut list, 1, 4, first)?;
+        add(&mut list, 1, 6, Shown::NoChannel(6))?;
+        add(&mut list, 1, 7, Shown::Empty)?;
+        add(&mut list, 2, 4, Shown::Same)?;
+        add(&mut list, 3, 4, last)?;
+        assert_eq!(rt; list.told(), 3);
+        assert!(rt; list.fit(2).is_none());
+        assert!(rt; list.fit(3).is_some());
+        assert!(rt; are(list.into_items(alloc)?.as_slice(), STEPS));
+        Ok(())
+    }
+}

@@ -1,0 +1,122 @@
+//! What a posting does to the clock of an auction, and to the receipts that are noted on its standing query.
+
+ghost use Rattle.std.specs.Prelude.{◌≡◌, ◌<◌, None, Some, false, if◌then◌else◌, length, true};
+ghost use Rattle.auction_core.specs.Auction.{IsReady, state_at};
+ghost use Rattle.auction_core.specs.Rule.{Answers, SettlesQuery};
+ghost use Rattle.auction_core.specs.Said.{MayBeTaken, taken};
+ghost use Rattle.auction_core.specs.State.{has_ended};
+ghost use Rattle.auction_core.specs.Take.{accepted, advanced, spent, turned_away};
+
+use crate::clockwork::Clockwork;
+use crate::notes::Notes;
+use crate::posting::{Posting, Reply, Said};
+use crate::record::Shown;
+use cert_types::answer::{Answer, Receipt};
+
+/// What the posting is told: it is turned away, or its answer does what it does. It takes no memory.
+pub fn tell(clockwork: &mut Clockwork, notes: &mut Notes, posting: Posting) -> Reply
+    requires ready { IsReady clockwork.old notes.old }
+    requires said { MayBeTaken clockwork.old.scenario clockwork.old.book (state_at clockwork.old notes.old) posting }
+    ensures told { (result, state_at clockwork.new notes.new) ≡ taken clockwork.old.scenario clockwork.old.book (state_at clockwork.old notes.old) posting }
+    ensures scenario { clockwork.new.scenario ≡ clockwork.old.scenario }
+    ensures book { clockwork.new.book ≡ clockwork.old.book }
+    ensures places { notes.new.workers ≡ notes.old.workers }
+{
+    let Posting {
+        worker,
+        number,
+        said,
+    } = posting;
+    if let Some(reply) = turned_away(clockwork, worker, number) {
+        return reply;
+    }
+    match said {
+        Said::Good(certified) => accept(clockwork, notes, worker, certified.into_answer()),
+        Said::Bad(place) => Reply::Rejected { place },
+    }
+}
+
+// Why a posting isn't looked at, if it isn't.
+fn turned_away(clockwork: &Clockwork, worker: u32, number: u64) -> Option<Reply>
+    ensures { result ≡ turned_away clockwork.now.scenario clockwork.now.state worker number }
+{
+    let now = clockwork.number();
+    if clockwork.has_ended() {
+        return Some(Reply::Ended);
+    }
+    if number != now {
+        return Some(Reply::WrongQuery { now });
+    }
+    if clockwork.workers().len() <= worker as usize {
+        return Some(Reply::Stranger);
+    }
+    None
+}
+
+// What a valid answer does.
+fn accept(clockwork: &mut Clockwork, notes: &mut Notes, worker: u32, answer: Answer) -> Reply
+    requires ready { IsReady clockwork.old notes.old }
+    requires standing { has_ended clockwork.old.state ≡ false }
+    requires worker { worker < length clockwork.old.scenario.workers }
+    requires valid { Answers clockwork.old.scenario clockwork.old.book (state_at clockwork.old notes.old) worker answer }
+    ensures told { (result, state_at clockwork.new notes.new) ≡ accepted clockwork.old.scenario clockwork.old.book (state_at clockwork.old notes.old) worker answer }
+    ensures scenario { clockwork.new.scenario ≡ clockwork.old.scenario }
+    ensures book { clockwork.new.book ≡ clockwork.old.book }
+    ensures places { notes.new.workers ≡ notes.old.workers }
+{
+    match answer {
+        Answer::Fit(delta) => advance(clockwork, notes, Shown::Fits(delta)),
+        Answer::Refuted(how) => advance(clockwork, notes, Shown::Refuted { worker, how }),
+        Answer::Spent(receipt) => spend(clockwork, notes, worker, receipt),
+    }
+}
+
+// The standing query is settled so, and the receipts noted on it are let go.
+fn advance(clockwork: &mut Clockwork, notes: &mut Notes, shown: Shown) -> Reply
+    requires ready { clockwork.old.ready ≡ true }
+    requires standing { has_ended clockwork.old.state ≡ false }
+    requires settles { SettlesQuery clockwork.old.scenario clockwork.old.book (state_at clockwork.old notes.old) shown }
+    ensures told { (result, state_at clockwork.new notes.new) ≡ advanced clockwork.old.scenario clockwork.old.book (state_at clockwork.old notes.old) shown }
+    ensures scenario { clockwork.new.scenario ≡ clockwork.old.scenario }
+    ensures book { clockwork.new.book ≡ clockwork.old.book }
+    ensures places { notes.new.workers ≡ notes.old.workers }
+{
+    clockwork.settle(shown);
+    notes.clear();
+    Reply::Advanced {
+        next: next_number(clockwork),
+    }
+}
+
+// The number of the standing query, if one is left.
+fn next_number(clockwork: &Clockwork) -> Option<u64>
+    ensures { result ≡ (if has_ended clockwork.now.state then None else Some clockwork.now.state.number) }
+{
+    if clockwork.has_ended() {
+        return None;
+    }
+    Some(clockwork.number())
+}
+
+// What a valid receipt does: it stands noted already, it is the last worker's and settles the query, or it is noted.
+fn spend(clockwork: &mut Clockwork, notes: &mut Notes, worker: u32, receipt: Receipt) -> Reply
+    requires ready { IsReady clockwork.old notes.old }
+    requires standing { has_ended clockwork.old.state ≡ false }
+    requires worker { worker < length clockwork.old.scenario.workers }
+    requires valid { Answers clockwork.old.scenario clockwork.old.book (state_at clockwork.old notes.old) worker (Answer.Spent receipt) }
+    ensures told { (result, state_at clockwork.new notes.new) ≡ spent clockwork.old.scenario clockwork.old.book (state_at clockwork.old notes.old) (record { worker = worker; receipt = receipt }) }
+    ensures scenario { clockwork.new.scenario ≡ clockwork.old.scenario }
+    ensures book { clockwork.new.book ≡ clockwork.old.book }
+    ensures places { notes.new.workers ≡ notes.old.workers }
+{
+    if notes.has(worker) {
+        return Reply::AlreadySpent;
+    }
+    let workers = clockwork.workers().len();
+    if notes.count() + 1 == workers {
+        let receipts = notes.all_with(worker, receipt);
+        return advance(clockwork, notes, Shown::Undecided(receipts));
+    }
+    notes.note(worker, receipt);
+    Reply::Noted
+}
