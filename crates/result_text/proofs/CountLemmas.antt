@@ -4,7 +4,7 @@ use Rattle.std.specs.List.{count_by, find, sum_by}
 use Rattle.std.proofs.lemmas.Bool.{cond-true, cond-false, eqb-true, eq-eqb, ne_eqb, eqb-false, or_cases, or_parts, false≢true, true_from_ne_false}
 use Rattle.std.proofs.lemmas.List.Sums.{sum_by-cons}
 use Rattle.pack_defs.specs.Lists.{is_in}
-use Rattle.pack_defs.specs.declared.order.Order.TheVariants.{ByFacility}
+use Rattle.pack_defs.specs.declared.order.Order.{Order}
 use Rattle.pack_defs.specs.Book.{BookView}
 use Rattle.pack_defs.specs.declared.scenario.Scenario.{Scenario}
 use Rattle.pack_defs.specs.Scenario.{StationsAscend, facilities}
@@ -230,7 +230,7 @@ summary-lines {sc} {st} {v} tests us total ascend are marks own paid =
     rw (marks, length-standings are, on_air-count ascend are own, frozen-count ascend are own, undecided-count tests ascend are own, paid) refl
 
 -- the same of the clock rule's end
-pub rule-summary : {sc : Scenario} {v : List Standing} (book : BookView) (tests : List ClockTest) (us : List Bool) (total : ℕ) → StationsAscend sc → AreStandings sc (clock_rule sc book ByFacility tests) v → us ≡ each_frozen_by tests (facilities sc) v → total ≡ sum_by (λ x. x.price) (clock_rule sc book ByFacility tests).frozen →
-    count_line (codes "stations") (length v) ++ count_line (codes "on-air") (count_by stands_on_air v) ++ count_line (codes "frozen") (count_by stands_frozen v) ++ count_line (codes "undecided") (count_by (λ u. u) us) ++ count_line (codes "total") total ≡ summary_text sc (clock_rule sc book ByFacility tests) tests
+pub rule-summary : {sc : Scenario} {v : List Standing} (book : BookView) (order : Order) (tests : List ClockTest) (us : List Bool) (total : ℕ) → StationsAscend sc → AreStandings sc (clock_rule sc book order tests) v → us ≡ each_frozen_by tests (facilities sc) v → total ≡ sum_by (λ x. x.price) (clock_rule sc book order tests).frozen →
+    count_line (codes "stations") (length v) ++ count_line (codes "on-air") (count_by stands_on_air v) ++ count_line (codes "frozen") (count_by stands_frozen v) ++ count_line (codes "undecided") (count_by (λ u. u) us) ++ count_line (codes "total") total ≡ summary_text sc (clock_rule sc book order tests) tests
 unfolding clock_rule
-rule-summary {sc} {v} book tests us total ascend are marks paid = summary-lines tests us total ascend are marks (no-stranger sc book tests (clock_tests sc ByFacility)) paid
+rule-summary {sc} {v} book order tests us total ascend are marks paid = summary-lines tests us total ascend are marks (no-stranger sc book tests (clock_tests sc order)) paid

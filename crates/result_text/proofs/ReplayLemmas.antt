@@ -3,7 +3,6 @@ use Rattle.std.proofs.Common.{◌≡◌, ◌∙◌, ℕ, zero, suc, ◌+◌, ◌
 use Rattle.std.proofs.lemmas.Bool.{true≢false}
 use Rattle.std.proofs.lemmas.List.{length-map, take_all}
 use Rattle.pack_defs.specs.Lists.{is_in}
-use Rattle.pack_defs.specs.declared.order.Order.TheVariants.{ByFacility}
 use Rattle.pack_defs.specs.declared.scenario.Scenario.{Scenario}
 use Rattle.pack_defs.specs.declared.station.Station.{Station}
 use Rattle.pack_defs.specs.Scenario.{IsWithinLimits, StationsAscend, facilities}
@@ -14,11 +13,11 @@ use Rattle.auction_core.specs.declared.clock.Standing.{Standing}
 use Rattle.auction_core.specs.declared.clock.Standing.TheVariants.{Active, OnAir}
 use Rattle.auction_core.specs.declared.record.Record.{Record}
 use Rattle.auction_core.specs.declared.record.Shown.{Shown}
-use Rattle.auction_core.specs.declared.record.Shown.TheVariants.{Empty, Fits, NoChannel, Refuted, Undecided}
+use Rattle.auction_core.specs.declared.record.Shown.TheVariants.{Empty, Fits, Same, NoChannel, Refuted, Outside, Undecided}
 use Rattle.auction_core.specs.declared.record.Step.{Step}
 use Rattle.auction_core.specs.declared.record.Ending.TheVariants.{Done}
-use Rattle.auction_core.specs.State.{shows_room}
-use Rattle.auction_core.specs.Backed.{IsBacked, after_start, after_steps, is_undecided, test_of, undecided_of}
+use Rattle.auction_core.specs.State.{shows_room, test_of}
+use Rattle.auction_core.specs.Backed.{IsBacked, after_start, after_steps, is_undecided, undecided_of}
 use Rattle.auction_core.specs.Clock.{AreStandings, answered_standing, standing_from, standing_of}
 use Rattle.auction_core.specs.Rule.{IsAuction}
 use Rattle.auction_core.proofs.ClockLemmas.{active-is, answer-standings, is_active_at, length-standings}
@@ -37,20 +36,20 @@ next-there {sc} {rec} {steps} {k} {x} stations next same absent =
     true≢false (sym (is_in-from (facilities sc) x.station next.station) ∙ subst (λ (ys : List Station). is_in (map (λ y. y.id) ys) x.station ≡ false) same absent)
 
 -- where it stands, it is active
-pub next-active : {sc : Scenario} {rec : Record} {steps : List Step} {k : ℕ} {x : Step} {v : List Standing} (i : ℕ) → IsNext sc rec steps k x → AreStandings sc (after_steps sc (after_start sc rec.start) (take k steps)).clock v → i < length sc.stations → get_or (facilities sc) i 0 ≡ x.station → get_or v i Active ≡ Active
+pub next-active : {sc : Scenario} {rec : Record} {steps : List Step} {k : ℕ} {x : Step} {v : List Standing} (i : ℕ) → IsNext sc rec steps k x → AreStandings sc (after_steps sc (after_start sc rec.order rec.start) (take k steps)).clock v → i < length sc.stations → get_or (facilities sc) i 0 ≡ x.station → get_or v i Active ≡ Active
 next-active {sc} {rec} {steps} {k} {x} {v} i next are h at = active-is (get_or v i Active) (sym (is_active_at i x.station Active are h at) ∙ next.active)
 
 -- and its standing alone moves
-pub next-standings : {sc : Scenario} {rec : Record} {steps : List Step} {k : ℕ} {x : Step} {v : List Standing} (i : ℕ) → IsNext sc rec steps k x → StationsAscend sc → AreStandings sc (after_steps sc (after_start sc rec.start) (take k steps)).clock v → i < length sc.stations → get_or (facilities sc) i 0 ≡ x.station →
-    AreStandings sc (after_steps sc (after_start sc rec.start) (take (k + 1) steps)).clock (set v i (answered_standing sc (test_of x) (shows_room x.shown)))
+pub next-standings : {sc : Scenario} {rec : Record} {steps : List Step} {k : ℕ} {x : Step} {v : List Standing} (i : ℕ) → IsNext sc rec steps k x → StationsAscend sc → AreStandings sc (after_steps sc (after_start sc rec.order rec.start) (take k steps)).clock v → i < length sc.stations → get_or (facilities sc) i 0 ≡ x.station →
+    AreStandings sc (after_steps sc (after_start sc rec.order rec.start) (take (k + 1) steps)).clock (set v i (answered_standing sc (test_of x) (shows_room x.shown)))
 next-standings {sc} {rec} {steps} {k} {x} {v} i next ascend are h at =
     subst (λ p. AreStandings sc p.clock (set v i (answered_standing sc (test_of x) (shows_room x.shown)))) (sym next.moves)
     (answer-standings i (test_of x) (shows_room x.shown) ascend are h at next.active)
 
 -- after a backed record's last step the standings are the rule's
-pub last-standings : {sc : Scenario} {v : List Standing} (book : BookView) (rec : Record) (steps : List Step) (k : ℕ) → IsAuction sc book → IsBacked sc book rec → rec.ending ≡ Done → steps ≡ rec.steps → length steps ≤ k → AreStandings sc (after_steps sc (after_start sc rec.start) (take k steps)).clock v → AreStandings sc (clock_rule sc book ByFacility (undecided_of rec.steps)) v
+pub last-standings : {sc : Scenario} {v : List Standing} (book : BookView) (rec : Record) (steps : List Step) (k : ℕ) → IsAuction sc book → IsBacked sc book rec.order rec → rec.ending ≡ Done → steps ≡ rec.steps → length steps ≤ k → AreStandings sc (after_steps sc (after_start sc rec.order rec.start) (take k steps)).clock v → AreStandings sc (clock_rule sc book rec.order (undecided_of rec.steps)) v
 last-standings {sc} {v} book rec steps k a backed done same h are =
-    subst (λ z. AreStandings sc z v) (ap (λ ys. (after_steps sc (after_start sc rec.start) ys).clock) (take_all k steps h ∙ same) ∙ backed-clock sc book rec a backed done) are
+    subst (λ z. AreStandings sc z v) (ap (λ ys. (after_steps sc (after_start sc rec.order rec.start) ys).clock) (take_all k steps h ∙ same) ∙ backed-clock sc book rec a backed done) are
 
 -- ---- the undecided
 
@@ -81,8 +80,10 @@ fits-unfrozen sc tests t = elim (exits sc t) as (λ b. frozen_by tests t.station
 answered-frozen : (sc : Scenario) (tests : List ClockTest) (t : ClockTest) (shown : Shown) → is_listed tests t ≡ is_undecided shown → frozen_by tests t.station (answered_standing sc t (shows_room shown)) ≡ is_undecided shown
 answered-frozen sc tests t Empty h = fits-unfrozen sc tests t
 answered-frozen sc tests t (Fits delta) h = fits-unfrozen sc tests t
+answered-frozen sc tests t Same h = fits-unfrozen sc tests t
 answered-frozen sc tests t (NoChannel s) h = h
 answered-frozen sc tests t (Refuted worker how) h = h
+answered-frozen sc tests t (Outside proof) h = h
 answered-frozen sc tests t (Undecided receipts) h = h
 
 -- one step more

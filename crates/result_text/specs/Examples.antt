@@ -1,5 +1,7 @@
 -- Records of the three-station auction, and of one without a station.
-use Rattle.std.specs.Prelude.{ℕ, List, [], ◌∷◌}
+use Rattle.std.specs.Prelude.{ℕ, List, [], ◌∷◌, Some}
+use Rattle.pack_defs.specs.declared.order.Order.TheVariants.{ByFacility}
+use Rattle.pack_defs.specs.declared.station.Station.{Station}
 use Rattle.cert_types.specs.declared.answer.Refutation.{Refutation}
 use Rattle.cert_types.specs.declared.answer.Refutation.TheVariants.{Proof}
 use Rattle.cert_types.specs.declared.answer.Receipt.TheVariants.{Lines}
@@ -10,6 +12,13 @@ use Rattle.auction_core.specs.declared.record.Step.{Step}
 use Rattle.auction_core.specs.declared.record.Record.{Record}
 use Rattle.auction_core.specs.declared.record.Ending.TheVariants.{Done}
 use Rattle.auction_core.specs.Examples.{auction_of_three, no_station}
+
+-- the three stations, of which the second has this value and the third this volume
+abbrev pub three_with : ℕ → ℕ → List Station
+three_with value volume =
+    record { id = 1; volume = 1; value = Some 50 }
+    ∷ record { id = 2; volume = 1; value = Some value }
+    ∷ record { id = 3; volume = volume; value = Some 10 } ∷ []
 
 -- a step that fits, with this channel for its station
 abbrev pub fitted : ℕ → ℕ → ℕ → Step
@@ -24,6 +33,7 @@ steps_of_three last =
 abbrev pub record_of_three : ℕ → Shown → Record
 record_of_three budget last = record {
   scenario = auction_of_three (learner budget ∷ []);
+  order = ByFacility;
   ending = Done;
   start = Empty;
   steps = steps_of_three last;
@@ -45,4 +55,4 @@ spent_on = Undecided (Lines (log (not_one ∷ [])) ∷ [])
 
 -- the record of the auction without a station
 abbrev pub record_of_none : Record
-record_of_none = record { scenario = no_station; ending = Done; start = Empty; steps = []; map = []; total = 0 }
+record_of_none = record { scenario = no_station; order = ByFacility; ending = Done; start = Empty; steps = []; map = []; total = 0 }

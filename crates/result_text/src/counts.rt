@@ -2,7 +2,6 @@
 
 ghost use Rattle.std.specs.Prelude.{◌≡◌, ◌≤◌, ◌+◌, ◌++◌, IfOk, OnErr, OnOk, count_by, length, vec_capacity, vec_len};
 ghost use Rattle.pack_defs.specs.Scenario.{IsWithinLimits};
-ghost use Rattle.pack_defs.specs.declared.order.Order.TheVariants.{ByFacility};
 ghost use Rattle.pack_defs.specs.ClockRule.{clock_rule};
 ghost use Rattle.auction_core.specs.Backed.{IsBacked, undecided_of};
 ghost use Rattle.auction_core.specs.Clock.{stands_frozen, stands_on_air};
@@ -75,12 +74,12 @@ fn undecided_count(undecided: &[bool]) -> usize
 /// which the record is backed. One pass over the steps, each with a search by halves, and three over the stations. The
 /// only error is want of memory.
 pub fn summary(alloc: Global, rec: &Record, book: &Book) -> Result<Vec<u8>, NoMemory>
-    requires backed { IsBacked rec.now.scenario book.now rec.now }
+    requires backed { IsBacked rec.now.scenario book.now rec.now.order rec.now }
     requires done { rec.now.ending ≡ Ending.Done }
     requires limits { IsWithinLimits rec.now.scenario }
     ensures { IfOk result
         (λ v. let tests = undecided_of rec.now.steps in
-        v.items ≡ summary_text rec.now.scenario (clock_rule rec.now.scenario book.now ByFacility tests) tests) }
+        v.items ≡ summary_text rec.now.scenario (clock_rule rec.now.scenario book.now rec.now.order tests) tests) }
 {
     let outcomes = final_outcomes(alloc, rec, book)?;
     let standings = outcomes.clock.standings();

@@ -1,9 +1,9 @@
 //! The texts of a finished auction's result and of its summary, from its record.
 #![tactic(auto)]
 
-pub mod counts;
 #[cfg(test)]
-mod either_way;
+mod carried;
+pub mod counts;
 mod replay;
 pub mod rows;
 #[cfg(test)]

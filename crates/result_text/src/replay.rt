@@ -4,7 +4,6 @@ ghost use Rattle.std.specs.Prelude.{◌≡◌, ◌<◌, IfOk, IsFalse, MatchOpti
 ghost use Rattle.std.specs.List.Sorted.{IsStrictlyIncreasing};
 ghost use Rattle.pack_defs.specs.Lists.{is_in};
 ghost use Rattle.pack_defs.specs.Scenario.{IsWithinLimits, facilities};
-ghost use Rattle.pack_defs.specs.declared.order.Order.TheVariants.{ByFacility};
 ghost use Rattle.pack_defs.specs.ClockRule.{clock_rule};
 ghost use Rattle.auction_core.specs.Backed.{IsBacked, is_undecided, undecided_of};
 ghost use Rattle.auction_core.specs.Clock.{AreStandings};
@@ -46,12 +45,12 @@ fn is_undecided(shown: &Shown) -> bool
 /// What became of each station of a finished auction: its steps in turn move the clock, and the last step of a station
 /// says whether it is undecided. Only the clauses speak of the book. The only error is want of memory.
 pub(crate) fn final_outcomes(alloc: Global, rec: &Record, book: &Book) -> Result<Outcomes, NoMemory>
-    requires backed { IsBacked rec.now.scenario book.now rec.now }
+    requires backed { IsBacked rec.now.scenario book.now rec.now.order rec.now }
     requires done { rec.now.ending ≡ Ending.Done }
     requires limits { IsWithinLimits rec.now.scenario }
     ensures standings { IfOk result
         (λ o. let tests = undecided_of rec.now.steps in
-        AreStandings rec.now.scenario (clock_rule rec.now.scenario book.now ByFacility tests) o.clock) }
+        AreStandings rec.now.scenario (clock_rule rec.now.scenario book.now rec.now.order tests) o.clock) }
     ensures undecided { IfOk result
         (λ o. o.undecided.items ≡ each_frozen_by (undecided_of rec.now.steps) (facilities rec.now.scenario) o.clock) }
 {

@@ -3,7 +3,6 @@
 ghost use Rattle.std.specs.Prelude.{◌≡◌, ◌++◌, IfOk, IsFalse, OnOk, length, map};
 ghost use Rattle.csv.specs.Writing.{default_writer, needs_quotes};
 ghost use Rattle.pack_defs.specs.Scenario.{IsWithinLimits};
-ghost use Rattle.pack_defs.specs.declared.order.Order.TheVariants.{ByFacility};
 ghost use Rattle.pack_defs.specs.ClockRule.{clock_rule};
 ghost use Rattle.auction_core.specs.Backed.{IsBacked, undecided_of};
 ghost use Rattle.result_text.specs.ResultText.{IsBetweenRows, header_line, result_text, row_fields, standing_line, standing_lines, text_held};
@@ -110,12 +109,12 @@ fn standings_csv(
 /// The book is the one by which the record is backed. One pass over the steps, each with a search by halves, and one over
 /// the stations. The only error is want of memory.
 pub fn result_csv(alloc: Global, rec: &Record, book: &Book) -> Result<Vec<u8>, NoMemory>
-    requires backed { IsBacked rec.now.scenario book.now rec.now }
+    requires backed { IsBacked rec.now.scenario book.now rec.now.order rec.now }
     requires done { rec.now.ending ≡ Ending.Done }
     requires limits { IsWithinLimits rec.now.scenario }
     ensures { IfOk result
         (λ v. let tests = undecided_of rec.now.steps in
-        v.items ≡ result_text rec.now.scenario (clock_rule rec.now.scenario book.now ByFacility tests) tests) }
+        v.items ≡ result_text rec.now.scenario (clock_rule rec.now.scenario book.now rec.now.order tests) tests) }
 {
     let outcomes = final_outcomes(alloc, rec, book)?;
     standings_csv(

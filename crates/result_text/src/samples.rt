@@ -5,7 +5,7 @@ ghost use Rattle.pack_defs.specs.ChannelMap.{IsAscending};
 ghost use Rattle.pack_defs.specs.Examples.{three_stations};
 ghost use Rattle.cert_types.specs.Examples.{learner, not_one, the_end};
 ghost use Rattle.auction_core.specs.Examples.{auction_of_three};
-ghost use Rattle.result_text.specs.Examples.{fitted, record_of_none, record_of_three, refutation_of_three, refuted_set, spent_on, steps_of_three};
+ghost use Rattle.result_text.specs.Examples.{fitted, record_of_none, record_of_three, refutation_of_three, refuted_set, spent_on, steps_of_three, three_with};
 
 use auction_core::record::{Ending, Record, Shown, Step};
 use cert_types::answer::{Receipt, Refutation};
@@ -15,6 +15,7 @@ use pack_defs::channel_map::ChannelMap;
 use pack_defs::domain::Domain;
 use pack_defs::fall::Fall;
 use pack_defs::items::Items;
+use pack_defs::order::Order;
 use pack_defs::pair::Pair;
 use pack_defs::scenario::Scenario;
 use pack_defs::station::Station;
@@ -143,13 +144,13 @@ fn steps(alloc: Global, last: Shown) -> Result<Vec<Step>, NoMemory>
     ]?)
 }
 
-// A station of volume 1 with this value.
-fn station(id: u32, value: u64) -> Station
-    ensures { result ≡ record { id = id; volume = 1; value = Some value } }
+// A station of this volume and value.
+fn station(id: u32, volume: u32, value: u64) -> Station
+    ensures { result ≡ record { id = id; volume = volume; value = Some value } }
 {
     Station {
         id,
-        volume: 1,
+        volume,
         value: Some(value),
     }
 }
@@ -175,7 +176,7 @@ fn scenario(alloc: Global, budget: u32, stations: Vec<Station>) -> Result<Scenar
     })
 }
 
-// The record of an auction whose start set is empty.
+// The record of an auction by facility whose start set is empty.
 fn done(
     alloc: Global,
     scenario: Scenario,
@@ -186,6 +187,7 @@ fn done(
     requires { IsAscending map.now }
     ensures { IfOk result (λ rec. rec ≡ record {
       scenario = scenario;
+      order = Order.ByFacility;
       ending = Ending.Done;
       start = Shown.Empty;
       steps = steps.items;
@@ -195,6 +197,7 @@ fn done(
 {
     Ok(Record {
         scenario,
+        order: Order::ByFacility,
         ending: Ending::Done,
         start: Shown::Empty,
         steps: Items::from_vec(steps),
@@ -203,12 +206,30 @@ fn done(
     })
 }
 
-// The three stations' auction, with one worker of this budget.
-pub(crate) fn auction_of_three(alloc: Global, budget: u32) -> Result<Scenario, NoMemory>
+// The three stations' auction, with one worker of this budget, where the second station has this value and the third this
+// volume.
+pub(crate) fn auction_with(
+    alloc: Global,
+    budget: u32,
+    value: u64,
+    volume: u32,
+) -> Result<Scenario, NoMemory>
+    ensures { IfOk result
+        (λ sc. sc ≡ record (auction_of_three (learner budget ∷ [])) { stations = three_with value volume }) }
+{
+    let stations = vec![in alloc;
+        station(1, 1, 50),
+        station(2, 1, value),
+        station(3, volume, 10),
+    ]?;
+    scenario(alloc, budget, stations)
+}
+
+// The same with a value of 70 and a volume of 1.
+fn auction_of_three(alloc: Global, budget: u32) -> Result<Scenario, NoMemory>
     ensures { IfOk result (λ sc. sc ≡ auction_of_three (learner budget ∷ [])) }
 {
-    let stations = vec![in alloc; station(1, 50), station(2, 70), station(3, 10)]?;
-    scenario(alloc, budget, stations)
+    auction_with(alloc, budget, 70, 1)
 }
 
 // The record of the three stations' auction with one worker of this budget, of which the last step was shown so.

@@ -20,7 +20,7 @@ pub(crate) fn tells(
     rows: &[u8],
     counts: &[u8],
 ) -> Result<bool, NoMemory>
-    requires backed { IsBacked rec.now.scenario book.now rec.now }
+    requires backed { IsBacked rec.now.scenario book.now rec.now.order rec.now }
     requires done { rec.now.ending ≡ Ending.Done }
     requires limits { IsWithinLimits rec.now.scenario }
 {

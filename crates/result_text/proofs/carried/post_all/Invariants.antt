@@ -1,6 +1,6 @@
 -- The auction's scenario and book stay.
 use Rattle.std.proofs.Common.{◌≡◌}
-use Rattle.result_text.proofs.either_way.post_all.Given as goal
+use Rattle.result_text.proofs.carried.post_all.Given as goal
 
 abbrev pub invariant-fits : goal.invariant-fits
 invariant-fits l = record {
