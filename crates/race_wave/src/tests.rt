@@ -98,7 +98,7 @@ fn one_freezes(alloc: Global, budget: u32, last: By) -> Result<bool, NoMemory>
     requires some { 1 ≤ budget }
     requires few { budget ≤ 1000 }
 {
-    let sc = three_bids(alloc, vec![in alloc; learner(budget)]?)?;
+    let sc = three_bids(alloc, vec![in alloc; learner(budget)]?, 1)?;
     freezes(alloc, &sc, last)
 }
 
@@ -109,7 +109,7 @@ fn two_freeze(alloc: Global, first: u32, second: u32, last: By) -> Result<bool, 
     requires few { first ≤ 1000 }
     requires few_second { second ≤ 1000 }
 {
-    let sc = three_bids(alloc, vec![in alloc; learner(first), learner(second)]?)?;
+    let sc = three_bids(alloc, vec![in alloc; learner(first), learner(second)]?, 1)?;
     freezes(alloc, &sc, last)
 }
 
@@ -126,6 +126,23 @@ fn three_stations_are_asked_by_two_workers(rt: HostRuntime) -> Result<(), Fail> 
     assert!(rt; two_freeze(rt.alloc(), 1, 1, By::None)?);
     assert!(rt; two_freeze(rt.alloc(), 1000, 1000, By::Proof(0))?);
     assert!(rt; two_freeze(rt.alloc(), 1, 1000, By::Proof(1))?);
+    Ok(())
+}
+
+// Station 3, of volume 2, is tested first in each round, and so it is frozen in the third, behind station 1.
+#[test]
+fn greater_volumes_are_tested_first(rt: HostRuntime) -> Result<(), Fail> {
+    let alloc = rt.alloc();
+    let sc = three_bids(alloc, vec![in alloc; learner(1000)]?, 2)?;
+    let tests = [
+        (1, 3, By::Fit),
+        (1, 1, By::Fit),
+        (1, 2, By::Fit),
+        (2, 3, By::Fit),
+        (2, 1, By::Fit),
+        (3, 3, By::Proof(0)),
+    ];
+    assert!(rt; ends(alloc, &sc, Ending::Done, 40, &tests)?);
     Ok(())
 }
 
