@@ -12,12 +12,13 @@ use Rattle.auction_core.specs.declared.record.Ending.{Ending}
 use Rattle.auction_core.specs.declared.record.Ending.TheVariants.{Done, StartRefuted, StartUndecided}
 use Rattle.auction_core.specs.declared.record.Record.{Record}
 use Rattle.auction_core.specs.declared.record.Step.{Step}
-use Rattle.auction_core.specs.Backed.{IsBacked, is_undecided, test_of, undecided_of}
+use Rattle.auction_core.specs.Backed.{IsBacked, is_undecided, undecided_of}
 use Rattle.auction_core.specs.Rule.{IsAuction}
+use Rattle.auction_core.specs.State.{test_of}
 use Rattle.auction_core.proofs.Done.{done-map}
 use Rattle.auction_core.proofs.StartShown.{done-fits, open-receipts, refuted-unfits}
 use Rattle.auction_cmd.specs.declared.inputs.Inputs.{Inputs}
-use Rattle.auction_cmd.specs.Ends.{Delivers, IsRecordBy, done_status}
+use Rattle.auction_cmd.specs.Ends.{Delivers, IsRecordBy, done_status, run_order}
 use Rattle.auction_cmd.specs.Ends.Delivers.{Both, NotStored, NotSaid, OutOfRoom}
 use Rattle.auction_cmd.specs.Outside.{Outside}
 use Rattle.auction_cmd.proofs.SaysLemmas.{rises-before}
@@ -25,21 +26,21 @@ use Rattle.auction_cmd.proofs.SaysLemmas.{rises-before}
 -- ---- the record
 
 -- a backed record is that of the inputs' auction, by how it ended
-pub record-by : (inputs : Inputs) (rec : Record) → IsAuction inputs.scenario inputs.book → IsBacked inputs.scenario inputs.book rec → IsRecordBy inputs rec rec.ending
+pub record-by : (inputs : Inputs) (rec : Record) → IsAuction inputs.scenario inputs.book → IsBacked inputs.scenario inputs.book run_order rec → IsRecordBy inputs rec rec.ending
 record-by inputs rec a b = by rec.ending refl
   where
     by : (ending : Ending) → rec.ending ≡ ending → IsRecordBy inputs rec ending
     by Done e =
-        let of = done-map inputs.scenario inputs.book rec a b e in
+        let of = done-map inputs.scenario inputs.book run_order rec a b e in
         record {
           backed = b;
           ending = e;
-          starts = done-fits inputs.scenario inputs.book rec a b e;
+          starts = done-fits inputs.scenario inputs.book run_order rec a b e;
           packing = record { stations = of.1; clean = of.0 };
         }
-    by StartRefuted e = record { backed = b; ending = e; starts = refuted-unfits inputs.scenario inputs.book rec a b e }
+    by StartRefuted e = record { backed = b; ending = e; starts = refuted-unfits inputs.scenario inputs.book run_order rec a b e }
     by StartUndecided e =
-        let left = open-receipts inputs.scenario inputs.book rec b e in
+        let left = open-receipts inputs.scenario inputs.book run_order rec b e in
         record { backed = b; ending = e; receipts = left.0; shown = left.1; spent = left.2 }
 
 -- the undecided tests are none exactly where no step is shown so

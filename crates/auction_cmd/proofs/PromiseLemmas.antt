@@ -10,6 +10,7 @@ use Rattle.pack_defs.specs.Packing.{fits}
 use Rattle.pack_defs.specs.Prices.{start_set}
 use Rattle.pack_defs.proofs.FitsLaws.{fits-from}
 use Rattle.pack_defs.proofs.Members.{Contains-nil, is_in-gives, list_all-gives}
+use Rattle.pack_defs.proofs.ThresholdLaw.{threshold}
 use Rattle.outside_io.specs.Faults.{HasRisen}
 use Rattle.outside_io.specs.Files.{OthersStand, Puts, StoredFile}
 use Rattle.outside_io.specs.Loads.{Stores, Writes}
@@ -24,7 +25,7 @@ use Rattle.auction_core.proofs.StartShown.{open-some}
 use Rattle.auction_cmd.specs.declared.refusal.Input.{Input}
 use Rattle.auction_cmd.specs.declared.refusal.Refusal.{Refusal}
 use Rattle.auction_cmd.specs.Counts.{counts_text}
-use Rattle.auction_cmd.specs.Ends.{AreHeld, CheckEnds, Delivers, Ends, Explains, IsOpenRecordOf, IsRecordOf, IsRefutedRecordOf, IsStarved, IsHalted, RunEnds, StartFits, StartUnfit, done_status, result_of, summary_of}
+use Rattle.auction_cmd.specs.Ends.{AreHeld, CheckEnds, Delivers, Ends, Explains, IsOpenRecordOf, IsRecordOf, IsRefutedRecordOf, IsStarved, IsHalted, RunEnds, StartFits, StartUnfit, done_status, result_of, run_order, summary_of}
 use Rattle.auction_cmd.specs.Ends.CheckEnds.{CheckStopped, CheckStarved, Counted, CountsCut}
 use Rattle.auction_cmd.specs.Ends.Delivers.{Both, NotStored, NotSaid, OutOfRoom}
 use Rattle.auction_cmd.specs.Ends.Ends.{Starved, Usage, Repeated, Ran, Checked}
@@ -36,7 +37,7 @@ use Rattle.auction_cmd.specs.Promises.{AreThere, IsDecided, IsDone, IsLeftOpen, 
 use Rattle.auction_cmd.specs.Refusals.{line_of, name_of}
 use Rattle.auction_cmd.specs.Says.{memory_line, open_line, twice_line, unfit_line, unread_line}
 use Rattle.auction_cmd.specs.Words.{InputNames, RunNames}
-use Rattle.auction_cmd.proofs.ReadingLemmas.{can-read}
+use Rattle.auction_cmd.proofs.ReadingLemmas.{accepted-ascend, accepted-values, can-read}
 
 -- ---- plain facts
 
@@ -305,6 +306,7 @@ module _ (names : RunNames) (before after : Outside) (status : ℕ) (found : Opt
         accepted = done.accepted;
         result = subst (λ U. MatchOption after.files ⊥ (λ new. Puts files new names.result (result_of done.inputs U))) none done.result;
         summary = subst (λ U. Writes before.held after.held (summary_of done.inputs U) (Ok tt)) none done.summary;
+        paid = λ f bought. threshold done.inputs.scenario done.inputs.book run_order f (accepted-ascend files names.inputs done.inputs done.accepted) (accepted-values files names.inputs done.inputs done.accepted) bought;
       }
 
   run-unfit : (files : List StoredFile) → RunEnds names before after status found → before.files ≡ Some files → status ≡ 6 →
@@ -340,7 +342,7 @@ module _ (names : RunNames) (before after : Outside) (status : ℕ) (found : Opt
       absurd (true≢false (sym (nobody-fits own.book (start_set own.scenario) (ap (λ (z : Inputs). start_set z.scenario) one ∙ nobody)) ∙ of.starts))
   run-nobody files inputs (StartOpen own rec are of seven kept said same) told is nobody =
       let one : own ≡ inputs = same-inputs own inputs (sym (are files told) ∙ is) in
-      absurd (open-some own.scenario own.book rec of.backed of.ending (ap (λ (z : Inputs). start_set z.scenario) one ∙ nobody))
+      absurd (open-some own.scenario own.book run_order rec of.backed of.ending (ap (λ (z : Inputs). start_set z.scenario) one ∙ nobody))
   run-nobody files inputs (Delivered own rec are of kept d) told is nobody = not-in (0 ∷ 1 ∷ 4 ∷ 8 ∷ []) (6 ∷ 7 ∷ []) status refl (delivered-statuses names.result _ _ _ before after status d)
 
   run-stored : (files : List StoredFile) → RunEnds names before after status found → before.files ≡ Some files → status ≡ 4 → IsUnwritten files names before after found

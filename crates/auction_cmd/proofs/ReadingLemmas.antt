@@ -1,9 +1,9 @@
--- Where the input files are there, none of them can't be read.
+-- Where the input files are there, none of them can't be read; and what is accepted stands in the scenario file.
 use Rattle.std.proofs.Common.{◌≡◌, ◌∙◌, ℕ, Bool, true, false, List, [], ◌∷◌, length, map, nat_lt, cond, refl, sym, ap, subst, inl, inr}
-use Rattle.std.specs.Prelude.{Option, Some, None, Result, Ok, Err, IsSome}
+use Rattle.std.specs.Prelude.{IfOk, Option, Some, None, Result, Ok, Err, IsSome}
 use Rattle.std.proofs.lemmas.Bool.{cases_Bool}
 use Rattle.constraint_files.specs.Domains.{domains_of}
-use Rattle.constraint_files.specs.Rows.{pairs_of}
+use Rattle.constraint_files.specs.Rows.{PairsView, pairs_of}
 use Rattle.constraint_files.specs.declared.error.ReadErr.{ReadErr}
 use Rattle.constraint_files.specs.declared.error.ReadErr.TheVariants.{Row, NoMemory as NoRoom}
 use Rattle.outside_io.specs.Files.{StoredFile, bytes_of}
@@ -11,12 +11,14 @@ use Rattle.pack_defs.specs.Book.{BookView, cut_book, cut_domain, stations_of}
 use Rattle.pack_defs.specs.declared.domain.Domain.{Domain}
 use Rattle.pack_defs.specs.declared.pair.Pair.{Pair}
 use Rattle.pack_defs.specs.declared.scenario.Scenario.{Scenario}
-use Rattle.pack_defs.specs.Scenario.{facilities}
+use Rattle.pack_defs.specs.Scenario.{IsWithinLimits, StationsAscend, facilities}
 use Rattle.scenario_json.specs.declared.error.ScenarioErr.{ScenarioErr}
 use Rattle.scenario_json.specs.declared.join.JoinErr.{JoinErr}
 use Rattle.scenario_json.specs.declared.join.JoinErr.TheVariants.{MissingDomain, NoMemory as NoSpace}
 use Rattle.scenario_json.specs.Joined.{book_unless, first_missing, joined}
 use Rattle.scenario_json.specs.ScenarioOf.{scenario_of}
+use Rattle.scenario_json.proofs.Limits.{read-limits, read-values}
+use Rattle.auction_cmd.specs.declared.inputs.Inputs.{Inputs}
 use Rattle.auction_cmd.specs.declared.refusal.Input.{Input}
 use Rattle.auction_cmd.specs.declared.refusal.Input.TheVariants.{Domains, Rows, Scenario as ScenarioFile}
 use Rattle.auction_cmd.specs.declared.inputs.Stop.{Stop}
@@ -85,3 +87,42 @@ can-read files names i h =
     goes_on (and_then (file_of files names.scenario ScenarioFile) (λ bytes. scenario_read (scenario_of bytes))) _
     (goes_on (file_of files names.scenario ScenarioFile) (λ bytes. scenario_read (scenario_of bytes)) (can_bytes ScenarioFile (bytes_of files names.scenario) h.scenario) (λ bytes. can_scenario (scenario_of bytes))) (λ sc.
     can_join sc pairs (joined sc domains pairs.list)))) i
+
+-- ---- accepted inputs
+
+then-ok : {A B : Type 0} (r : Result A Stop) (f : A → Result B Stop) (y : B) → and_then r f ≡ Ok y → (x : A) × (r ≡ Ok x) × (f x ≡ Ok y)
+then-ok (Ok x) f y e = (x, refl, e)
+then-ok (Err why) f y e = cc
+
+read-ok : (r : Result Scenario ScenarioErr) (sc : Scenario) → scenario_read r ≡ Ok sc → r ≡ Ok sc
+read-ok (Ok read) sc e = cc
+read-ok (Err why) sc e = cc
+
+from-ok : (sc : Scenario) (pairs : PairsView) (r : Result BookView JoinErr) (inputs : Inputs) → inputs_from sc pairs r ≡ Ok inputs → sc ≡ inputs.scenario
+from-ok sc pairs (Ok book) inputs e =
+    let same : record { scenario = sc; book = book; self_pairs = pairs.self_pairs; strangers = pairs.strangers } ≡ inputs = cc in
+    ap (λ (i : Inputs). i.scenario) same
+from-ok sc pairs (Err (MissingDomain s)) inputs e = cc
+from-ok sc pairs (Err NoSpace) inputs e = cc
+
+-- the scenario of accepted inputs stands in the scenario file
+accepted-scenario : (files : List StoredFile) (names : InputNames) (inputs : Inputs) → inputs_of files names ≡ Ok inputs → (bytes : List ℕ) × (scenario_of bytes ≡ Ok inputs.scenario)
+unfolding inputs_of
+accepted-scenario files names inputs e =
+    let (domains, domains-read, rest) = then-ok (and_then (file_of files names.domains Domains) (λ bytes. rows_read Domains (domains_of bytes))) _ inputs e in
+    let (pairs, pairs-read, more) = then-ok (and_then (file_of files names.rows Rows) (λ bytes. rows_read Rows (pairs_of bytes domains))) _ inputs rest in
+    let (sc, read, joined-ok) = then-ok (and_then (file_of files names.scenario ScenarioFile) (λ bytes. scenario_read (scenario_of bytes))) _ inputs more in
+    let (bytes, loaded, held) = then-ok (file_of files names.scenario ScenarioFile) (λ bytes. scenario_read (scenario_of bytes)) sc read in
+    (bytes, read-ok (scenario_of bytes) sc held ∙ ap Ok (from-ok sc pairs (joined sc domains pairs.list) inputs joined-ok))
+
+-- so its stations ascend, and its values stand for the owners
+pub accepted-ascend : (files : List StoredFile) (names : InputNames) (inputs : Inputs) → inputs_of files names ≡ Ok inputs → StationsAscend inputs.scenario
+accepted-ascend files names inputs e =
+    let (bytes, held) = accepted-scenario files names inputs e in
+    let limits : IsWithinLimits inputs.scenario = subst (λ r. IfOk r IsWithinLimits) held (read-limits bytes) in
+    limits.ascend
+
+pub accepted-values : (files : List StoredFile) (names : InputNames) (inputs : Inputs) → inputs_of files names ≡ Ok inputs → inputs.scenario.owners ≡ None
+accepted-values files names inputs e =
+    let (bytes, held) = accepted-scenario files names inputs e in
+    subst (λ r. IfOk r (λ (sc : Scenario). sc.owners ≡ None)) held (read-values bytes)

@@ -1,8 +1,9 @@
 -- What may be relied on of the program, a clause each: by what the words ask for, what the folder and the sink tell
 -- before and after, the status and the record.
-use Rattle.std.specs.Prelude.{◌≡◌, ◌≢◌, ◌⊎◌, ◌<◌, ◌≤◌, ℕ, List, [], ◌∷◌, length, Option, Some, None, Ok, Err, IsFalse, IsSome, IsTrue, MatchOption, true, ⊤}
+use Rattle.std.specs.Prelude.{Contains, ◌≡◌, ◌≢◌, ◌⊎◌, ◌<◌, ◌≤◌, ℕ, List, [], ◌∷◌, length, Option, Some, None, Ok, Err, IsFalse, IsSome, IsTrue, MatchOption, true, ⊤}
 use Rattle.pack_defs.specs.Lists.{is_in}
-use Rattle.pack_defs.specs.ClockRule.{ClockTest, on_air_set}
+use Rattle.pack_defs.specs.ClockRule.{ClockTest, FrozenAt, on_air_set}
+use Rattle.pack_defs.specs.Threshold.{IsThresholdPrice}
 use Rattle.pack_defs.specs.Packing.{IsPacking}
 use Rattle.pack_defs.specs.Prices.{start_set}
 use Rattle.outside_io.specs.Faults.{HasRisen}
@@ -17,7 +18,7 @@ use Rattle.auction_cmd.specs.declared.refusal.Input.{Input}
 use Rattle.auction_cmd.specs.declared.refusal.Refusal.{Refusal}
 use Rattle.auction_core.specs.Backed.{IsBacked, undecided_of}
 use Rattle.auction_cmd.specs.Counts.{counts_text}
-use Rattle.auction_cmd.specs.Ends.{AreHeld, IsOpenRecordOf, IsRecordBy, IsRecordOf, StartFits, StartUnfit, done_status, outcome, result_of, summary_of}
+use Rattle.auction_cmd.specs.Ends.{AreHeld, IsOpenRecordOf, IsRecordBy, IsRecordOf, StartFits, StartUnfit, done_status, outcome, result_of, run_order, summary_of}
 use Rattle.auction_cmd.specs.Inputs.{inputs_of}
 use Rattle.auction_cmd.specs.Outside.{Outside, IsSaid}
 use Rattle.auction_cmd.specs.Plan.{Plan, no_command, repeats, runs, checks}
@@ -52,12 +53,15 @@ pub record IsDone (files : List StoredFile) (names : RunNames) (before after : O
   pub status_is : status ≡ done_status (undecided_of rec.steps)
 
 -- The auction of these inputs was carried out with every test decided: what RESULT holds and what the summary says hang on
--- the three input files alone.
+-- the three input files alone, and each station that is bought is paid the greatest admissible value with which it would
+-- have been bought.
 pub record IsDecided (files : List StoredFile) (names : RunNames) (before after : Outside) : Type 0 where
   pub inputs : Inputs
   pub accepted : inputs_of files names.inputs ≡ Ok inputs
   pub result : MatchOption after.files ⊥ (λ new. Puts files new names.result (result_of inputs []))
   pub summary : Writes before.held after.held (summary_of inputs []) (Ok tt)
+  pub paid : (f : FrozenAt) → Contains (outcome inputs []).frozen f →
+      IsThresholdPrice inputs.scenario inputs.book run_order f.station f.price
 
 -- What was written of an auction that was carried out, where the summary failed: RESULT holds its text, the sink was not
 -- sure of the summary, and of that some was written, from the first byte on.
@@ -91,7 +95,7 @@ pub record IsRecordAt (names : RunNames) (before : Outside) (ending : Ending) (f
 -- stations on air at the end.
 pub record IsSomeRecord (rec : Record) : Type 0 where
   pub inputs : Inputs
-  pub backed : IsBacked inputs.scenario inputs.book rec
+  pub backed : IsBacked inputs.scenario inputs.book run_order rec
   pub packing : rec.ending ≡ Done → IsPacking inputs.book (on_air_set inputs.scenario (outcome inputs (undecided_of rec.steps))) rec.map
 
 -- The test of the start set of these inputs was left open: the record has a receipt of every worker, and the line says so.

@@ -4,7 +4,7 @@ ghost use Rattle.std.specs.Prelude.{◌≡◌, IfOk};
 ghost use Rattle.std.specs.List.{list_any};
 ghost use Rattle.pack_defs.specs.Scenario.{IsWithinLimits};
 ghost use Rattle.auction_core.specs.Backed.{is_undecided, undecided_of};
-ghost use Rattle.auction_core.specs.Clockwork.{IsOfAuction};
+ghost use Rattle.auction_core.specs.Setup.{IsOfAuction};
 ghost use Rattle.auction_cmd.specs.Ends.{Delivers, IsRecordBy, IsRecordOf, RunEnds, done_status, result_of, summary_of};
 ghost use Rattle.auction_cmd.specs.Outside.{outside};
 ghost use Rattle.auction_cmd.specs.Words.{names_seen};

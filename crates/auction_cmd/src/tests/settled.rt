@@ -69,17 +69,23 @@ fn three_stations_are_settled(rt: HostRuntime) -> Result<(), Fail> {
             "[]",
             "status 0; said: stations 3\non-air 2\nfrozen 1\nundecided 0\ntotal 100\n; out.csv: facility,outcome,round,price\n1,exit,1,0\n2,exit,1,0\n3,frozen,1,100\n",
         ),
-        // By rate the prices are 100, 60, 36, 16 and 0.
+        // Of greater volume, station 3 is tested first in each round.
+        (
+            "\"id\":3,\"volume\":1",
+            "\"id\":3,\"volume\":2",
+            "status 0; said: stations 3\non-air 2\nfrozen 1\nundecided 0\ntotal 40\n; out.csv: facility,outcome,round,price\n1,exit,2,0\n2,exit,1,0\n3,frozen,3,40\n; tests: 1.3 fits, 1.1 fits, 1.2 fits, 2.3 fits, 2.1 fits, 3.3 refuted by 0",
+        ),
+        // By rate the prices are 100, 60, 36, 16 and 0. Two tests ask about the same stations as one round before.
         (
             "1,\"top\":15,\"opening\":100,\"decrements\":[40,40],\"stations\":[{\"id\":1,\"volume\":1,\"value\":50}",
             "2,\"top\":15,\"opening\":100,\"rate\":400,\"floor\":200,\"stations\":[{\"id\":1,\"volume\":1,\"value\":30}",
-            "status 0; said: stations 3\non-air 2\nfrozen 1\nundecided 0\ntotal 36\n; out.csv: facility,outcome,round,price\n1,exit,3,0\n2,exit,1,0\n3,frozen,3,36\n",
+            "status 0; said: stations 3\non-air 2\nfrozen 1\nundecided 0\ntotal 36\n; out.csv: facility,outcome,round,price\n1,exit,3,0\n2,exit,1,0\n3,frozen,3,36\n; tests: 1.1 fits, 1.2 fits, 1.3 fits, 2.1 fits, 2.3 as before, 3.1 as before, 3.3 refuted by 0",
         ),
         // A station that starts on air goes on air in round 0.
         (
             "\"value\":70",
             "\"value\":101",
-            "status 0; said: stations 3\non-air 2\nfrozen 1\nundecided 0\ntotal 60\n; out.csv: facility,outcome,round,price\n1,exit,2,0\n2,start,0,0\n3,frozen,2,60\n",
+            "status 0; said: stations 3\non-air 2\nfrozen 1\nundecided 0\ntotal 60\n; out.csv: facility,outcome,round,price\n1,exit,2,0\n2,start,0,0\n3,frozen,2,60\n; start: fits; tests: 1.1 fits, 1.3 fits, 2.1 as before, 2.3 refuted by 0",
         ),
     ];
     assert_eq!(rt; first_untrue_part(rt.alloc(), &table)?, None);

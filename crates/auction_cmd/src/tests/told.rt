@@ -49,8 +49,10 @@ fn shown_text(alloc: Global, shown: &Shown) -> Result<String, NoMemory> {
     match shown {
         Shown::Empty => String::from_str(alloc, "empty"),
         Shown::Fits(_) => String::from_str(alloc, "fits"),
+        Shown::Same => String::from_str(alloc, "as before"),
         Shown::NoChannel(station) => format!(in alloc; "no channel for {station}"),
         Shown::Refuted { worker, .. } => format!(in alloc; "refuted by {worker}"),
+        Shown::Outside(_) => String::from_str(alloc, "refuted from outside"),
         Shown::Undecided(receipts) => {
             let list = receipts_text(alloc, receipts.as_slice())?;
             format!(in alloc; "open after {list}")

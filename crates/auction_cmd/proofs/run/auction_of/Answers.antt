@@ -1,5 +1,5 @@
 -- The record is that of the inputs' auction, by how it ended.
-use Rattle.auction_core.proofs.ClockworkLemmas.{is-auction}
+use Rattle.auction_core.proofs.AuctionLemmas.{is-auction}
 use Rattle.auction_cmd.proofs.EndLemmas.{record-by}
 use Rattle.auction_cmd.proofs.run.auction_of.Goals as goal
 
