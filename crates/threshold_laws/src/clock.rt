@@ -1,0 +1,133 @@
+//! Who is on air, who is frozen and who is still asked, as the clock rule tells it.
+
+ghost use Rattle.std.specs.Prelude.{◌≡◌, ◌==◌, [], ◌∷◌, ◌++◌, IfOk};
+ghost use Rattle.pack_defs.specs.Lists.{without};
+ghost use Rattle.pack_defs.specs.ClockRule.{goes_on_air, is_active, is_frozen, is_on_air};
+
+use std::alloc::{AllocError as NoMemory, Global};
+use std::marker::Model;
+
+/// A station on air, and the round in which it went on air; 0 for the start.
+#[derive(Debug, Drop)]
+pub struct Aired {
+    pub station: u32,
+    pub round: usize,
+}
+
+impl Model for Aired {
+    ghost use Rattle.pack_defs.specs.ClockRule.{OnAirSince};
+
+    ghost Value = { OnAirSince };
+
+    ghost view = { λ x. record { station = x.station; round = x.round } };
+}
+
+impl Aired {
+    // Whether it is of this station.
+    fn is_of(&self, s: u32) -> bool
+        ensures { result ≡ (self.now.station == s) }
+    {
+        self.station == s
+    }
+}
+
+/// A station that is bought, the round in which it was frozen, and what it is paid, in cents.
+#[derive(Debug, Drop)]
+pub struct Bought {
+    station: u32,
+    round: usize,
+    price: u64,
+}
+
+impl Model for Bought {
+    ghost use Rattle.pack_defs.specs.ClockRule.{FrozenAt};
+
+    ghost Value = { FrozenAt };
+
+    ghost view = { λ x. record { station = x.station; round = x.round; price = x.price } };
+}
+
+impl Bought {
+    // Whether it is of this station.
+    fn is_of(&self, s: u32) -> bool
+        ensures { result ≡ (self.now.station == s) }
+    {
+        self.station == s
+    }
+}
+
+/// The state of the clock between two tests, in three plain lists.
+#[derive(Debug, Drop)]
+pub struct PlainClock {
+    on_air: Vec<Aired>,
+    frozen: Vec<Bought>,
+    active: Vec<u32>,
+}
+
+impl Model for PlainClock {
+    ghost use Rattle.pack_defs.specs.ClockRule.{ClockState};
+
+    ghost Value = { ClockState };
+
+    ghost view = { λ c. record { on_air = c.on_air.items; frozen = c.frozen.items; active = c.active.items } };
+}
+
+impl PlainClock {
+    /// The clock before its first round, with these stations on air and these still asked.
+    pub fn open(alloc: Global, on_air: Vec<Aired>, active: Vec<u32>) -> PlainClock
+        ensures { result ≡ record { on_air = on_air.items; frozen = []; active = active.items } }
+    {
+        PlainClock {
+            on_air,
+            frozen: Vec::new(alloc),
+            active,
+        }
+    }
+
+    /// Whether the station is still asked.
+    pub fn is_active(&self, s: u32) -> bool
+        ensures { result ≡ is_active self.now s }
+    {
+        self.active.iter().any(|x| *x == s)
+    }
+
+    /// Whether the station is on air.
+    pub fn is_on_air(&self, s: u32) -> bool
+        ensures { result ≡ is_on_air self.now s }
+    {
+        self.on_air.iter().any(|x| x.is_of(s))
+    }
+
+    /// Whether the station is frozen.
+    pub fn is_frozen(&self, s: u32) -> bool
+        ensures { result ≡ is_frozen self.now s }
+    {
+        self.frozen.iter().any(|x| x.is_of(s))
+    }
+
+    /// The station goes on air in this round. The only error is want of memory.
+    pub fn air(&mut self, s: u32, round: usize) -> Result<(), NoMemory>
+        ensures { IfOk result (λ _. self.new ≡ goes_on_air self.old (record { round = round; station = s })) }
+    {
+        self.on_air.push(Aired { station: s, round })?;
+        self.active.retain(|x| *x != s);
+        Ok(())
+    }
+
+    /// The station is frozen in this round, at this price, in cents. The only error is want of memory.
+    pub fn freeze(&mut self, s: u32, round: usize, price: u64) -> Result<(), NoMemory>
+        ensures { IfOk result (λ _. self.new ≡ record {
+          on_air = self.old.on_air;
+          frozen = self.old.frozen ++ record { station = s; round = round; price = price } ∷ [];
+          active = without self.old.active s;
+        }) }
+    {
+        self.frozen.push(Bought {
+            station: s,
+            round,
+            price,
+        })?;
+        self.active.retain(|x| *x != s);
+        Ok(())
+    }
+}

@@ -1,0 +1,234 @@
+//! The clock rule, run as it is defined: the rounds one after another, in each the stations in turn, and each test
+//! decided by a plain search over all stations on air.
+
+ghost use Rattle.std.specs.Prelude.{◌≡◌, ◌<◌, ◌≤◌, ◌||◌, ◌==◌, [], IfOk, filter, length, map, not};
+ghost use Rattle.pack_defs.specs.Packing.{fits};
+ghost use Rattle.pack_defs.specs.Scenario.{StationsAscend, value_of};
+ghost use Rattle.pack_defs.specs.Prices.{declines, declines_by_value, offer, prices, stays};
+ghost use Rattle.pack_defs.specs.ClockRule.{after_test, after_tests, asked_set, clock_rule, exits, is_on_air, opening_state};
+
+use crate::clock::{Aired, PlainClock};
+use crate::turns::{facilities, turns, volume_of};
+use pack_defs::book::Book;
+use pack_defs::order::Order;
+use pack_defs::owners::Owners;
+use pack_defs::scenario::Scenario;
+use plain_pack::search::fits;
+use std::alloc::{AllocError as NoMemory, Global};
+
+/// An auction to run: its scenario and book, and the price of each round from 0, the opening, to the last fall, in
+/// cents per unit of volume.
+#[derive(Drop)]
+pub struct PlainRule<'a> {
+    pub sc: &'a Scenario,
+    pub book: &'a Book,
+    pub schedule: &'a [u32],
+    ghost priced: { schedule.now ≡ prices sc.now },
+}
+
+// The value of a station of the scenario, if it has one.
+fn value_of(sc: &Scenario, s: u32) -> Option<u64>
+    ensures { result ≡ value_of sc.now s }
+{
+    let stations = sc.stations.as_slice();
+    for x in stations {
+        if x.id == s {
+            return x.value;
+        }
+    }
+    None
+}
+
+// Whether an owner's line says that the station stays in this round.
+fn stays(owners: &Owners, round: usize, s: u32) -> bool
+    ensures { result ≡ stays owners.now round s }
+{
+    owners
+        .lines()
+        .iter()
+        .any(|x| x.round as usize == round && x.station == s && x.stays)
+}
+
+// Whether the test of a station asks about this one.
+fn is_asked(clock: &PlainClock, f: u32, s: u32) -> bool
+    ensures { result ≡ (is_on_air clock.now f || (f == s)) }
+{
+    clock.is_on_air(f) || f == s
+}
+
+impl PlainRule<'_> {
+    // What the station is offered in this round, in cents.
+    fn offer(&self, s: u32, round: usize) -> u64
+        requires { round < length self.now.schedule.now }
+        ensures { result ≡ offer self.now.sc.now s round }
+    {
+        u64::from(self.schedule[round]) * u64::from(volume_of(self.sc, s))
+    }
+
+    // Whether by its value the station would sooner stay on air than take the round's offer.
+    fn declines_by_value(&self, s: u32, round: usize) -> bool
+        requires { round < length self.now.schedule.now }
+        ensures { result ≡ declines_by_value self.now.sc.now s round }
+    {
+        match value_of(self.sc, s) {
+            Some(value) => self.offer(s, round) < value,
+            None => true,
+        }
+    }
+
+    // Whether the station declines the round's offer.
+    fn declines(&self, s: u32, round: usize) -> bool
+        requires { round < length self.now.schedule.now }
+        ensures { result ≡ declines self.now.sc.now s round }
+    {
+        match &self.sc.owners {
+            Some(owners) => !stays(owners, round, s),
+            None => self.declines_by_value(s, round),
+        }
+    }
+
+    // Whether the station declines the opening offer.
+    fn declines_opening(&self, s: u32) -> bool
+        ensures { result ≡ declines self.now.sc.now s 0 }
+    {
+        self.declines(s, 0)
+    }
+
+    // Whether the station, where its test of this round fits, goes on air.
+    fn exits(&self, s: u32, round: usize) -> bool
+        requires { round ≤ length self.now.schedule.now }
+        ensures { result ≡ exits self.now.sc.now (record { round = round; station = s }) }
+    {
+        // The last round comes after the last price.
+        round == self.schedule.len() || self.declines(s, round)
+    }
+
+    // The stations on air and this one, ascending.
+    fn asked(&self, alloc: Global, clock: &PlainClock, s: u32) -> Result<Vec<u32>, NoMemory>
+        ensures { IfOk result (λ set. set.items ≡ asked_set self.now.sc.now clock.now s) }
+    {
+        let mut set = Vec::new(alloc);
+        let ids = facilities(alloc, self.sc)?;
+        for f in &ids {
+            if !is_asked(clock, *f, s) {
+                continue;
+            }
+            set.push(*f)?;
+        }
+        Ok(set)
+    }
+
+    // Whether the stations on air and this one fit.
+    fn has_room(&self, alloc: Global, clock: &PlainClock, s: u32) -> Result<bool, NoMemory>
+        requires { StationsAscend self.now.sc.now }
+        ensures { IfOk result (λ room. room ≡ fits self.now.book.now (asked_set self.now.sc.now clock.now s)) }
+    {
+        let set = self.asked(alloc, clock, s)?;
+        match fits(alloc, self.book, &set)? {
+            Some(_) => Ok(true),
+            None => Ok(false),
+        }
+    }
+
+    // The stations that decline the opening offer, on air from the start.
+    fn starters(&self, alloc: Global) -> Result<Vec<Aired>, NoMemory>
+        ensures { IfOk result (λ v. v.items ≡ (opening_state self.now.sc.now).on_air) }
+    {
+        let mut on_air = Vec::new(alloc);
+        let ids = facilities(alloc, self.sc)?;
+        for s in &ids {
+            if !self.declines_opening(*s) {
+                continue;
+            }
+            on_air.push(Aired {
+                station: *s,
+                round: 0,
+            })?;
+        }
+        Ok(on_air)
+    }
+
+    // Those of these stations that don't decline the opening offer.
+    fn bidders(&self, alloc: Global, stations: &[u32]) -> Result<Vec<u32>, NoMemory>
+        ensures { IfOk result (λ v. v.items ≡ filter (λ s. not (declines self.now.sc.now s 0)) stations.now) }
+    {
+        let mut bidders = Vec::new(alloc);
+        for s in stations {
+            if self.declines_opening(*s) {
+                continue;
+            }
+            bidders.push(*s)?;
+        }
+        Ok(bidders)
+    }
+
+    // The clock before its first round.
+    fn open(&self, alloc: Global) -> Result<PlainClock, NoMemory>
+        ensures { IfOk result (λ clock. clock ≡ opening_state self.now.sc.now) }
+    {
+        let on_air = self.starters(alloc)?;
+        let ids = facilities(alloc, self.sc)?;
+        let active = self.bidders(alloc, &ids)?;
+        Ok(PlainClock::open(alloc, on_air, active))
+    }
+
+    // The test of this station in this round; one that isn't active isn't asked.
+    fn test(
+        &self,
+        alloc: Global,
+        s: u32,
+        round: usize,
+        clock: &mut PlainClock,
+    ) -> Result<(), NoMemory>
+        requires ascend { StationsAscend self.now.sc.now }
+        requires begun { 1 ≤ round }
+        requires last { round ≤ length self.now.schedule.now }
+        ensures { IfOk result (λ _. clock.new ≡
+            after_test self.now.sc.now self.now.book.now [] clock.old (record { round = round; station = s })) }
+    {
+        if !clock.is_active(s) {
+            return Ok(());
+        }
+        if !self.has_room(alloc, clock, s)? {
+            clock.freeze(s, round, self.offer(s, round - 1))?;
+            return Ok(());
+        }
+        if !self.exits(s, round) {
+            return Ok(());
+        }
+        clock.air(s, round)
+    }
+
+    // The tests of these stations in this round, in their order.
+    fn round(
+        &self,
+        alloc: Global,
+        bidders: &[u32],
+        round: usize,
+        clock: &mut PlainClock,
+    ) -> Result<(), NoMemory>
+        requires ascend { StationsAscend self.now.sc.now }
+        requires begun { 1 ≤ round }
+        requires last { round ≤ length self.now.schedule.now }
+        ensures { IfOk result (λ _. clock.new ≡ after_tests self.now.sc.now self.now.book.now []
+            (map (λ s. record { round = round; station = s }) bidders.now) clock.old) }
+    {
+        for s in bidders {
+            self.test(alloc, *s, round, clock)?;
+        }
+        Ok(())
+    }
+
+    /// The clock after every test, the tests of a round in this order. The only error is want of memory.
+    pub fn run(&self, alloc: Global, order: Order) -> Result<PlainClock, NoMemory>
+        requires { StationsAscend self.now.sc.now }
+        ensures { IfOk result (λ clock. clock ≡ clock_rule self.now.sc.now self.now.book.now order []) }
+    {
+        let bidders = self.bidders(alloc, &turns(alloc, self.sc, order)?)?;
+        let mut clock = self.open(alloc)?;
+        for round in 1..self.schedule.len() + 1 {
+            self.round(alloc, &bidders, round, &mut clock)?;
+        }
+        Ok(clock)
+    }
+}
