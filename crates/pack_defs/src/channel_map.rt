@@ -1,3 +1,5 @@
+//! A channel map: which stations are on air, and where.
+
 ghost use Rattle.std.specs.Prelude.{◌≡◌, ◌<◌, ◌^◌, IfOk, length};
 ghost use Rattle.pack_defs.specs.ChannelMap.{IsAscending, channel_of, overlaid};
 

@@ -1,3 +1,5 @@
+//! The channels of one station.
+
 ghost use Rattle.std.specs.Prelude.{◌≡◌, IfOk};
 
 use crate::items::Items;

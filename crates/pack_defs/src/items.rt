@@ -1,3 +1,5 @@
+//! A list that contracts see as a plain list.
+
 ghost use Rattle.std.specs.Prelude.{◌≡◌};
 
 use std::marker::Model;
