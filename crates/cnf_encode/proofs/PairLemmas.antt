@@ -101,7 +101,7 @@ one-station q x xs (p ∷ ps) above h =
     ∙ ap₂ (λ b c. cond ((b || c) && q p) (p ∷ both) both) (same-turned p.f x) (sym outside))
     (cases_lt x p.f)
 
-all-stations : (q : Pair → Bool) (xs : List ℕ) (ps : List Pair) → is_ascending xs ≡ true → IsNonDecreasingBy (λ p. p.f) ps →
+pub all-stations : (q : Pair → Bool) (xs : List ℕ) (ps : List Pair) → is_ascending xs ≡ true → IsNonDecreasingBy (λ p. p.f) ps →
     flat_map (λ s. filter q (filter (λ p. p.f == s) ps)) xs ≡ filter (λ p. is_in xs p.f && q p) ps
 all-stations q [] ps a h = sym (filter-none (λ p. false) ps (λ p c. refl))
 all-stations q (x ∷ xs) ps a h =

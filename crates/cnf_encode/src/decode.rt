@@ -1,3 +1,5 @@
+//! From a model of the packing formula back to a channel map.
+
 ghost use Rattle.std.specs.Prelude.{◌≡◌, ◌<◌, ◌≤◌, IfOk, IsTrue, length, slice_index};
 ghost use Rattle.clause_db.specs.Clause.{Satisfies};
 ghost use Rattle.pack_defs.specs.Lists.{is_ascending};

@@ -1,3 +1,5 @@
+//! The variables of the packing formula: one for each station of the set and each channel of its domain.
+
 ghost use Rattle.std.specs.Prelude.{◌≡◌, ◌+◌, ◌<◌, ◌≤◌, IfOk, IsTrue, length, slice_index, take};
 ghost use Rattle.pack_defs.specs.Lists.{is_ascending, is_in};
 ghost use Rattle.pack_defs.specs.Book.{domain_of};
@@ -51,7 +53,7 @@ fn with_station(book: &Book, set: &[u32], i: usize, before: u32) -> u32
 }
 
 // How many channels these are: at most 256, as they ascend.
-fn count_of(channels: &[u8]) -> u32
+pub(crate) fn count_of(channels: &[u8]) -> u32
     requires { IsTrue (is_ascending channels.now) }
     ensures count { result ≡ length channels.now }
     ensures few { result ≤ 256 }

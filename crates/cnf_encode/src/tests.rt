@@ -1,6 +1,9 @@
+//! The tests of the packing formula and of the map of a model.
+
 ghost use Rattle.std.specs.Prelude.{◌≡◌, IfOk, []};
 ghost use Rattle.pack_defs.specs.Examples.{three_stations};
 
+use crate::count::clause_count;
 use crate::decode::decode;
 use crate::encode::encode;
 use crate::numbering::var;
@@ -170,5 +173,24 @@ fn station_without_a_channel(rt: HostRuntime) -> Result<(), Fail> {
     assert_eq!(rt; formula.vars(), 3);
     let clauses = [1, 0, 0, 2, 3, 0, -2, -3, 0];
     assert_eq!(rt; numbers_of(alloc, &formula)?.as_slice(), clauses.as_slice());
+    Ok(())
+}
+
+// Sets of those five stations, with one that isn't there, and how many clauses their formulas have.
+const COUNTED: &[(&[u32], u64)] = &[
+    (&[], 0),
+    (&[3], 1),
+    (&[9], 1),
+    (&[2, 4], 8),
+    (&[1, 3, 5], 4),
+    (&[1, 2, 4], 11),
+];
+
+#[test]
+fn clauses_counted_without_making_them(rt: HostRuntime) -> Result<(), Fail> {
+    let book = five_stations(rt.alloc())?;
+    for (set, count) in COUNTED {
+        assert_eq!(rt; clause_count(&book, set), *count);
+    }
     Ok(())
 }
