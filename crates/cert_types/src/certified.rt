@@ -1,3 +1,5 @@
+//! An answer that the check has let through, which the auction takes.
+
 ghost use Rattle.std.specs.Prelude.{◌≡◌};
 ghost use Rattle.cert_types.specs.Certificate.{Certificate};
 ghost use Rattle.cert_types.specs.Valid.{IsValid};

@@ -1,3 +1,5 @@
+//! Whether a pair of two stations with one channel each refutes a set: of the check of a refutation.
+
 ghost use Rattle.std.specs.Prelude.{◌≡◌, IsTrue};
 ghost use Rattle.std.specs.List.{list_any};
 ghost use Rattle.pack_defs.specs.Lists.{is_ascending, is_only};

@@ -1,3 +1,5 @@
+//! The part of a map that a fit says, as a worker makes it of the map that it has found.
+
 ghost use Rattle.std.specs.Prelude.{ℕ, ◌≡◌, IfOk, filter, not, true};
 ghost use Rattle.pack_defs.specs.ChannelMap.{IsAscending, overlaid};
 ghost use Rattle.pack_defs.specs.Lists.{has_entry, has_station};

@@ -1,3 +1,5 @@
+//! The first line of a log at fault, by each of the tests but that it is new: of the check of proofs and receipts of lines.
+
 ghost use Rattle.std.specs.Prelude.{◌≡◌, IfOk, List};
 ghost use Rattle.clause_db.specs.declared.lit.Lit.{Lit};
 ghost use Rattle.cert_types.specs.FirstLine.{does_follow, ends_there, first_line, has_literal, lesser};

@@ -122,3 +122,78 @@ fn agrees_with_a_scan(rt: HostRuntime) -> Result<(), Fail> {
     assert_eq!(rt; seen, [true; 6]);
     Ok(())
 }
+
+// A literal by its number, negative for the opposite.
+fn lit(number: i64) -> Lit {
+    Lit {
+        var: number.unsigned_abs(),
+        positive: number > 0,
+    }
+}
+
+fn lits(alloc: Global, numbers: &[i64]) -> Result<Vec<Lit>, NoMemory> {
+    let mut lits = Vec::new(alloc);
+    for number in numbers {
+        lits.push(lit(*number))?;
+    }
+    Ok(lits)
+}
+
+// The clauses of the variables 1 to 70.
+fn clauses_of(alloc: Global, rows: &[&[i64]]) -> Result<ClauseList, NoMemory> {
+    let mut clauses = ClauseList::new(alloc, 70);
+    for row in rows {
+        clauses.add(&lits(alloc, *row)?)?;
+    }
+    Ok(clauses)
+}
+
+fn lines_of(alloc: Global, rows: &[&[i64]]) -> Result<Vec<Line>, NoMemory> {
+    let mut lines = Vec::new(alloc);
+    for row in rows {
+        lines.push(Line {
+            lits: Items::from_vec(lits(alloc, *row)?),
+            hints: Items::from_vec(Vec::new(alloc)),
+        })?;
+    }
+    Ok(lines)
+}
+
+// The first row whose first line that is not new is another one, or is another one by the scan, by its place from 0.
+fn wrong_row(
+    alloc: Global,
+    rows: &[(&[&[i64]], &[&[i64]], Option<u64>)],
+) -> Result<Option<usize>, NoMemory> {
+    for (i, (clauses, lines, want)) in rows.iter().enumerate() {
+        let clauses = clauses_of(alloc, *clauses)?;
+        let lines = lines_of(alloc, *lines)?;
+        if first_stale(alloc, &clauses, &lines)? != *want
+            || first_by_scan(&clauses, &lines) != *want
+        {
+            return Ok(Some(i));
+        }
+    }
+    Ok(None)
+}
+
+#[test]
+fn what_is_filed_where(rt: HostRuntime) -> Result<(), Fail> {
+    const ROWS: &[(&[&[i64]], &[&[i64]], Option<u64>)] = &[
+        // A clause with a literal that no line has, alone and before one that stands within a line.
+        (&[&[1, 9]], &[&[1, 2], &[2, 3]], None),
+        (&[&[1, 9], &[2, 3]], &[&[1, 2], &[1, 2, 3]], Some(2)),
+        // The variables 1 and 65 set the same bit.
+        (&[&[65, 2, 3]], &[&[1, 2, 3], &[65, 4]], None),
+        (&[&[65, 2, 3]], &[&[1, 2, 3], &[65, 4, 3, 2]], Some(2)),
+        (&[], &[&[65, 2, 3], &[1, 2, 3, 4], &[-65, 2, 3]], None),
+        // The clause's rarest literal stands in no line before the one at fault.
+        (
+            &[&[7, 1, 2]],
+            &[&[1, 2, 3], &[1, 2, 4], &[5, 1, 2, 7]],
+            Some(3),
+        ),
+        (&[&[-7, 1]], &[&[1, 2], &[7, 1], &[1, -7, 3]], Some(3)),
+    ];
+    assert_eq!(rt; wrong_row(rt.alloc(), ROWS)?, None);
+    Ok(())
+}

@@ -1,3 +1,5 @@
+//! The first move of a receipt at fault: of the check of receipts of those that walk.
+
 ghost use Rattle.std.specs.Prelude.{◌≡◌, ◌&&◌, IfOk};
 ghost use Rattle.std.specs.Bool.{OnTrue};
 ghost use Rattle.pack_defs.specs.ChannelMap.{put};

@@ -1,3 +1,5 @@
+//! How a solver learns that its query no longer stands, and what comes of an attempt at one.
+
 ghost use Rattle.std.specs.Prelude.{◌≡◌, ℕ};
 
 use crate::answer::Answer;

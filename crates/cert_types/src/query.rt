@@ -1,3 +1,5 @@
+//! The test of a query, which a caller makes before it asks a solver.
+
 ghost use Rattle.std.specs.Prelude.{◌≡◌, ◌&&◌, IsTrue};
 ghost use Rattle.std.specs.Bool.{OnTrue};
 ghost use Rattle.pack_defs.specs.Book.{domain_of};

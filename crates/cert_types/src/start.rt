@@ -1,3 +1,5 @@
+//! The map that a walk starts from, for the solver that walks and for the check of its moves.
+
 ghost use Rattle.std.specs.Prelude.{◌≡◌, IfOk, unwrap_or};
 ghost use Rattle.pack_defs.specs.Book.{domain_of};
 ghost use Rattle.pack_defs.specs.ChannelMap.{IsAscending, channel_of};

@@ -1,3 +1,5 @@
+//! Whether a list of stations is one of a set: of the check of proofs, and of queries.
+
 ghost use Rattle.std.specs.Prelude.{◌≡◌, IsTrue};
 ghost use Rattle.std.specs.List.{list_all};
 ghost use Rattle.pack_defs.specs.Lists.{is_ascending, is_in};

@@ -1,3 +1,5 @@
+//! A query, as the auction asks it of the workers.
+
 use pack_defs::channel_map::ChannelMap;
 use pack_defs::items::Items;
 

@@ -1,3 +1,5 @@
+//! What the check says of answers of each kind, right ones and wrong ones.
+
 ghost use Rattle.std.specs.Prelude.{IsTrue};
 ghost use Rattle.pack_defs.specs.ChannelMap.{IsAscending};
 ghost use Rattle.pack_defs.specs.Lists.{is_ascending};
