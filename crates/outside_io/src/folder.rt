@@ -1,9 +1,14 @@
-ghost use Rattle.std.specs.Prelude.{◌≡◌, ◌≢◌, ◌≤◌, ℕ, [], List, Option, Bool, true, Some, OnErr, OnOk, length};
+//! What a program asks of the files outside: the trait `Folder`, and why a call of it fails.
+ghost use Rattle.std.specs.Prelude.{◌≡◌, ◌≢◌, ◌<◌, ◌≤◌, ◌+◌, ℕ, [], List, Option, Bool, true, Some, OnErr, OnOk, length};
 ghost use Rattle.outside_io.specs.Files.{StoredFile, bytes_of};
 ghost use Rattle.outside_io.specs.Faults.{HasRisen};
 ghost use Rattle.outside_io.specs.Loads.{Loads, Stores};
+ghost use Rattle.outside_io.specs.Pieces.{Begins, HandsOut, piece_size};
 
 use std::alloc::AllocError;
+
+/// A piece of a file has at most so many bytes.
+pub const PIECE_SIZE: usize = 65_536;
 
 /// Why a file was not loaded.
 #[derive(Clone, Copy, Debug, PartialEq, Eq)]
@@ -43,16 +48,27 @@ impl From<AllocError> for StoreErr {
     }
 }
 
-/// Files by name.
+/// Files by name. One file at a time may be read in pieces: it is begun, and then handed out piece by piece. Loads and stores
+/// leave it as it is.
 pub trait Folder {
     /// The files, where the folder tells them.
     ghost files: { Self → Option (List StoredFile) };
 
-    /// How often the outside failed.
+    /// How often the outside failed. A call that doesn't answer `Failed` leaves it as it is.
     ghost faults: { Self → ℕ };
 
-    /// The outside never fails: a store doesn't, and a load does so only for a name that isn't there.
+    /// The outside never fails: a store and a piece don't, and a load and a beginning do so only for a name that isn't there.
     ghost steady: { Self → Bool };
+
+    /// The bytes of the file that is begun which are not handed out yet, where the folder tells them. Where no file is begun,
+    /// each folder tells that no bytes are left.
+    ghost left: { Self → Option (List ℕ) };
+
+    /// How many bytes were handed out since the last `begin`.
+    ghost come: { Self → ℕ };
+
+    /// How many bytes may be: the limit of the last `begin`.
+    ghost most: { Self → ℕ };
 
     /// Loads a file of at most `limit` bytes into `into`, which is empty after an error.
     fn load(&mut self, name: &str, limit: u64, into: &mut Vec<u8>) -> Result<(), LoadErr>
@@ -62,6 +78,10 @@ pub trait Folder {
         ensures files { files self.new ≡ files self.old }
         ensures counted { faults self.old ≤ faults self.new }
         ensures failed { result ≡ Err LoadErr.Failed → HasRisen (faults self.old) (faults self.new) }
+        ensures uncounted { result ≢ Err LoadErr.Failed → faults self.new ≡ faults self.old }
+        ensures left { left self.new ≡ left self.old }
+        ensures come { come self.new ≡ come self.old }
+        ensures most { most self.new ≡ most self.old }
         ensures steady { steady self.new ≡ steady self.old }
         ensures surely { (told : List StoredFile) (bytes : List ℕ) →
             steady self.old ≡ true → files self.old ≡ Some told → bytes_of told name.now ≡ Some bytes →
@@ -73,6 +93,47 @@ pub trait Folder {
         ensures told { Stores (files self.old) (files self.new) name.now bytes.now result }
         ensures counted { faults self.old ≤ faults self.new }
         ensures failed { result ≡ Err StoreErr.Failed → HasRisen (faults self.old) (faults self.new) }
+        ensures uncounted { result ≢ Err StoreErr.Failed → faults self.new ≡ faults self.old }
+        ensures left { left self.new ≡ left self.old }
+        ensures come { come self.new ≡ come self.old }
+        ensures most { most self.new ≡ most self.old }
         ensures steady { steady self.new ≡ steady self.old }
         ensures surely { steady self.old ≡ true → result ≢ Err StoreErr.Failed };
+
+    /// Begins a file of at most `limit` bytes, in place of the one that was begun. After an error no file is begun: no bytes
+    /// are left. Where the folder doesn't tell its files, it doesn't tell this one either, and that it is too long shows only
+    /// at a piece.
+    fn begin(&mut self, name: &str, limit: u64) -> Result<(), LoadErr>
+        ensures told { Begins (files self.old) name.now limit result (left self.new) }
+        ensures ended { OnErr result (left self.new ≡ Some []) }
+        ensures come { come self.new ≡ 0 }
+        ensures most { most self.new ≡ limit }
+        ensures files { files self.new ≡ files self.old }
+        ensures counted { faults self.old ≤ faults self.new }
+        ensures failed { result ≡ Err LoadErr.Failed → HasRisen (faults self.old) (faults self.new) }
+        ensures uncounted { result ≢ Err LoadErr.Failed → faults self.new ≡ faults self.old }
+        ensures steady { steady self.new ≡ steady self.old }
+        ensures surely { (told : List StoredFile) (bytes : List ℕ) →
+            steady self.old ≡ true → files self.old ≡ Some told → bytes_of told name.now ≡ Some bytes →
+            result ≢ Err LoadErr.Failed };
+
+    /// Puts the next bytes of the file that is begun into `into`, in place of what it held: no bytes at the end of the file,
+    /// and where no file is begun. After an error there are no bytes either, and no file is begun: no bytes are left. A file
+    /// that the folder doesn't tell is too long where its bytes would pass the limit of `begin`. That shows only where less
+    /// than a piece may still come.
+    fn piece(&mut self, into: &mut Vec<u8>) -> Result<(), LoadErr>
+        ensures told { HandsOut (left self.old) (left self.new) result into.new.items }
+        ensures size { length into.new.items ≤ piece_size }
+        ensures empty { OnErr result (into.new.items ≡ []) }
+        ensures ended { OnErr result (left self.new ≡ Some []) }
+        ensures come { come self.new ≡ come self.old + length into.new.items }
+        ensures most { most self.new ≡ most self.old }
+        ensures within { come self.new ≤ most self.new }
+        ensures long { result ≡ Err LoadErr.TooLong → most self.old < come self.old + piece_size }
+        ensures files { files self.new ≡ files self.old }
+        ensures counted { faults self.old ≤ faults self.new }
+        ensures failed { result ≡ Err LoadErr.Failed → HasRisen (faults self.old) (faults self.new) }
+        ensures uncounted { result ≢ Err LoadErr.Failed → faults self.new ≡ faults self.old }
+        ensures steady { steady self.new ≡ steady self.old }
+        ensures surely { steady self.old ≡ true → result ≢ Err LoadErr.Failed };
 }

@@ -3,11 +3,13 @@
 //! `MemoryFolder` and `MemorySink` stand in memory, for tests. They tell what they hold, and calls of theirs fail by number.
 //!
 //! `RealFolder` and `RealSink` stand over the system, and tell nothing: no contract says what a real file or the standard
-//! output holds. It is proved that a load keeps to its limit, that a call which answers `Failed` has counted a fault, and that
-//! the loops take all bytes of a reader, and give all bytes to a writer, that tells its bytes. That the system's files and
-//! its output are such a reader and such a writer is trusted.
+//! output holds. It is proved that a load, and all pieces of a file together, keep to their limit, that a call which answers
+//! `Failed` has counted a fault and no other call has, that a piece with bytes doesn't end its file, and that the loops take
+//! all bytes of a reader, and give all bytes to a writer, that tells its bytes, and a piece the next ones. That the system's
+//! files and its output are such a reader and such a writer is trusted.
 #![tactic(auto)]
 
+mod begun_file;
 mod fault_plan;
 pub mod folder;
 pub mod memory_folder;

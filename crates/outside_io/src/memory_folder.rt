@@ -1,6 +1,8 @@
+//! A folder in memory, for the tests of this crate and of those above it.
 ghost use Rattle.std.specs.Prelude.{◌≡◌, ◌<◌, ◌↔◌, [], length, option_map, None, IsTrue, IfOk, OnOk, OnErr, IfSome, IfNone};
 ghost use Rattle.outside_io.specs.Files.{StoredFile, bytes_of, IsPlace, with_file};
 
+use crate::begun_file::BegunFile;
 use crate::fault_plan::FaultPlan;
 use crate::folder::{Folder, LoadErr, StoreErr};
 use std::alloc::{AllocError as NoMemory, Global};
@@ -36,10 +38,12 @@ impl MemoryFile {
     }
 }
 
-/// A folder in memory, for tests. It tells its files.
+/// A folder in memory, for tests. It tells its files. What a file held when it was begun is handed out, whatever is stored
+/// after that.
 #[derive(Debug, Drop)]
 pub struct MemoryFolder {
     files: Vec<MemoryFile>,
+    begun: BegunFile,
     plan: FaultPlan,
 }
 
@@ -49,18 +53,22 @@ impl Model for MemoryFolder {
 
     ghost Value = { FolderView };
 
-    ghost view = { λ a. record { files = a.files.items; faults = a.plan.faults; steady = length a.plan.failing.items == 0 } };
+    ghost view = { λ a. record { files = a.files.items; begun = a.begun; faults = a.plan.faults; steady = length a.plan.failing.items == 0 } };
 }
 
 impl MemoryFolder {
-    /// A folder of these files. Calls of `load` and `store` are counted together from 1, and those whose numbers are in
-    /// `failing` fail. Of several files of one name only the first is seen.
+    /// A folder of these files, none of which is begun. Calls of `load`, `store`, `begin` and `piece` are counted together from
+    /// 1, and those whose numbers are in `failing` fail. Of several files of one name only the first is seen.
     pub fn new(files: Vec<MemoryFile>, failing: Vec<u64>) -> MemoryFolder
         ensures files { result.files ≡ files.items }
+        ensures left { result.begun.left ≡ [] }
+        ensures come { result.begun.come ≡ 0 }
+        ensures most { result.begun.most ≡ 0 }
         ensures faults { result.faults ≡ 0 }
         ensures steady { IsTrue result.steady ↔ (failing.items ≡ []) }
     {
         MemoryFolder {
+            begun: BegunFile::none(*files.allocator()),
             files,
             plan: FaultPlan::new(failing),
         }
@@ -70,8 +78,7 @@ impl MemoryFolder {
     pub fn bytes(&self, name: &str) -> Option<&[u8]>
         ensures { option_map (λ bytes. bytes.now) result ≡ bytes_of self.now.files name.now }
     {
-        let at = place(&self.files, name)?;
-        Some(&self.files[at].bytes)
+        bytes_under(&self.files, name)
     }
 }
 
@@ -86,6 +93,15 @@ fn place(files: &[MemoryFile], name: &str) -> Option<usize>
         }
     }
     None
+}
+
+// The bytes of the file of this name.
+fn bytes_under<'a>(files: &'a [MemoryFile], name: &str) -> Option<&'a [u8]>
+    ensures { option_map (λ bytes. bytes.now) result ≡ bytes_of files.now name.now }
+{
+    let at = place(files, name)?;
+    let file = &files[at];
+    Some(&file.bytes)
 }
 
 // Puts a copy of these bytes under the name.
@@ -110,6 +126,12 @@ impl Folder for MemoryFolder {
 
     ghost steady = { λ s. s.steady };
 
+    ghost left = { λ s. Some s.begun.left };
+
+    ghost come = { λ s. s.begun.come };
+
+    ghost most = { λ s. s.begun.most };
+
     fn load(&mut self, name: &str, limit: u64, into: &mut Vec<u8>) -> Result<(), LoadErr> {
         into.clear();
         if self.plan.next_fails() {
@@ -131,6 +153,32 @@ impl Folder for MemoryFolder {
             return Err(StoreErr::Failed);
         }
         put(&mut self.files, name, bytes)?;
+        Ok(())
+    }
+
+    fn begin(&mut self, name: &str, limit: u64) -> Result<(), LoadErr> {
+        self.begun.limit_to(limit);
+        if self.plan.next_fails() {
+            return Err(LoadErr::Failed);
+        }
+        let Some(bytes) = bytes_under(&self.files, name) else {
+            self.plan.count_fault();
+            return Err(LoadErr::Failed);
+        };
+        if bytes.len() as u64 > limit {
+            return Err(LoadErr::TooLong);
+        }
+        self.begun.fill(bytes)?;
+        Ok(())
+    }
+
+    fn piece(&mut self, into: &mut Vec<u8>) -> Result<(), LoadErr> {
+        into.clear();
+        if self.plan.next_fails() {
+            self.begun.end();
+            return Err(LoadErr::Failed);
+        }
+        self.begun.hand_out(into)?;
         Ok(())
     }
 }

@@ -1,38 +1,53 @@
 //! The outside of the system: its files, and its standard output. They tell nothing of what is there.
-ghost use Rattle.std.specs.Prelude.{◌≡◌, ◌<◌, ◌≤◌, [], length, IsOk, OnOk, IfSome};
-ghost use Rattle.std.specs.Io.KnownBytes.{Appends};
+ghost use Rattle.std.specs.Prelude.{◌≡◌, ◌<◌, ◌≤◌, [], length, false, IsOk, OnOk, OnErr, IfSome};
+ghost use Rattle.std.specs.Io.KnownBytes.{Appends, Consumes};
+ghost use Rattle.outside_io.specs.Pieces.{piece_size};
 
-use crate::folder::{Folder, LoadErr, StoreErr};
+use crate::folder::{Folder, LoadErr, PIECE_SIZE, StoreErr};
 use crate::sink::{Failed, Sink};
 use std::io::{Read, Write};
 use std::marker::Model;
 use std::rt::Files;
 use std::{fs, io};
 
-// So many bytes are asked of a file at a time.
-const PIECE: usize = 1 << 16;
-
-/// The files of the system. A path is a name. Contracts see it as its count of faults.
+/// The files of the system. A path is a name. Contracts see its count of faults, whether a file is begun, and how many of its
+/// bytes were handed out and may be.
 #[derive(Drop)]
-pub struct RealFolder<'r, R> {
+pub struct RealFolder<'r, R: Files> {
     files: &'r R,
     faults: u64,
+    // The file that is begun, until its end was met.
+    begun: Option<R::File>,
+    come: u64,
+    most: u64,
 }
 
-impl<'r, R> Model for RealFolder<'r, R> {
-    ghost use Rattle.std.specs.Prelude.{ℕ};
+impl<'r, R: Files> Model for RealFolder<'r, R> {
+    ghost use Rattle.std.specs.Prelude.{◌≤◌, is_some};
+    ghost use Rattle.outside_io.specs.Real.{RealView};
 
-    ghost Value = { ℕ };
+    ghost Value = { RealView };
 
-    ghost view = { λ a. a.faults };
+    ghost view = { λ a. record { faults = a.faults; begun = is_some a.begun; come = a.come; most = a.most } };
+
+    ghost invariant = { λ a. a.come ≤ a.most };
 }
 
 impl<'r, R: Files> RealFolder<'r, R> {
-    /// A folder with no fault so far.
+    /// A folder with no fault so far. No file is begun.
     pub fn new(files: &'r R) -> RealFolder<'r, R>
-        ensures { result ≡ 0 }
+        ensures faults { result.faults ≡ 0 }
+        ensures begun { result.begun ≡ false }
+        ensures come { result.come ≡ 0 }
+        ensures most { result.most ≡ 0 }
     {
-        RealFolder { files, faults: 0 }
+        RealFolder {
+            files,
+            faults: 0,
+            begun: None,
+            come: 0,
+            most: 0,
+        }
     }
 }
 
@@ -68,10 +83,10 @@ fn read_all<F: Read>(file: &mut F, limit: u64, into: &mut Vec<u8>) -> Result<(),
     ensures whole { OnOk result (IfSome (F.remaining file.old) (λ bytes. into.new.items ≡ bytes)) }
     ensures long { result ≡ Err LoadErr.TooLong → IfSome (F.remaining file.old) (λ bytes. limit < length bytes) }
 {
-    let mut piece = [0; PIECE];
+    let mut piece = [0; PIECE_SIZE];
     for _ in 0..u64::MAX {
         let left = limit - into.len() as u64;
-        let wanted = left.saturating_add(1).min(PIECE as u64) as usize;
+        let wanted = left.saturating_add(1).min(PIECE_SIZE as u64) as usize;
         match file.read(&mut piece[..wanted]) {
             Err(_) => return Err(LoadErr::Failed),
             Ok(0) => return Ok(()),
@@ -80,6 +95,28 @@ fn read_all<F: Read>(file: &mut F, limit: u64, into: &mut Vec<u8>) -> Result<(),
         }
     }
     Err(LoadErr::Failed)
+}
+
+// Reads the next piece of a file of which at most `room` bytes may come.
+fn read_piece<F: Read>(file: &mut F, room: u64, into: &mut Vec<u8>) -> Result<(), LoadErr>
+    requires { into.old.items ≡ [] }
+    ensures size { length into.new.items ≤ piece_size }
+    ensures within { length into.new.items ≤ room }
+    ensures near { result ≡ Err LoadErr.TooLong → room < piece_size }
+    ensures empty { OnErr result (into.new.items ≡ []) }
+    // Where the reader tells what it has left, its first bytes are read, and none only at its end.
+    ensures read { OnOk result (Consumes (F.remaining file.old) (F.remaining file.new) into.new.items) }
+    ensures end { OnOk result (into.new.items ≡ [] → IfSome (F.remaining file.old) (λ bytes. bytes ≡ [])) }
+    ensures long { result ≡ Err LoadErr.TooLong → IfSome (F.remaining file.old) (λ bytes. room < length bytes) }
+{
+    let mut piece = [0; PIECE_SIZE];
+    let wanted = room.saturating_add(1).min(PIECE_SIZE as u64) as usize;
+    match file.read(&mut piece[..wanted]) {
+        Err(_) => return Err(LoadErr::Failed),
+        Ok(count) if count as u64 > room => return Err(LoadErr::TooLong),
+        Ok(count) => into.extend_from_slice(&piece[..count])?,
+    }
+    Ok(())
 }
 
 // A writer that takes nothing fails.
@@ -99,13 +136,19 @@ fn write_all<W: Write>(to: &mut W, bytes: &[u8]) -> Result<(), Failed>
 }
 
 impl<'r, R: Files> Folder for RealFolder<'r, R> {
-    ghost use Rattle.std.specs.Prelude.{None, false};
+    ghost use Rattle.std.specs.Prelude.{None, Some, false, if◌then◌else◌};
 
     ghost files = { λ _. None };
 
-    ghost faults = { λ s. s };
+    ghost faults = { λ s. s.faults };
 
     ghost steady = { λ _. false };
+
+    ghost left = { λ s. if s.begun then None else Some [] };
+
+    ghost come = { λ s. s.come };
+
+    ghost most = { λ s. s.most };
 
     fn load(&mut self, name: &str, limit: u64, into: &mut Vec<u8>) -> Result<(), LoadErr> {
         into.clear();
@@ -132,6 +175,34 @@ impl<'r, R: Files> Folder for RealFolder<'r, R> {
             return Err(StoreErr::Failed);
         }
         Ok(())
+    }
+
+    fn begin(&mut self, name: &str, limit: u64) -> Result<(), LoadErr> {
+        self.begun = None;
+        self.come = 0;
+        self.most = limit;
+        let Ok(file) = fs::open(self.files, name) else {
+            self.faults = self.faults.saturating_add(1);
+            return Err(LoadErr::Failed);
+        };
+        self.begun = Some(file);
+        Ok(())
+    }
+
+    fn piece(&mut self, into: &mut Vec<u8>) -> Result<(), LoadErr> {
+        into.clear();
+        let Some(file) = &mut self.begun else {
+            return Ok(());
+        };
+        let read = read_piece(file, self.most - self.come, into);
+        self.come += into.len() as u64;
+        if into.is_empty() {
+            self.begun = None;
+        }
+        if read == Err(LoadErr::Failed) {
+            self.faults = self.faults.saturating_add(1);
+        }
+        read
     }
 }
 

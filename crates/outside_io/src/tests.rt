@@ -1,7 +1,9 @@
-ghost use Rattle.std.specs.Prelude.{◌≡◌, ◌≤◌, OnOk, vec_len};
+//! Tests of both folders and both sinks, each through its trait.
+ghost use Rattle.std.specs.Prelude.{◌≡◌, ◌≤◌, IfOk, OnOk, length, vec_len};
 ghost use Rattle.outside_io.specs.Faults.{HasRisen};
+ghost use Rattle.outside_io.specs.Pieces.{HandedAll};
 
-use crate::folder::{Folder, LoadErr, StoreErr};
+use crate::folder::{Folder, LoadErr, PIECE_SIZE, StoreErr};
 use crate::memory_folder::{MemoryFile, MemoryFolder};
 use crate::memory_sink::MemorySink;
 use crate::real::{RealFolder, RealSink};
@@ -77,30 +79,186 @@ fn a_store_keeps_the_other_files(rt: HostRuntime) -> Result<(), Fail> {
     Ok(())
 }
 
-#[test]
-fn the_second_load_fails(rt: HostRuntime) -> Result<(), Fail> {
-    let mut folder = folder_of_two(rt.alloc(), &[2])?;
-    let mut first = Vec::new(rt.alloc());
-    let mut second = Vec::from_slice(rt.alloc(), b"old")?;
-    assert_eq!(rt;
-        load_both(&mut folder, &mut first, &mut second),
-        Err(LoadErr::Failed)
-    );
-    assert_eq!(rt; first.as_slice(), b"abc".as_slice());
-    assert!(rt; second.is_empty());
-    Ok(())
+// What each call answers of a folder of two files, of which these calls are to fail. The calls, a letter each: `l` loads the
+// first file and `s` stores it anew; `b` begins it, `t` begins it with too low a limit, `e` begins the empty file and `a` one
+// that isn't there; `p` is a piece. The answers: how many bytes came, `W` for a whole piece and `r` for any other number, `-`
+// where none are asked, `F` for a failure, `T` for too long, and `?` for bytes left after an error.
+fn answers(alloc: Global, failing: &[u64], calls: &str) -> Result<String, NoMemory> {
+    let mut folder = folder_of_two(alloc, failing)?;
+    let mut into = Vec::new(alloc);
+    let mut told = String::new(alloc);
+    for call in calls.bytes() {
+        told.push(answer(&mut folder, call, &mut into))?;
+    }
+    Ok(told)
+}
+
+fn answer<F: Folder>(folder: &mut F, call: u8, into: &mut Vec<u8>) -> char {
+    match call {
+        b'l' => came(folder.load("domains", 3, into), into),
+        b'p' => came(folder.piece(into), into),
+        b'b' => done(folder.begin("domains", 3)),
+        b't' => done(folder.begin("domains", 2)),
+        b'e' => done(folder.begin("rows", 0)),
+        b'a' => done(folder.begin("absent", 3)),
+        _ => stored(folder.store("domains", b"four!")),
+    }
+}
+
+fn came(asked: Result<(), LoadErr>, into: &[u8]) -> char {
+    if asked.is_err() && !into.is_empty() {
+        return '?';
+    }
+    if asked.is_err() {
+        return done(asked);
+    }
+    match into.len() {
+        0 => '0',
+        3 => '3',
+        PIECE_SIZE => 'W',
+        _ => 'r',
+    }
+}
+
+fn done(asked: Result<(), LoadErr>) -> char {
+    match asked {
+        Ok(()) => '-',
+        Err(LoadErr::Failed) => 'F',
+        Err(LoadErr::TooLong) => 'T',
+        Err(LoadErr::NoMemory) => '?',
+    }
+}
+
+fn stored(asked: Result<(), StoreErr>) -> char {
+    match asked {
+        Ok(()) => '-',
+        Err(StoreErr::Failed) => 'F',
+        Err(StoreErr::NoMemory) => '?',
+    }
 }
 
 #[test]
-fn loads_and_stores_are_counted_together(rt: HostRuntime) -> Result<(), Fail> {
-    let mut folder = folder_of_two(rt.alloc(), &[4, 2])?;
-    let mut into = Vec::new(rt.alloc());
-    assert_eq!(rt; folder.load("domains", 9, &mut into), Ok(()));
-    assert_eq!(rt; folder.store("domains", b"new"), Err(StoreErr::Failed));
-    assert!(rt; is_held(&folder, "domains", b"abc"));
-    assert_eq!(rt; folder.store("domains", b"new"), Ok(()));
-    assert_eq!(rt; folder.load("domains", 9, &mut into), Err(LoadErr::Failed));
-    assert!(rt; is_held(&folder, "domains", b"new"));
+fn all_calls_of_a_folder_are_counted_together(rt: HostRuntime) -> Result<(), Fail> {
+    const ROWS: &[(&[u64], &str, &str)] = &[
+        (&[], "lbppsl", "3-30-T"),
+        (&[1], "lbpps", "F-30-"),
+        (&[2], "lbpps", "3F00-"),
+        (&[3], "lbpps", "3-F0-"),
+        (&[4], "lbpps", "3-3F-"),
+        (&[5], "lbpps", "3-30F"),
+        // A store that fails leaves the file as it was.
+        (&[4, 2], "lslsl", "3F3F3"),
+        (&[2], "ll", "3F"),
+        // No file is begun.
+        (&[], "pp", "00"),
+        (&[1], "pp", "F0"),
+        (&[], "ep", "-0"),
+        (&[], "tp", "T0"),
+        (&[], "ap", "F0"),
+        (&[], "btp", "-T0"),
+        (&[], "bap", "-F0"),
+        // A file that is begun anew, beside a load, and before it is stored.
+        (&[], "bpbp", "-3-3"),
+        (&[], "ebpp", "--30"),
+        (&[], "blpp", "-330"),
+        (&[], "bspbap", "--3TF0"),
+    ];
+    for (failing, calls, want) in ROWS {
+        assert_eq!(rt;
+            answers(rt.alloc(), failing, calls)?.as_str(),
+            *want,
+            "{calls}"
+        );
+    }
+    Ok(())
+}
+
+// All bytes of a file, read in pieces.
+fn whole<F: Folder>(
+    alloc: Global,
+    folder: &mut F,
+    name: &str,
+    limit: u64,
+) -> Result<Vec<u8>, LoadErr>
+    ensures told { IfOk result (λ bytes. HandedAll (F.files folder.old) name.now bytes.items) }
+    ensures within { IfOk result (λ bytes. length bytes.items ≤ limit) }
+    ensures failed { result ≡ Err LoadErr.Failed → HasRisen (F.faults folder.old) (F.faults folder.new) }
+{
+    folder.begin(name, limit)?;
+    let mut bytes = Vec::new(alloc);
+    let mut piece = Vec::new(alloc);
+    for _ in 0..u64::MAX {
+        folder.piece(&mut piece)?;
+        if piece.is_empty() {
+            return Ok(bytes);
+        }
+        bytes.extend_from_slice(&piece)?;
+    }
+    Err(LoadErr::TooLong)
+}
+
+// Whether a file comes in pieces of these sizes, and then ends.
+fn comes_in<F: Folder>(
+    alloc: Global,
+    folder: &mut F,
+    name: &str,
+    sizes: &[usize],
+) -> Result<bool, LoadErr> {
+    let mut piece = Vec::new(alloc);
+    folder.begin(name, 200_000)?;
+    for size in sizes {
+        folder.piece(&mut piece)?;
+        if piece.len() != *size {
+            return Ok(false);
+        }
+    }
+    folder.piece(&mut piece)?;
+    Ok(piece.is_empty())
+}
+
+// So many bytes, no two parts of which are alike for long.
+fn counted(alloc: Global, length: usize) -> Result<Vec<u8>, NoMemory> {
+    let mut bytes = Vec::new(alloc);
+    for i in 0..length {
+        bytes.push((i % 251) as u8)?;
+    }
+    Ok(bytes)
+}
+
+// Whether a file of so many bytes comes in pieces of these sizes, and whole.
+fn comes_whole(alloc: Global, length: usize, sizes: &[usize]) -> Result<bool, NoMemory> {
+    let bytes = counted(alloc, length)?;
+    let mut files = Vec::new(alloc);
+    files.push(MemoryFile::new(alloc, "counted", &bytes)?)?;
+    let mut folder = MemoryFolder::new(files, Vec::new(alloc));
+    let sized = comes_in(alloc, &mut folder, "counted", sizes) == Ok(true);
+    Ok(sized && is_whole(alloc, &mut folder, "counted", &bytes))
+}
+
+// Whether all pieces of a file together are these bytes.
+fn is_whole<F: Folder>(alloc: Global, folder: &mut F, name: &str, bytes: &[u8]) -> bool {
+    match whole(alloc, folder, name, bytes.len() as u64) {
+        Ok(all) => all.as_slice() == bytes,
+        Err(_) => false,
+    }
+}
+
+#[test]
+fn a_file_comes_in_pieces_of_one_size(rt: HostRuntime) -> Result<(), Fail> {
+    const ROWS: &[(usize, &[usize])] = &[
+        (0, &[]),
+        (1, &[1]),
+        (2, &[2]),
+        (45, &[45]),
+        (65_535, &[65_535]),
+        (65_536, &[65_536]),
+        (65_537, &[65_536, 1]),
+        (131_072, &[65_536, 65_536]),
+        (131_073, &[65_536, 65_536, 1]),
+    ];
+    for (length, sizes) in ROWS {
+        assert!(rt; comes_whole(rt.alloc(), *length, sizes)?, "{length}");
+    }
     Ok(())
 }
 
@@ -137,7 +295,7 @@ fn the_second_write_fails(rt: HostRuntime) -> Result<(), Fail> {
 #[test]
 fn the_system_gives_back_what_is_stored(rt: HostRuntime) -> Result<(), Fail> {
     // More than one piece.
-    let bytes = vec![in rt.alloc(); 7; 70_000]?;
+    let bytes = counted(rt.alloc(), 70_000)?;
     let mut into = Vec::new(rt.alloc());
     let mut folder = RealFolder::new(&rt);
     assert_eq!(rt; folder.store("stored", &bytes), Ok(()));
@@ -157,6 +315,49 @@ fn the_system_gives_back_what_is_stored(rt: HostRuntime) -> Result<(), Fail> {
     }
     assert_eq!(rt; folder.store(".", b"a"), Err(StoreErr::Failed));
     fs::remove_file(&rt, "stored")?;
+    Ok(())
+}
+
+// What the beginning of a file answers, and then three pieces, in the same letters.
+fn begun_and_read<F: Folder>(
+    alloc: Global,
+    folder: &mut F,
+    name: &str,
+    limit: u64,
+) -> Result<String, NoMemory> {
+    let mut into = Vec::new(alloc);
+    let mut told = String::new(alloc);
+    told.push(done(folder.begin(name, limit)))?;
+    for _ in 0..3 {
+        told.push(answer(folder, b'p', &mut into))?;
+    }
+    Ok(told)
+}
+
+#[test]
+fn the_system_gives_a_file_in_pieces(rt: HostRuntime) -> Result<(), Fail> {
+    let bytes = counted(rt.alloc(), 70_000)?;
+    let mut folder = RealFolder::new(&rt);
+    assert_eq!(rt; folder.store("pieces", &bytes), Ok(()));
+    assert!(rt; is_whole(rt.alloc(), &mut folder, "pieces", &bytes));
+    assert_eq!(rt;
+        comes_in(rt.alloc(), &mut folder, "pieces", &[65_536, 4_464]),
+        Ok(true)
+    );
+    const ROWS: &[(&str, u64, &str)] = &[
+        ("pieces", 70_000, "-Wr0"),
+        ("pieces", 69_999, "-WT0"),
+        ("pieces", 65_536, "-WT0"),
+        ("pieces", 65_535, "-T00"),
+        ("pieces", 0, "-T00"),
+        ("absent", 9, "F000"),
+        (".", 9, "-F00"),
+    ];
+    for (name, limit, want) in ROWS {
+        let told = begun_and_read(rt.alloc(), &mut folder, name, *limit)?;
+        assert_eq!(rt; told.as_str(), *want, "{name} {limit}");
+    }
+    fs::remove_file(&rt, "pieces")?;
     Ok(())
 }
 
