@@ -126,7 +126,7 @@ put-in-order ds last d one order e = go (is_some (channels_of ds d.station)) (na
         let is : with_domain d ds ≡ last = cc in
         subst AreInOrder is (record { stations = with-ascends d ds order.stations s; channels = with-channels d ds one order.channels })
 
-add-in-order : (ds last : List Domain) (r : List (List ℕ)) → AreInOrder ds → add_domain_row ds r ≡ Ok last → AreInOrder last
+pub add-in-order : (ds last : List Domain) (r : List (List ℕ)) → AreInOrder ds → add_domain_row ds r ≡ Ok last → AreInOrder last
 add-in-order ds last r order e = go (domain_row r) (row-ascends r) e
   where
     go : (o : Result Domain RowWhy) → ((d : Domain) → o ≡ Ok d → is_ascending d.channels ≡ true) → (o >>= put_domain ds) ≡ Ok last → AreInOrder last

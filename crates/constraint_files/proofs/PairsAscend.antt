@@ -69,7 +69,7 @@ few-ascend told last up e = go (nat_lt 4000000 (length told.list)) e
         let is : told ≡ last = cc in
         rw (← is) up
 
-row-ascends : (domains : List Domain) (told last : PairsView) (r : List (List ℕ)) → pairs_ascend told.list ≡ true → add_row domains told r ≡ Ok last → pairs_ascend last.list ≡ true
+pub row-ascends : (domains : List Domain) (told last : PairsView) (r : List (List ℕ)) → pairs_ascend told.list ≡ true → add_row domains told r ≡ Ok last → pairs_ascend last.list ≡ true
 row-ascends domains told last r up e = go (interference_row r) e
   where
     go : (o : Result Row RowWhy) → (o >>= (λ row. if_few (fold (with_other domains row) told row.others))) ≡ Ok last → pairs_ascend last.list ≡ true

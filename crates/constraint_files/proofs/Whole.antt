@@ -24,7 +24,7 @@ reads-le cfg s fields field (c ∷ rest) p e = elim (cases_Bool (is_end (step cf
 ]
 
 -- a read of some bytes leaves fewer
-reads-less : (cfg : Config) (s : State) (c : ℕ) (rest : List ℕ) (p : Read) → next_record cfg s [] [] (c ∷ rest) ≡ Some p → length p.2 ≤ length rest
+pub reads-less : (cfg : Config) (s : State) (c : ℕ) (rest : List ℕ) (p : Read) → next_record cfg s [] [] (c ∷ rest) ≡ Some p → length p.2 ≤ length rest
 unfolding next_record
 reads-less cfg s c rest p e = elim (cases_Bool (is_end (step cfg s c).1)) [
   | inl t ↦ let q = some_is _ _ (rw t at e) in rw (← q) (omega arith)
@@ -32,7 +32,7 @@ reads-less cfg s c rest p e = elim (cases_Bool (is_end (step cfg s c).1)) [
 ]
 
 -- a read at the end leaves the start of a record
-reads-end : (cfg : Config) (s : State) (p : Read) → next_record cfg s [] [] [] ≡ Some p → (p.1 ≡ st.StartRecord) × (p.2 ≡ [])
+pub reads-end : (cfg : Config) (s : State) (p : Read) → next_record cfg s [] [] [] ≡ Some p → (p.1 ≡ st.StartRecord) × (p.2 ≡ [])
 unfolding next_record
 reads-end cfg s p e = elim (cases_Bool (ends_at_end s)) [
   | inl t ↦ let q = some_is _ _ (rw t at e) in rw (← q) (refl, refl)

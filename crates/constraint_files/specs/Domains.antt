@@ -6,6 +6,7 @@ use Rattle.std.specs.Str.{bytes_eq}
 use Rattle.pack_defs.specs.Lists.{is_in}
 use Rattle.pack_defs.specs.declared.domain.Domain.{Domain}
 use Rattle.constraint_files.specs.Numbers.{number, numbers, is_channel}
+use Rattle.constraint_files.specs.Pieces.{Fed, fed_on}
 use Rattle.constraint_files.specs.Records.{lines_of, after_lines}
 use Rattle.constraint_files.specs.Steps.{◌>>=◌}
 use Rattle.constraint_files.specs.declared.error.ReadErr.{ReadErr}
@@ -63,3 +64,8 @@ add_domain_row domains fields = do
 -- the domains of a file, or its first refusal
 unfoldable pub domains_of : List ℕ → Result (List Domain) ReadErr
 domains_of bytes = after_lines add_domain_row [] 1 (lines_of bytes)
+
+-- What a reader of domains has that is fed these bytes, in whatever pieces, or the first refusal in a line that is whole by
+-- then.
+unfoldable pub domains_fed : List ℕ → Result (Fed (List Domain)) ReadErr
+domains_fed bytes = fed_on add_domain_row (record { made = []; begun = []; line = 1 }) bytes

@@ -4,3 +4,5 @@ pub mod Numbers
 pub mod Domains
 pub mod Rows
 pub mod Reads
+pub mod Pieces
+pub mod Runs

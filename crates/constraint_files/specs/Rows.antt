@@ -1,8 +1,9 @@
 -- What a rows file says: the pairs that interfere.
-use Rattle.std.specs.Prelude.{ℕ, ◌+◌, ◌==◌, ◌&&◌, nat_lt, if◌then◌else◌, List, [], ◌∷◌, fold, length, Option, Some, None, Result, Ok, Err, codes}
+use Rattle.std.specs.Prelude.{ℕ, ◌+◌, ◌==◌, ◌&&◌, nat_lt, if◌then◌else◌, IsTrue, List, [], ◌∷◌, fold, length, Option, Some, None, Result, Ok, Err, codes}
+use Rattle.std.specs.List.{list_all}
 use Rattle.std.specs.Option.{ok_or}
 use Rattle.std.specs.Str.{bytes_eq}
-use Rattle.pack_defs.specs.Book.{comes_before}
+use Rattle.pack_defs.specs.Book.{comes_before, is_of_two, pairs_ascend}
 use Rattle.pack_defs.specs.Lists.{is_in}
 use Rattle.pack_defs.specs.declared.domain.Domain.{Domain}
 use Rattle.pack_defs.specs.declared.pair.Pair.{Pair}
@@ -13,6 +14,7 @@ use Rattle.constraint_files.specs.declared.interference_row.Offset.{Offset}
 use Rattle.constraint_files.specs.declared.interference_row.Row.{Row}
 use Rattle.constraint_files.specs.Domains.{channels_of}
 use Rattle.constraint_files.specs.Numbers.{number, numbers, is_channel}
+use Rattle.constraint_files.specs.Pieces.{Fed, fed_on}
 use Rattle.constraint_files.specs.Records.{lines_of, after_lines}
 use Rattle.constraint_files.specs.Steps.{◌>>=◌}
 
@@ -96,3 +98,25 @@ add_row domains told fields = do
 -- the pairs of a file and its counts, over these domains, or its first refusal
 unfoldable pub pairs_of : List ℕ → List Domain → Result PairsView ReadErr
 pairs_of bytes domains = after_lines (add_row domains) (record { list = []; self_pairs = 0; strangers = 0 }) 1 (lines_of bytes)
+
+-- what the rows so far say, and the domains that they are read over
+pub record RowsView : Type 0 where
+  pub domains : List Domain
+  pub told : PairsView
+
+-- the same with what a record says
+abbrev pub add_row_over : RowsView → List (List ℕ) → Result RowsView RowWhy
+add_row_over rows fields = do
+  told ← add_row rows.domains rows.told fields
+  Ok (record { domains = rows.domains; told = told })
+
+-- What a reader of rows over these domains has that is fed these bytes, in whatever pieces, or the first refusal in a line
+-- that is whole by then.
+unfoldable pub pairs_fed : List ℕ → List Domain → Result (Fed RowsView) ReadErr
+pairs_fed bytes domains =
+    fed_on add_row_over (record { made = record { domains = domains; told = record { list = []; self_pairs = 0; strangers = 0 } }; begun = []; line = 1 }) bytes
+
+-- the pairs of a list ascend, and each is of two stations
+pub record ArePairs (pairs : List Pair) : Type 0 where
+  pub ascend : IsTrue (pairs_ascend pairs)
+  pub of_two : IsTrue (list_all is_of_two pairs)

@@ -1,3 +1,5 @@
+//! From a record of a domains file to one station's domain.
+
 ghost use Rattle.std.specs.Prelude.{◌≡◌, ◌<◌, ℕ, IfOk, MatchOption, filter, length, slice_index_or, true, false};
 ghost use Rattle.std.specs.List.{list_all};
 ghost use Rattle.pack_defs.specs.Lists.{is_in};

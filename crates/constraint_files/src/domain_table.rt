@@ -1,12 +1,13 @@
+//! The domains of the records read so far.
+
 ghost use Rattle.std.specs.Prelude.{◌≡◌, [], IfOk};
 ghost use Rattle.constraint_files.specs.Domains.{add_domain_row, put_domain};
 ghost use Rattle.constraint_files.specs.Reads.{Changes};
-ghost use Rattle.constraint_files.specs.Records.{after_records, line_records};
 
 use crate::domain_row::domain_row;
 use crate::error::{RowErr, RowWhy};
 use crate::record::Record;
-use crate::records::records_of_line;
+use crate::table::Table;
 use pack_defs::domain::Domain;
 use pack_defs::items::Items;
 use std::alloc::{AllocError as NoMemory, Global};
@@ -55,23 +56,6 @@ impl DomainTable {
         Ok(())
     }
 
-    fn add_record(&mut self, alloc: Global, fields: &Record) -> Result<(), RowErr>
-        ensures { Changes (add_domain_row self.old fields.now) self.new result }
-    {
-        self.put(domain_row(alloc, fields)?)
-    }
-
-    /// Adds the domains of a line's records. After an error the table is lost.
-    pub(crate) fn add_line(&mut self, alloc: Global, line: &[u8]) -> Result<(), RowErr>
-        ensures { Changes (after_records add_domain_row self.old (line_records line.now)) self.new result }
-    {
-        let records = records_of_line(alloc, line)?;
-        for record in &records {
-            self.add_record(alloc, record)?;
-        }
-        Ok(())
-    }
-
     /// The domains, ascending by station.
     pub(crate) fn into_list(self, alloc: Global) -> Result<Vec<Domain>, NoMemory>
         ensures { IfOk result (λ v. v.items ≡ self) }
@@ -82,5 +66,13 @@ impl DomainTable {
             list.push(Domain { station, channels })?;
         }
         Ok(list)
+    }
+}
+
+impl Table for DomainTable {
+    ghost add = { add_domain_row };
+
+    fn add_record(&mut self, alloc: Global, fields: &Record) -> Result<(), RowErr> {
+        self.put(domain_row(alloc, fields)?)
     }
 }

@@ -1,14 +1,16 @@
-ghost use Rattle.std.specs.Prelude.{◌≡◌};
+//! The reader of a domains file: from its bytes to the stations and their channels.
+
+ghost use Rattle.std.specs.Prelude.{◌≡◌, ◌++◌, [], ℕ, IfOk, List, Ok};
 ghost use Rattle.std.specs.Option.{option_map};
 ghost use Rattle.pack_defs.specs.Book.{AreInOrder};
-ghost use Rattle.constraint_files.specs.Domains.{channels_of, domains_of};
+ghost use Rattle.constraint_files.specs.Domains.{channels_of, domains_fed, domains_of};
 ghost use Rattle.constraint_files.specs.Reads.{Reads};
 
 use crate::domain_table::DomainTable;
-use crate::error::{ReadErr, RowErr};
-use crate::records::split_line;
+use crate::error::ReadErr;
+use crate::line_reader::LineReader;
 use pack_defs::domain::Domain;
-use std::alloc::Global;
+use std::alloc::{AllocError as NoMemory, Global};
 use std::marker::Model;
 
 /// The stations of a domains file and the channels that each may use.
@@ -49,6 +51,75 @@ impl Domains {
     }
 }
 
+/// Reads a domains file that comes in pieces, cut anywhere. What its records mean and why they are refused is said at
+/// [`read_domains`]. A line that lies within one piece is read where it lies; one that a piece's end cuts is kept until it
+/// is whole.
+#[derive(Drop)]
+pub struct DomainReader {
+    alloc: Global,
+    lines: LineReader<DomainTable>,
+}
+
+impl Model for DomainReader {
+    ghost use Rattle.std.specs.Prelude.{List};
+    ghost use Rattle.pack_defs.specs.Book.{AreInOrder};
+    ghost use Rattle.pack_defs.specs.declared.domain.Domain.{Domain};
+    ghost use Rattle.constraint_files.specs.Pieces.{Fed};
+
+    ghost Value = { Fed (List Domain) };
+
+    ghost view = { λ r. r.lines };
+
+    ghost invariant = { λ r. AreInOrder r.lines.made };
+}
+
+impl DomainReader {
+    /// A reader before the first byte.
+    ///
+    /// # Errors
+    ///
+    /// `NoMemory` where memory runs out.
+    pub fn make(alloc: Global) -> Result<DomainReader, NoMemory>
+        ensures { IfOk result (λ r. domains_fed [] ≡ Ok r) }
+    {
+        Ok(DomainReader {
+            alloc,
+            lines: LineReader::new(alloc, DomainTable::new(alloc)),
+        })
+    }
+
+    /// Reads the next piece of the file.
+    ///
+    /// # Errors
+    ///
+    /// `Row` where a record of the lines that are whole by now is refused: the first one, as [`read_domains`] does.
+    /// `NoMemory` where memory runs out. After an error the reader is gone.
+    pub fn feed(self, piece: &[u8]) -> Result<DomainReader, ReadErr>
+        ensures { (bytes : List ℕ) → domains_fed bytes ≡ Ok self → Reads (domains_fed (bytes ++ piece.now)) result }
+    {
+        let DomainReader { alloc, lines } = self;
+        Ok(DomainReader {
+            alloc,
+            lines: lines.feed(alloc, piece)?,
+        })
+    }
+
+    /// The domains of the whole file, which ends here. The last line needs no end.
+    ///
+    /// # Errors
+    ///
+    /// Those of [`read_domains`].
+    pub fn finish(self) -> Result<Domains, ReadErr>
+        ensures { (bytes : List ℕ) → domains_fed bytes ≡ Ok self → Reads (domains_of bytes) result }
+    {
+        let DomainReader { alloc, lines } = self;
+        let table = lines.finish(alloc)?;
+        Ok(Domains {
+            list: table.into_list(alloc)?,
+        })
+    }
+}
+
 /// Reads a domains file. Each of its records is `DOMAIN,facility,channel,...`: the station may use these channels, of
 /// which those from 14 up are kept.
 ///
@@ -65,20 +136,5 @@ impl Domains {
 pub fn read_domains(alloc: Global, bytes: &[u8]) -> Result<Domains, ReadErr>
     ensures { Reads (domains_of bytes.now) result }
 {
-    let mut table = DomainTable::new(alloc);
-    let mut rest = bytes;
-    let mut number: u64 = 1;
-    while !rest.is_empty() {
-        let (line, after) = split_line(rest);
-        match table.add_line(alloc, line) {
-            Ok(()) => {}
-            Err(RowErr::Refused(why)) => return Err(ReadErr::Row { line: number, why }),
-            Err(RowErr::NoMemory) => return Err(ReadErr::NoMemory),
-        }
-        rest = after;
-        number += 1;
-    }
-    Ok(Domains {
-        list: table.into_list(alloc)?,
-    })
+    DomainReader::make(alloc)?.feed(bytes)?.finish()
 }

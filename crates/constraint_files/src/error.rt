@@ -1,3 +1,5 @@
+//! Why a constraint file is refused.
+
 ghost use Rattle.std.specs.Prelude.{◌≡◌};
 ghost use Rattle.constraint_files.specs.declared.error.ReadErr.TheVariants.{NoMemory};
 ghost use Rattle.constraint_files.specs.declared.error.RowErr.TheVariants.{NoMemory as NoRoom, Refused};

@@ -49,7 +49,7 @@ pub(crate) fn numbers_from(
 ) -> Result<Items<u32>, RowErr>
     ensures { Takes (ok_or (numbers (drop from fields.now)) BadNumber) result }
 {
-    let mut list = Vec::new(alloc);
+    let mut list = Vec::with_capacity(alloc, fields.len())?;
     for i in from..fields.len() {
         match number_at(fields, i) {
             Some(n) => list.push(n)?,

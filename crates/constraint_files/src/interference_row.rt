@@ -1,3 +1,5 @@
+//! From a record of a rows file to the pairs that it tells of.
+
 ghost use Rattle.std.specs.Prelude.{◌≡◌};
 ghost use Rattle.constraint_files.specs.Reads.{Takes};
 ghost use Rattle.constraint_files.specs.Rows.{interference_row, offset_of, row_from, row_on};

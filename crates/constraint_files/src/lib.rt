@@ -8,9 +8,12 @@ pub mod domains;
 pub mod error;
 pub mod field;
 mod interference_row;
+mod line_reader;
 mod pair_table;
 pub mod pairs;
+mod plain_lines;
 mod record;
 pub mod records;
+mod table;
 #[cfg(test)]
 mod tests;

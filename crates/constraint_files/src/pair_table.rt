@@ -1,14 +1,17 @@
-ghost use Rattle.std.specs.Prelude.{◌≡◌, ◌+◌, [], fold, IfOk, OnOk, option_map};
+//! The pairs of the records read so far.
+
+ghost use Rattle.std.specs.Prelude.{◌≡◌, ◌+◌, [], ℕ, List, Option, fold, IfOk, OnOk, option_map};
+ghost use Rattle.pack_defs.specs.Lists.{is_in};
 ghost use Rattle.constraint_files.specs.Domains.{channels_of};
 ghost use Rattle.constraint_files.specs.Reads.{Changes};
-ghost use Rattle.constraint_files.specs.Records.{after_records, line_records};
-ghost use Rattle.constraint_files.specs.Rows.{add_row, pair_of, with_kept, with_other, with_pair};
+ghost use Rattle.constraint_files.specs.Rows.{add_row, add_row_over, pair_of, with_kept, with_other, with_pair};
 
 use crate::domains::Domains;
 use crate::error::{RowErr, RowWhy};
 use crate::interference_row::{Row, interference_row};
+use crate::plain_lines::one_more;
 use crate::record::Record;
-use crate::records::records_of_line;
+use crate::table::Table;
 use pack_defs::pair::Pair;
 use std::alloc::{AllocError as NoMemory, Global};
 use std::collections::BTreeSet;
@@ -49,11 +52,14 @@ fn pair_of(s: u32, a: u8, t: u32, b: u8) -> Pair
     }
 }
 
-/// One more of some fields that were counted. Memory never holds so many fields that this doesn't fit.
-fn one_more(count: u64) -> Result<u64, NoMemory>
-    ensures { IfOk result (λ n. n ≡ count + 1) }
+/// Whether a row's channel is in the domain of its station, if that has one.
+fn own_channel(domains: &Domains, row: &Row) -> Option<bool>
+    ensures { result ≡ option_map (λ c. is_in c row.now.channel) (channels_of domains.now row.now.station) }
 {
-    count.checked_add(1).ok_or(NoMemory)
+    match domains.domain(row.station) {
+        Some(channels) => Some(channels.contains(&row.channel)),
+        None => None,
+    }
 }
 
 impl PairTable {
@@ -75,35 +81,38 @@ impl PairTable {
         Ok(())
     }
 
-    /// Adds the pair of a row's station and `other`, if it is kept. `own` and `theirs` are the domains of the two.
+    /// Adds the pair of a row's station and `other`, if it is kept. `own` says whether the row's channel is in the domain
+    /// of its station, if that has one; `theirs` is the domain of the other.
     fn add_kept(
         &mut self,
         row: &Row,
-        own: Option<&[u8]>,
+        own: Option<bool>,
         theirs: Option<&[u8]>,
         other: u32,
     ) -> Result<(), NoMemory>
-        ensures { OnOk result (self.new ≡ with_kept (option_map (λ c. c.now) own.entry) (option_map (λ c. c.now) theirs.entry) row.now self.old other) }
+        ensures { OnOk result ((channels : Option (List ℕ)) → own ≡ option_map (λ c. is_in c row.now.channel) channels →
+            self.new ≡ with_kept channels (option_map (λ c. c.now) theirs.entry) row.now self.old other) }
     {
-        let (Some(own), Some(theirs)) = (own, theirs) else {
+        let (Some(is_own), Some(theirs)) = (own, theirs) else {
             self.strangers = one_more(self.strangers)?;
             return Ok(());
         };
-        if own.contains(&row.channel) && theirs.contains(&row.other_channel) {
+        if is_own && theirs.contains(&row.other_channel) {
             self.put(pair_of(row.station, row.channel, other, row.other_channel))?;
         }
         Ok(())
     }
 
-    /// Adds what a row says of its station and `other`. `own` is the domain of the row's station.
+    /// Adds what a row says of its station and `other`. `own` says whether the row's channel is in the domain of its
+    /// station, if that has one.
     fn add_other(
         &mut self,
         domains: &Domains,
         row: &Row,
-        own: Option<&[u8]>,
+        own: Option<bool>,
         other: u32,
     ) -> Result<(), NoMemory>
-        requires { option_map (λ c. c.now) own ≡ channels_of domains.now row.now.station }
+        requires { own ≡ option_map (λ c. is_in c row.now.channel) (channels_of domains.now row.now.station) }
         ensures { OnOk result (self.new ≡ with_other domains.now row.now self.old other) }
     {
         if other == row.station {
@@ -117,13 +126,14 @@ impl PairTable {
     fn add_row(&mut self, domains: &Domains, row: &Row) -> Result<(), NoMemory>
         ensures { OnOk result (self.new ≡ fold (with_other domains.now row.now) self.old row.now.others) }
     {
-        let own = domains.domain(row.station);
+        let own = own_channel(domains, row);
         for other in row.others.as_slice() {
             self.add_other(domains, row, own, *other)?;
         }
         Ok(())
     }
 
+    /// Adds what a record says. After an error the table is lost.
     fn add_record(
         &mut self,
         alloc: Global,
@@ -136,22 +146,6 @@ impl PairTable {
         self.add_row(domains, &row)?;
         if self.pairs.len() > MOST_PAIRS {
             return Err(RowErr::Refused(RowWhy::TooMany));
-        }
-        Ok(())
-    }
-
-    /// Adds what a line's records say. After an error the table is lost.
-    pub(crate) fn add_line(
-        &mut self,
-        alloc: Global,
-        domains: &Domains,
-        line: &[u8],
-    ) -> Result<(), RowErr>
-        ensures { Changes (after_records (add_row domains.now) self.old (line_records line.now)) self.new result }
-    {
-        let records = records_of_line(alloc, line)?;
-        for record in &records {
-            self.add_record(alloc, domains, record)?;
         }
         Ok(())
     }
@@ -170,5 +164,46 @@ impl PairTable {
             list.push(pair)?;
         }
         Ok((list, self_pairs, strangers))
+    }
+}
+
+/// What the records read so far say, and the domains that they are read over.
+#[derive(Drop)]
+pub(crate) struct PairsOver<'a> {
+    domains: &'a Domains,
+    table: PairTable,
+}
+
+impl<'a> Model for PairsOver<'a> {
+    ghost use Rattle.constraint_files.specs.Rows.{RowsView};
+
+    ghost Value = { RowsView };
+
+    ghost view = { λ p. record { domains = p.domains.now; told = p.table } };
+}
+
+impl<'a> PairsOver<'a> {
+    pub(crate) fn new(alloc: Global, domains: &'a Domains) -> PairsOver<'a>
+        ensures { result ≡ record { domains = domains.now; told = record { list = []; self_pairs = 0; strangers = 0 } } }
+    {
+        PairsOver {
+            domains,
+            table: PairTable::new(alloc),
+        }
+    }
+
+    /// The table of the pairs.
+    pub(crate) fn into_table(self) -> PairTable
+        ensures { result ≡ self.entry.told }
+    {
+        self.table
+    }
+}
+
+impl<'a> Table for PairsOver<'a> {
+    ghost add = { add_row_over };
+
+    fn add_record(&mut self, alloc: Global, fields: &Record) -> Result<(), RowErr> {
+        self.table.add_record(alloc, self.domains, fields)
     }
 }

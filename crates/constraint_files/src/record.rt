@@ -1,3 +1,5 @@
+//! One record of a constraint file: its fields, cut and trimmed.
+
 ghost use Rattle.std.specs.Prelude.{◌≡◌, ◌≤◌, length, map, take, true};
 ghost use Rattle.std.specs.Option.{option_map, option_map_or};
 ghost use Rattle.pack_defs.specs.Lists.{is_empty};

@@ -1,11 +1,14 @@
 //! Texts of the two files that are read, and texts that are refused.
 
+ghost use Rattle.std.specs.Prelude.{◌≤◌};
+
 mod domains;
 mod pairs;
 
-use crate::domains::{Domains, read_domains};
+use crate::domains::{DomainReader, Domains, read_domains};
+use crate::error::ReadErr;
 use crate::field::number;
-use crate::pairs::{Pairs, read_pairs};
+use crate::pairs::{PairReader, Pairs, read_pairs};
 use crate::records::fields;
 use std::alloc::{AllocError, Global};
 use std::test::Fail;
@@ -135,12 +138,75 @@ fn fields_of_a_line(rt: HostRuntime) -> Result<(), Fail> {
     Ok(())
 }
 
-// Whether the domains of the text are shown so.
-fn domains_are(alloc: Global, text: &[u8], want: &str) -> Result<bool, AllocError> {
-    let Ok(domains) = read_domains(alloc, text) else {
+// The lengths in which each text is fed, beside the whole.
+const LENGTHS: &[usize] = &[1, 2, 5, 16, 1000];
+
+// A number that looks random, made from the one before by Knuth's multiplier.
+fn next(chance: u64) -> u64 {
+    chance
+        .wrapping_mul(6_364_136_223_846_793_005)
+        .wrapping_add(1_442_695_040_888_963_407)
+}
+
+// A place up to the end of so many bytes, by chance.
+fn place(chance: u64, length: usize) -> usize
+    ensures { result ≤ length }
+{
+    if length == 0 {
+        return 0;
+    }
+    (chance >> 33) as usize % length
+}
+
+// The domains of a text that is fed in parts of this length, each cut by chance into two pieces, of which one may be empty.
+fn fed_domains(alloc: Global, text: &[u8], length: usize) -> Result<Domains, ReadErr> {
+    let mut reader = DomainReader::make(alloc)?;
+    let mut chance = length as u64;
+    for part in text.chunks(length.max(1)) {
+        chance = next(chance);
+        let (first, second) = part.split_at(place(chance, part.len()));
+        reader = reader.feed(first)?.feed(second)?;
+    }
+    reader.finish()
+}
+
+// The same of pairs over these domains.
+fn fed_pairs(
+    alloc: Global,
+    domains: &Domains,
+    text: &[u8],
+    length: usize,
+) -> Result<Pairs, ReadErr> {
+    let mut reader = PairReader::make(alloc, domains)?;
+    let mut chance = length as u64;
+    for part in text.chunks(length.max(1)) {
+        chance = next(chance);
+        let (first, second) = part.split_at(place(chance, part.len()));
+        reader = reader.feed(first)?.feed(second)?;
+    }
+    reader.finish()
+}
+
+// Whether these domains were read and are shown so.
+fn are_shown(
+    alloc: Global,
+    domains: Result<Domains, ReadErr>,
+    want: &str,
+) -> Result<bool, AllocError> {
+    let Ok(domains) = domains else {
         return Ok(false);
     };
     Ok(domains_shown(alloc, &domains)?.as_str() == want)
+}
+
+// Whether the domains of the text are shown so, in one and in pieces.
+fn domains_are(alloc: Global, text: &[u8], want: &str) -> Result<bool, AllocError> {
+    for length in LENGTHS {
+        if !are_shown(alloc, fed_domains(alloc, text, *length), want)? {
+            return Ok(false);
+        }
+    }
+    are_shown(alloc, read_domains(alloc, text), want)
 }
 
 // The first of these texts whose domains are shown otherwise, by its place from 0.
@@ -153,8 +219,25 @@ fn first_domains(alloc: Global, cases: &[(&[u8], &str)]) -> Result<Option<usize>
     Ok(None)
 }
 
-// Whether the pairs of the text are shown so, with so many of one station and so many strangers.
+// Whether these pairs were read and are shown so, with so many of one station and so many strangers.
 fn pairs_are(
+    alloc: Global,
+    pairs: Result<Pairs, ReadErr>,
+    want: &str,
+    self_pairs: u64,
+    strangers: u64,
+) -> Result<bool, AllocError> {
+    let Ok(pairs) = pairs else {
+        return Ok(false);
+    };
+    if pairs.self_pairs() != self_pairs || pairs.strangers() != strangers {
+        return Ok(false);
+    }
+    Ok(pairs_shown(alloc, &pairs)?.as_str() == want)
+}
+
+// The same of the text, in one and in pieces.
+fn pairs_are_always(
     alloc: Global,
     domains: &Domains,
     text: &[u8],
@@ -162,13 +245,14 @@ fn pairs_are(
     self_pairs: u64,
     strangers: u64,
 ) -> Result<bool, AllocError> {
-    let Ok(pairs) = read_pairs(alloc, text, domains) else {
-        return Ok(false);
-    };
-    if pairs.self_pairs() != self_pairs || pairs.strangers() != strangers {
-        return Ok(false);
+    for length in LENGTHS {
+        let pairs = fed_pairs(alloc, domains, text, *length);
+        if !pairs_are(alloc, pairs, want, self_pairs, strangers)? {
+            return Ok(false);
+        }
     }
-    Ok(pairs_shown(alloc, &pairs)?.as_str() == want)
+    let pairs = read_pairs(alloc, text, domains);
+    pairs_are(alloc, pairs, want, self_pairs, strangers)
 }
 
 // The first of these texts whose pairs over these domains are shown otherwise, by its place from 0.
@@ -181,7 +265,7 @@ fn first_pairs(
         return Ok(Some(0));
     };
     for (i, (text, want, self_pairs, strangers)) in cases.iter().enumerate() {
-        if !pairs_are(alloc, &domains, text, want, *self_pairs, *strangers)? {
+        if !pairs_are_always(alloc, &domains, text, want, *self_pairs, *strangers)? {
             return Ok(Some(i));
         }
     }
@@ -207,11 +291,22 @@ fn domain_lines(alloc: Global, last: u32) -> Result<String, AllocError> {
     Ok(text)
 }
 
+// The first length from 1 to 45 in which the three stations are not read.
+fn first_length(alloc: Global, want: &str) -> Result<Option<usize>, AllocError> {
+    for length in 1..=45 {
+        if !are_shown(alloc, fed_domains(alloc, THREE_STATIONS, length), want)? {
+            return Ok(Some(length));
+        }
+    }
+    Ok(None)
+}
+
 #[test]
 fn three_stations(rt: HostRuntime) -> Result<(), Fail> {
     let shown = "1 14 15;2 14 15;3 14 15;";
     assert!(rt; domains_are(rt.alloc(), THREE_STATIONS, shown)?);
     assert!(rt; has_second(rt.alloc(), THREE_STATIONS));
+    assert_eq!(rt; first_length(rt.alloc(), shown)?, None);
     const CASES: &[(&[u8], &str, u64, u64)] = &[(
         b"CO,14,14,1,2,3\nCO,14,14,2,3\nCO,15,15,1,2,3\nCO,15,15,2,3\n",
         "1 on 14, 2 on 14;1 on 14, 3 on 14;1 on 15, 2 on 15;1 on 15, 3 on 15;2 on 14, 3 on 14;2 on 15, 3 on 15;",

@@ -1,8 +1,8 @@
 //! Texts of domains that are read, and texts that are refused.
 
-use crate::domains::read_domains;
+use crate::domains::{DomainReader, read_domains};
 use crate::error::{ReadErr, RowWhy};
-use crate::tests::{domain_lines, first_domains};
+use crate::tests::{LENGTHS, domain_lines, fed_domains, first_domains};
 use std::alloc::Global;
 use std::test::Fail;
 
@@ -39,6 +39,16 @@ fn domains_that_are_read(rt: HostRuntime) -> Result<(), Fail> {
     Ok(())
 }
 
+// Whether the domains of the text are refused so, in one and in pieces.
+fn is_refused(alloc: Global, text: &[u8], want: ReadErr) -> bool {
+    for length in LENGTHS {
+        if fed_domains(alloc, text, *length).err() != Some(want) {
+            return false;
+        }
+    }
+    read_domains(alloc, text).err() == Some(want)
+}
+
 // The first of these texts of domains that is not refused for this row and cause, by its place from 0.
 fn first_read(alloc: Global, cases: &[(&[u8], u64, RowWhy)]) -> Option<usize> {
     for (i, (text, line, why)) in cases.iter().enumerate() {
@@ -46,7 +56,7 @@ fn first_read(alloc: Global, cases: &[(&[u8], u64, RowWhy)]) -> Option<usize> {
             line: *line,
             why: *why,
         };
-        if read_domains(alloc, text).err() != Some(want) {
+        if !is_refused(alloc, text, want) {
             return Some(i);
         }
     }
@@ -95,6 +105,78 @@ fn domains_that_are_refused(rt: HostRuntime) {
         ),
     ];
     assert_eq!(rt; first_read(rt.alloc(), CASES), None);
+}
+
+// Which of these pieces is refused, counted from 0, and why. The end of the file stands behind them.
+fn refused_piece(alloc: Global, pieces: &[&[u8]]) -> Option<(usize, ReadErr)> {
+    let Ok(mut reader) = DomainReader::make(alloc) else {
+        return None;
+    };
+    for (i, piece) in pieces.iter().enumerate() {
+        match reader.feed(piece) {
+            Ok(next) => reader = next,
+            Err(why) => return Some((i, why)),
+        }
+    }
+    let why = reader.finish().err()?;
+    Some((pieces.len(), why))
+}
+
+// The first of these rows whose pieces are taken or refused otherwise: the piece, the line and the cause.
+fn first_pieces(
+    alloc: Global,
+    cases: &[(&[&[u8]], Option<(usize, u64, RowWhy)>)],
+) -> Option<usize> {
+    for (i, (pieces, want)) in cases.iter().enumerate() {
+        let want = want.map(|(place, line, why)| (place, ReadErr::Row { line, why }));
+        if refused_piece(alloc, pieces) != want {
+            return Some(i);
+        }
+    }
+    None
+}
+
+#[test]
+fn pieces_that_are_refused(rt: HostRuntime) {
+    const CASES: &[(&[&[u8]], Option<(usize, u64, RowWhy)>)] = &[
+        (
+            &[b"DOMAIN,1,1", b"4", b"x\n"],
+            Some((2, 1, RowWhy::BadNumber)),
+        ),
+        (
+            &[b"DOMAIN,1,1", b"4", b"x"],
+            Some((3, 1, RowWhy::BadNumber)),
+        ),
+        (&[b"DOMAIN,1,1", b"4", b""], None),
+        (
+            &[b"DOMAIN,1,14\nDOMAIN", b"\n"],
+            Some((1, 2, RowWhy::ShortRow)),
+        ),
+        (
+            &[b"DOMAIN\nDOMAIN,1,x\n", b"\n"],
+            Some((0, 1, RowWhy::ShortRow)),
+        ),
+        (&[b"\n", b"\n", b"x\n"], Some((2, 3, RowWhy::ShortRow))),
+        (&[b"\"DOMAIN\",\"1", b"\",14\n"], None),
+        (
+            &[b"\"DOMAIN,", b"1\nDOMAIN,1,14\n"],
+            Some((1, 1, RowWhy::ShortRow)),
+        ),
+        (
+            &[b"DOMAIN,1,14\r", b"\nDOMAIN,1\n"],
+            Some((1, 2, RowWhy::SecondDomain)),
+        ),
+        (
+            &[b"DOMAIN,1,14\r", b"DOMAIN,1\n"],
+            Some((1, 1, RowWhy::SecondDomain)),
+        ),
+        (
+            &[b"DOMAIN,1", b"\n", b"DOMAIN,1"],
+            Some((3, 2, RowWhy::SecondDomain)),
+        ),
+        (&[b"\xEF\xBB", b"\xBFDOMAIN,1,1", b"4\n"], None),
+    ];
+    assert_eq!(rt; first_pieces(rt.alloc(), CASES), None);
 }
 
 // How many domains are read of the lines up to this number and these behind them.

@@ -1,9 +1,9 @@
 //! Texts of pairs that are read, and texts that are refused.
 
-use crate::domains::read_domains;
+use crate::domains::{Domains, read_domains};
 use crate::error::{ReadErr, RowWhy};
 use crate::pairs::read_pairs;
-use crate::tests::{THREE_STATIONS, domain_lines, first_pairs};
+use crate::tests::{LENGTHS, THREE_STATIONS, domain_lines, fed_pairs, first_pairs};
 use std::alloc::{AllocError, Global};
 use std::test::Fail;
 
@@ -69,7 +69,17 @@ fn rows_that_are_read(rt: HostRuntime) -> Result<(), Fail> {
     Ok(())
 }
 
-// The same of texts of pairs, over the three stations.
+// Whether the pairs of the text over these domains are refused so, in one and in pieces.
+fn is_refused(alloc: Global, domains: &Domains, text: &[u8], want: ReadErr) -> bool {
+    for length in LENGTHS {
+        if fed_pairs(alloc, domains, text, *length).err() != Some(want) {
+            return false;
+        }
+    }
+    read_pairs(alloc, text, domains).err() == Some(want)
+}
+
+// The first of these texts of pairs over the three stations that is not refused so, by its place from 0.
 fn first_read_pairs(alloc: Global, cases: &[(&[u8], u64, RowWhy)]) -> Option<usize> {
     let Ok(domains) = read_domains(alloc, THREE_STATIONS) else {
         return Some(0);
@@ -79,7 +89,7 @@ fn first_read_pairs(alloc: Global, cases: &[(&[u8], u64, RowWhy)]) -> Option<usi
             line: *line,
             why: *why,
         };
-        if read_pairs(alloc, text, &domains).err() != Some(want) {
+        if !is_refused(alloc, &domains, text, want) {
             return Some(i);
         }
     }

@@ -1,9 +1,0 @@
-use Rattle.std.proofs.Common.{◌≡◌, drop}
-use Rattle.constraint_files.specs.Domains.{add_domain_row}
-use Rattle.constraint_files.specs.Records.{after_records, line_records}
-use Rattle.constraint_files.proofs.domain_table.DomainTable.add_line.Given as goal
-
-abbrev pub invariant-loop-record : goal.invariant-loop-record
-invariant-loop-record l =
-    after_records add_domain_row l.self (drop l.record-index l.record-items)
-    ≡ after_records add_domain_row l.fn.self (line_records l.fn.line)

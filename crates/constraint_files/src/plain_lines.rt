@@ -1,0 +1,137 @@
+//! Lines without quotes: one reader of `csv` reads them at once, since their records are those of each line by itself. So
+//! no reader is made for each line, which takes more time than the line's reading.
+
+ghost use Rattle.std.specs.Prelude.{◌≡◌, ◌+◌, IfOk, length};
+ghost use Rattle.csv.specs.Records.{fields_of};
+ghost use Rattle.constraint_files.specs.Reads.{Changes};
+ghost use Rattle.constraint_files.specs.Records.{lines_of};
+ghost use Rattle.constraint_files.specs.Runs.{Runs, after_raw, is_plain, is_special, line_at, raw_records};
+ghost use Rattle.constraint_files.specs.declared.plain_lines.RunErr.TheVariants.{NoMemory as NoRoom};
+
+use crate::error::{RowErr, RowWhy};
+use crate::record::Record;
+use crate::records::{rows_of_line, split_line};
+use crate::table::Table;
+use csv::{ByteRecord, ReaderBuilder};
+use std::alloc::{AllocError as NoMemory, Global};
+
+/// Why records were not added.
+#[derive(Clone, Copy)]
+pub enum RunErr {
+    /// One is refused, the first, which has so many before it.
+    Refused { before: u64, why: RowWhy },
+    /// Memory ran out.
+    NoMemory,
+}
+
+impl From<NoMemory> for RunErr {
+    ghost from_gives = { λ _ e. e ≡ NoRoom };
+
+    fn from(_e: NoMemory) -> RunErr {
+        RunErr::NoMemory
+    }
+}
+
+/// One more of what was counted. No count ever comes so far that this doesn't fit.
+pub(crate) fn one_more(count: u64) -> Result<u64, NoMemory>
+    ensures { IfOk result (λ n. n ≡ count + 1) }
+{
+    count.checked_add(1).ok_or(NoMemory)
+}
+
+/// Whether a byte is a quote or the first one of a byte order mark.
+fn is_special(byte: u8) -> bool
+    ensures { result ≡ is_special byte }
+{
+    byte == 34 || byte == 239
+}
+
+/// Whether no byte is a quote or the first one of a byte order mark: these may make a line read otherwise where it stands
+/// behind another.
+pub(crate) fn is_plain(bytes: &[u8]) -> bool
+    ensures { result ≡ is_plain bytes.now }
+{
+    for byte in bytes {
+        if is_special(*byte) {
+            return false;
+        }
+    }
+    true
+}
+
+/// Adds a record to the table, if a field of it is left. After an error the table is lost.
+fn add_row<T: Table>(alloc: Global, table: &mut T, row: ByteRecord) -> Result<(), RowErr>
+    ensures { Changes (after_raw T.add table.old (fields_of row)) table.new result }
+{
+    let record = Record::new(row);
+    if record.len() == 0 {
+        return Ok(());
+    }
+    table.add_record(alloc, &record)
+}
+
+/// Adds the records that the reader of `csv` gives of these bytes, and gives the table back.
+pub(crate) fn add_records<T: Table + Drop>(
+    alloc: Global,
+    table: T,
+    bytes: &[u8],
+) -> Result<T, RunErr>
+    ensures { Runs T.add table (raw_records bytes.now) result }
+{
+    let reader = ReaderBuilder::new()
+        .has_headers(false)
+        .flexible(true)
+        .from_reader(alloc, bytes);
+    let mut table = table;
+    let mut before: u64 = 0;
+    for row in reader.into_byte_records() {
+        let Ok(row) = row else {
+            return Err(RunErr::NoMemory);
+        };
+        match add_row(alloc, &mut table, row) {
+            Ok(()) => {}
+            Err(RowErr::Refused(why)) => return Err(RunErr::Refused { before, why }),
+            Err(RowErr::NoMemory) => return Err(RunErr::NoMemory),
+        }
+        before = one_more(before)?;
+    }
+    Ok(table)
+}
+
+/// The number behind the last of these lines, where the first has this number.
+pub(crate) fn number_behind(number: u64, bytes: &[u8]) -> Result<u64, NoMemory>
+    ensures { IfOk result (λ n. n ≡ number + length (lines_of bytes.now)) }
+{
+    let mut number = number;
+    let mut rest = bytes;
+    while !rest.is_empty() {
+        rest = split_line(rest).1;
+        number = one_more(number)?;
+    }
+    Ok(number)
+}
+
+/// The number of the line in which a record stands that has so many before it, where the first line has this number.
+pub(crate) fn line_at(
+    alloc: Global,
+    number: u64,
+    before: u64,
+    bytes: &[u8],
+) -> Result<u64, NoMemory>
+    ensures { IfOk result (λ n. n ≡ line_at number before (lines_of bytes.now)) }
+{
+    let mut number = number;
+    let mut before = before;
+    let mut rest = bytes;
+    while !rest.is_empty() {
+        let (line, after) = split_line(rest);
+        let count = rows_of_line(alloc, line)?.len() as u64;
+        if before < count {
+            return Ok(number);
+        }
+        before -= count;
+        number = one_more(number)?;
+        rest = after;
+    }
+    Ok(number)
+}
