@@ -2,3 +2,4 @@ pub mod Readings
 pub mod StationsPlaced
 pub mod StationsAscend
 pub mod Limits
+pub mod ChannelsOf

@@ -1,3 +1,5 @@
+//! The decrements, by which prices fall in a scenario of version 1.
+
 ghost use Rattle.std.specs.Prelude.{◌≡◌, map, nat_le, sum};
 ghost use Rattle.serde_json.specs.View.{view};
 ghost use Rattle.scenario_json.specs.ScenarioOf.{decrement_in, decrements_in};

@@ -1,3 +1,5 @@
+//! Why a scenario is refused.
+
 ghost use Rattle.std.specs.Prelude.{◌≡◌};
 ghost use Rattle.scenario_json.specs.declared.error.ScenarioErr.TheVariants.{NoMemory};
 

@@ -1,3 +1,5 @@
+//! The stations read so far.
+
 ghost use Rattle.std.specs.Prelude.{◌≡◌, [], IfOk, OnOk, IsFalse};
 ghost use Rattle.scenario_json.specs.ScenarioOf.{has_id, placed};
 
