@@ -4,6 +4,7 @@ ghost use Rattle.std.specs.Prelude.{◌≡◌, ◌≤◌, ◌+◌, ◌++◌, ◌
 ghost use Rattle.cert_types.specs.Certificate.{IsTaskOf};
 ghost use Rattle.cert_types.specs.Query.{IsQuery};
 ghost use Rattle.cert_types.specs.declared.answer.Answer.{Answer};
+ghost use Rattle.pack_defs.specs.Scenario.{with_owners};
 ghost use Rattle.auction_core.specs.Auction.{entry_told, let_through};
 ghost use Rattle.auction_core.specs.Backed.{IsBacked, record_of};
 ghost use Rattle.auction_core.specs.Replay.{kept_answer, replay};
@@ -22,6 +23,7 @@ use cert_types::answer::Answer;
 use cert_types::task::Task;
 use pack_defs::book::Book;
 use pack_defs::order::Order;
+use pack_defs::owners::Owners;
 use pack_defs::scenario::Scenario;
 use pack_defs::worker::Worker;
 use std::alloc::{AllocError as NoMemory, Global};
@@ -77,6 +79,25 @@ impl Auction {
             notes,
             history: Vec::new(alloc),
         })
+    }
+
+    /// The live auction of this scenario: its owners say these lines, and their values stand for nothing. It starts as
+    /// `start` does with that scenario. The only error is want of memory.
+    pub fn start_live(
+        alloc: Global,
+        sc: &Scenario,
+        book: &Book,
+        owners: &Owners,
+        order: Order,
+    ) -> Result<Auction, NoMemory>
+        requires { IsOfAuction sc.now book.now }
+        ensures scenario { IfOk result (λ auction. auction.scenario ≡ with_owners sc.now (Some owners.now)) }
+        ensures book { IfOk result (λ auction. auction.book ≡ book.now) }
+        ensures state { IfOk result (λ auction. auction.state ≡ opening (with_owners sc.now (Some owners.now)) book.now order) }
+        ensures history { IfOk result (λ auction. auction.history ≡ []) }
+    {
+        let live = sc.with_owners(alloc, owners)?;
+        Auction::start(alloc, &live, book, order)
     }
 
     /// The book.

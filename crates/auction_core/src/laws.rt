@@ -1,3 +1,5 @@
+//! Laws of the core's definitions, and the worked auction told posting by posting.
+
 ghost use Rattle.std.specs.Prelude.{false, Option, ◌≡◌, List, [], ◌∷◌, ◌++◌, Some, None, true, map};
 ghost use Rattle.std.specs.List.{list_any};
 ghost use Rattle.pack_defs.specs.Examples.{three_stations, lone_station, lone_bid, row, test};

@@ -7,7 +7,11 @@ pub mod clock;
 pub mod clockwork;
 pub mod course;
 pub mod laws;
+#[cfg(test)]
+mod live_tests;
 pub mod notes;
+#[cfg(test)]
+mod one_round_tests;
 pub mod part_laws;
 pub mod parts;
 pub mod past;

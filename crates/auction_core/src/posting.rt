@@ -1,3 +1,5 @@
+//! What workers post, and what they are told.
+
 use cert_types::answer::{Answer, Place};
 use cert_types::certified::Certified;
 use std::marker::Model;

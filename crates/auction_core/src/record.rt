@@ -1,3 +1,5 @@
+//! What is left of an auction that has ended: its tests, each with how it was settled.
+
 ghost use Rattle.std.specs.Prelude.{◌≡◌};
 ghost use Rattle.auction_core.specs.State.{shows_room};
 ghost use Rattle.auction_core.specs.Backed.{ending_of};
