@@ -1,3 +1,5 @@
+//! The check of a channel map on a set of stations: what is wrong with it first.
+
 ghost use Rattle.std.specs.Prelude.{◌≡◌, ◌==◌, IsTrue, filter, find};
 ghost use Rattle.pack_defs.specs.ChannelMap.{IsAscending};
 ghost use Rattle.pack_defs.specs.Lists.{has_entry, is_ascending};

@@ -1,3 +1,5 @@
+//! What the end of a search says of the query: the last step, from a model or a derivation to an answer.
+
 ghost use Rattle.std.specs.Prelude.{ℕ, ◌≡◌, ◌≤◌, ◌<◌, IfOk, length, true};
 ghost use Rattle.clause_db.specs.Clause.{has_lit, pos_lit};
 ghost use Rattle.pack_defs.specs.Book.{BookView};

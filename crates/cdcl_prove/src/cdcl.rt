@@ -1,3 +1,5 @@
+//! The solver of a worker that learns, as the layers above see it.
+
 ghost use Rattle.std.specs.Prelude.{◌≡◌, IfOk, IfSome, IsTrue, length, true};
 ghost use Rattle.pack_defs.specs.Lists.{is_ascending};
 ghost use Rattle.cert_types.specs.Query.{AttemptIs, IsQuery};

@@ -1,3 +1,5 @@
+//! The search's policy: which variable comes next, and with which value.
+
 ghost use Rattle.std.specs.Prelude.{ℕ, ◌≡◌, ◌≤◌, IfSome};
 ghost use Rattle.trail_prop.specs.Entries.{lits_of};
 ghost use Rattle.cdcl_prove.specs.Picks.{IsOpenVariable, PickIs, VariableIs};

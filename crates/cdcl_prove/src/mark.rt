@@ -1,3 +1,5 @@
+//! The marks by which a conflict is analysed.
+
 ghost use Rattle.std.specs.Prelude.{ℕ, ◌≡◌, ◌≤◌, ◌⊎◌, true, OnOk, length};
 ghost use Rattle.cdcl_prove.specs.Analysis.{has_met, mark_of, resolves};
 ghost use Rattle.cdcl_prove.specs.declared.mark.Mark.TheVariants.{Unmet};

@@ -1,3 +1,5 @@
+//! The part of a query's set around the tested station, which is searched first.
+
 ghost use Rattle.std.specs.Prelude.{◌≡◌, ◌==◌, ◌||◌, IfOk, IsTrue, filter, true};
 ghost use Rattle.pack_defs.specs.Lists.{is_ascending, is_in};
 ghost use Rattle.cert_types.specs.Query.{IsQuery};

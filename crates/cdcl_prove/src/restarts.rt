@@ -1,3 +1,5 @@
+//! When the search begins anew.
+
 // So many conflicts are a unit of the sequence.
 const UNIT: u64 = 1000;
 

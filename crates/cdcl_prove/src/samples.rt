@@ -1,3 +1,5 @@
+//! Solvers and queries that the tests are made of.
+
 ghost use Rattle.std.specs.Prelude.{◌≡◌, IfOk, IfSome, IsTrue, map};
 ghost use Rattle.pack_defs.specs.Book.{AreInOrder};
 ghost use Rattle.pack_defs.specs.Lists.{is_ascending};

@@ -1,3 +1,5 @@
+//! The whole search: step after step, until it is decided, its budget is spent or another query stands.
+
 ghost use Rattle.std.specs.Prelude.{ℕ, ◌≡◌, ◌≢◌, ◌≤◌, IfOk, IfSome, length};
 ghost use Rattle.cdcl_prove.specs.Search.{OutcomeIs};
 

@@ -1,3 +1,5 @@
+//! The solver's tests, each answer of which the check of answers lets through first.
+
 use crate::cdcl::Cdcl;
 use crate::samples::{Said, attempted, book, learner, packing, task};
 use pack_defs::book::Book;
@@ -64,7 +66,7 @@ fn a_poll_that_moved_stops_the_attempt(rt: HostRuntime) -> Result<(), Fail> {
     Ok(())
 }
 
-// What a solver with this budget says of all stations of a book, the first so many of them on air on these channels.
+// What a solver with this budget says of these stations of a book, none of which has a channel yet.
 fn of_all(alloc: Global, book: &Book, budget: u32, set: &[u32]) -> Option<Said> {
     let worker = learner(budget);
     let mut solver = Cdcl::new(alloc, &worker).ok()?;

@@ -1,3 +1,5 @@
+//! Clauses, numbered from 1: what formulas, proofs and searches are over.
+
 ghost use Rattle.std.specs.Prelude.{◌≡◌, ◌+◌, ◌-◌, ◌≤◌, ◌++◌, ◌∷◌, [], length, OnOk, OnErr, Some, slice_index_or, slice_range};
 ghost use Rattle.clause_db.specs.Clause.{clause_at};
 

@@ -1,3 +1,5 @@
+//! A literal.
+
 ghost use Rattle.std.specs.Prelude.{◌≡◌};
 ghost use Rattle.clause_db.specs.Clause.{opposite};
 

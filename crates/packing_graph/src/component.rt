@@ -1,3 +1,5 @@
+//! The component of a station: those on air that it reaches by pairs.
+
 ghost use Rattle.std.specs.Prelude.{◌≡◌, IfOk, IsTrue};
 ghost use Rattle.pack_defs.specs.Components.{component};
 ghost use Rattle.pack_defs.specs.Lists.{is_ascending};

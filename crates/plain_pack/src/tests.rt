@@ -1,3 +1,5 @@
+//! Tests of the plain search.
+
 ghost use Rattle.std.specs.Prelude.{◌≡◌, IfOk, IsTrue};
 ghost use Rattle.pack_defs.specs.Lists.{is_ascending};
 

@@ -1,3 +1,5 @@
+//! Tests of turns and whole auctions, with racers that answer in ways of their own.
+
 ghost use Rattle.std.specs.Prelude.{◌≡◌, ◌≤◌, ◌∷◌, []};
 ghost use Rattle.pack_defs.specs.Scenario.{IsWithinLimits, facilities};
 

@@ -1,3 +1,5 @@
+//! The check of a proof log: whether each of its lines follows from what stands before it.
+
 ghost use Rattle.std.specs.Prelude.{◌≡◌, []};
 ghost use Rattle.rup_check.specs.Answers.{LineAnswer, LogAnswer};
 ghost use Rattle.rup_check.specs.Follows.{clauses_before, line_fault, log_fault};

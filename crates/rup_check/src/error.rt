@@ -1,3 +1,5 @@
+//! Why a line of a proof log does not follow.
+
 ghost use Rattle.std.specs.Prelude.{◌≡◌};
 ghost use Rattle.rup_check.specs.declared.error.LineErr.TheVariants as why;
 ghost use Rattle.rup_check.specs.declared.error.LogErr.TheVariants as log;

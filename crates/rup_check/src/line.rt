@@ -1,3 +1,5 @@
+//! A line of a proof log, and the log.
+
 ghost use Rattle.std.specs.Prelude.{◌≡◌};
 ghost use Rattle.rup_check.specs.Follows.{ends_empty};
 

@@ -1,3 +1,5 @@
+//! Tests of the check, over the formula of the three stations.
+
 use super::*;
 use crate::check::{check_line, check_log};
 use crate::line::{Line, Log};

@@ -1,3 +1,5 @@
+//! Tests of the plain rule and of what is paid.
+
 ghost use Rattle.std.specs.Prelude.{◌≡◌, None, IfOk, IsTrue, map};
 ghost use Rattle.std.specs.List.Sorted.{IsStrictlyIncreasing};
 ghost use Rattle.pack_defs.specs.Lists.{is_ascending};

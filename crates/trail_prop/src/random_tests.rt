@@ -1,3 +1,5 @@
+//! Propagation against plain truth tables, over formulas made by chance.
+
 ghost use Rattle.std.specs.Prelude.{◌<◌};
 
 use crate::entry::Entry;

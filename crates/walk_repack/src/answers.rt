@@ -1,3 +1,5 @@
+//! What the end of a walk says of the query: the last step, from its map or its moves to an answer.
+
 ghost use Rattle.std.specs.Prelude.{◌≡◌, IfOk, false, length, true};
 ghost use Rattle.pack_defs.specs.declared.worker.Worker.{Worker};
 ghost use Rattle.cert_types.specs.declared.task.Task.{Task};

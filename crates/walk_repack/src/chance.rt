@@ -1,3 +1,5 @@
+//! Chance, as a walk uses it.
+
 use rand_core::utils::NextWord;
 use rand_pcg::Lcg64Xsh32;
 

@@ -1,3 +1,5 @@
+//! The moves of a walk and the map that they lead to: the exact part of its state.
+
 ghost use Rattle.std.specs.Prelude.{◌≡◌, ◌++◌, ◌∷◌, [], OnOk, false, length, true};
 ghost use Rattle.pack_defs.specs.Book.{domain_of};
 ghost use Rattle.pack_defs.specs.ChannelMap.{IsAscending, put};

@@ -1,3 +1,5 @@
+//! The walk's policy: which violated pair, which of its stations, and which channel.
+
 use crate::chance::Chance;
 use crate::memory::Memory;
 use crate::pick::Pick;

@@ -1,3 +1,5 @@
+//! What a walk sees before each move.
+
 ghost use Rattle.std.specs.Prelude.{◌≡◌, ◌≢◌, ◌<◌, IsTrue, length, true};
 ghost use Rattle.pack_defs.specs.Lists.{is_ascending, is_in};
 ghost use Rattle.walk_repack.specs.Course.{IsViolated};

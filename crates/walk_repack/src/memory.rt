@@ -1,3 +1,5 @@
+//! Which channels are closed to a station for a while.
+
 use std::alloc::{AllocError as NoMemory, Global};
 
 /// A short memory of moves: a channel that a station has left is closed to it for some moves. Nothing that the walk says

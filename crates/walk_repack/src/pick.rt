@@ -1,3 +1,5 @@
+//! A violated pair, picked by the policy and looked at before it is used.
+
 ghost use Rattle.std.specs.Prelude.{◌≡◌, ◌==◌, Contains, IfNone, IfSome, false, find, filter, true};
 ghost use Rattle.pack_defs.specs.declared.pair.Pair.{Pair};
 ghost use Rattle.pack_defs.specs.ChannelMap.{IsAscending};

@@ -1,3 +1,5 @@
+//! Where each station stands in a set, found at once for most.
+
 use std::alloc::{AllocError as NoMemory, Global};
 
 // A slot that no station has.

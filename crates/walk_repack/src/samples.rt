@@ -1,3 +1,5 @@
+//! Polls, tasks and books that the tests are made of.
+
 ghost use Rattle.std.specs.Prelude.{◌≡◌, IfOk, IsTrue, map};
 ghost use Rattle.pack_defs.specs.Book.{AreInOrder};
 ghost use Rattle.pack_defs.specs.Lists.{is_ascending};

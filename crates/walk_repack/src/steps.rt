@@ -1,3 +1,6 @@
+//! The whole walk: move after move, until no pair is violated, one is dead, the budget is spent or another query
+//! stands.
+
 ghost use Rattle.std.specs.Prelude.{ℕ, ◌≡◌, ◌≢◌, ◌≤◌, IfOk, IfSome, length};
 ghost use Rattle.walk_repack.specs.Steps.{OutcomeIs, StepIs};
 

@@ -1,3 +1,5 @@
+//! How many pairs each station would violate on each channel, for the walk's policy.
+
 use crate::pick::Pick;
 use crate::places::Places;
 use crate::trouble::Trouble;

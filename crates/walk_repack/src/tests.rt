@@ -1,3 +1,5 @@
+//! The walk's tests, each answer of which the check of answers lets through first.
+
 use crate::samples::{Said, Turning, attempted, book, mark_of, row, steady, task, walker};
 use std::alloc::Global;
 use std::test::Fail;

@@ -1,3 +1,5 @@
+//! The stations of violated pairs, for the walk's policy.
+
 use std::alloc::{AllocError as NoMemory, Global};
 
 /// The places of the stations in trouble, which are of violated pairs, as a sparse set: one is put in, taken out or looked

@@ -1,3 +1,5 @@
+//! The solver of a worker that walks, as the layers above see it.
+
 ghost use Rattle.std.specs.Prelude.{ℕ, ◌≡◌, [], IfOk, false};
 ghost use Rattle.cert_types.specs.Valid.{learns};
 ghost use Rattle.cert_types.specs.Walks.{start_map};
