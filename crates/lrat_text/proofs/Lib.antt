@@ -1,0 +1,11 @@
+pub mod LineLemmas
+pub mod NumberLemmas
+pub mod DigitLemmas
+pub mod SplitLemmas
+pub mod WriteLemmas
+pub mod LogLemmas
+pub mod RoundTrip
+pub mod Named
+pub mod ReadLemmas
+pub mod OneSpelling
+pub mod WholeText

@@ -1,0 +1,34 @@
+-- Texts of which each log has one: what the writer writes, said of the text alone.
+use Rattle.std.specs.Prelude.{ℕ, Bool, true, not, ◌≡◌, ◌+◌, ◌==◌, ◌||◌, if◌then◌else◌, List, [], ◌∷◌, Some, None}
+use Rattle.std.specs.List.{list_all}
+use Rattle.pack_defs.specs.Lists.{is_empty}
+use Rattle.lrat_text.specs.Lines.{joined, without_return, words_of}
+use Rattle.lrat_text.specs.LogText.{greatest}
+use Rattle.lrat_text.specs.LogReading.{behind_d, natural}
+
+-- the digits are one, or don't begin with 0
+abbrev pub has_no_nought : List ℕ → Bool
+has_no_nought [] = true
+has_no_nought (c ∷ rest) = is_empty rest || not (c == 48)
+
+-- a number without leading zeros, behind a minus sign neither
+unfoldable pub is_shortest : List ℕ → Bool
+is_shortest [] = true
+is_shortest (c ∷ rest) = if c == 45 then has_no_nought rest else has_no_nought (c ∷ rest)
+
+-- the first word says this number, and the second is no `d`: so the line is no comment and no deletion
+abbrev pub IsNumbered : ℕ → List (List ℕ) → Type 0
+IsNumbered number [] = ⊥
+IsNumbered number (word ∷ words) = (natural greatest word ≡ Some number) × (behind_d words ≡ None)
+
+-- A line that is nothing but its words, with one space between two of them, none with leading zeros, and the first of
+-- which says this number.
+pub record IsPlain (number : ℕ) (line : List ℕ) : Type 0 where
+  pub spaced : line ≡ joined (words_of (without_return line))
+  pub shortest : list_all is_shortest (words_of (without_return line)) ≡ true
+  pub numbered : IsNumbered number (words_of (without_return line))
+
+-- such lines, numbered on from here
+abbrev pub ArePlain : ℕ → List (List ℕ) → Type 0
+ArePlain number [] = Unit {0}
+ArePlain number (line ∷ lines) = IsPlain number line × ArePlain (number + 1) lines

@@ -1,0 +1,71 @@
+//! The numbers in fields, read digit by digit where they lie.
+
+ghost use Rattle.std.specs.Prelude.{◌≡◌};
+ghost use Rattle.lrat_text.specs.LogReading.{field_of, natural, signed};
+
+use clause_db::lit::Lit;
+
+/// The greatest number of a log's text.
+pub const GREATEST: u64 = 9_223_372_036_854_775_807;
+
+/// What a field of a log's line says as a number.
+#[derive(Clone, Copy, Debug, PartialEq, Eq)]
+pub enum Field {
+    /// 0, which ends a list.
+    End,
+    /// A literal, or a number: its variable, where it is positive.
+    Number(Lit),
+}
+
+/// The number that one or more digits say, leading zeros allowed, where it is at most `most`.
+pub fn natural(most: u64, field: &[u8]) -> Option<u64>
+    ensures { result ≡ natural most field.now }
+{
+    if field.is_empty() {
+        return None;
+    }
+    let mut value = 0;
+    for byte in field {
+        if !byte.is_ascii_digit() {
+            return None;
+        }
+        let digit = u64::from(*byte - b'0');
+        if value > most / 10 {
+            return None;
+        }
+        if digit > most - 10 * value {
+            return None;
+        }
+        value = 10 * value + digit;
+    }
+    Some(value)
+}
+
+// What a number says with this sign.
+fn signed(positive: bool, n: u64) -> Option<Field>
+    ensures { result ≡ signed positive n }
+{
+    if n == 0 {
+        if positive {
+            return Some(Field::End);
+        }
+        return None;
+    }
+    Some(Field::Number(Lit { var: n, positive }))
+}
+
+/// What a field says as a number of a log's line, which may have a minus sign.
+#[tactic(auto, unfolding(crate::specs::LogReading::field_of))]
+pub fn field_of(field: &[u8]) -> Option<Field>
+    ensures { result ≡ field_of field.now }
+{
+    let Some(first) = field.first() else {
+        return None;
+    };
+    if *first == b'-' {
+        let n = natural(GREATEST, &field[1..])?;
+        return signed(false, n);
+    }
+    let n = natural(GREATEST, field)?;
+    signed(true, n)
+}

@@ -1,0 +1,14 @@
+//! Proof logs as texts in LRAT's lines, both ways, and formulas as texts in DIMACS CNF. So a formula can be handed to
+//! any solver, and the proof that comes back, from whatever program, be read and given to the checker.
+#![tactic(auto)]
+
+mod error;
+pub mod field;
+pub mod laws;
+pub mod lines;
+pub mod read;
+#[cfg(test)]
+mod tests;
+pub mod write;
+
+pub use error::LratErr;

@@ -1,0 +1,100 @@
+//! The lines of a text, and the fields and words of a line, each a part of the text where it lies.
+
+ghost use Rattle.std.specs.Prelude.{◌≡◌, ◌<◌, ◌∷◌, [], IfSome, MatchOption, false, length, slice_index_or};
+ghost use Rattle.std.specs.Option.{option_map_or};
+ghost use Rattle.lrat_text.specs.Lines.{fields_of, is_blank, is_whole, whole_lines, without_return, words_of};
+
+/// The byte that ends a line.
+const LINE_FEED: u8 = 10;
+
+/// The byte that may stand before it.
+const RETURN: u8 = 13;
+
+/// The first whole line of a text, without its end, and the text behind it. None where no line is whole.
+pub fn split_line(text: &[u8]) -> Option<(&[u8], &[u8])>
+    ensures lines { MatchOption result (whole_lines text.now ≡ []) (λ x. whole_lines text.now ≡ x.0.now ∷ whole_lines x.1.now) }
+    ensures shorter { IfSome result (λ x. length x.1.now < length text.now) }
+{
+    for (i, byte) in text.iter().enumerate() {
+        if *byte == LINE_FEED {
+            return Some((&text[..i], &text[i + 1..]));
+        }
+    }
+    None
+}
+
+/// Whether no byte stands behind the end of a text's last line.
+pub fn is_whole(text: &[u8]) -> bool
+    ensures { result ≡ is_whole text.now }
+{
+    match text.last() {
+        Some(byte) => *byte == LINE_FEED,
+        None => true,
+    }
+}
+
+/// A line without a carriage return at its end.
+pub(crate) fn without_return(line: &[u8]) -> &[u8]
+    ensures { result.now ≡ without_return line.now }
+{
+    match line.last() {
+        Some(byte) => {
+            if *byte == RETURN {
+                &line[..line.len() - 1]
+            } else {
+                line
+            }
+        }
+        None => line,
+    }
+}
+
+/// The first field of a line in which one space stands between two of them, and what stands behind that space, if
+/// there is one.
+pub fn split_field(line: &[u8]) -> (&[u8], Option<&[u8]>)
+    ensures fields { fields_of line.now ≡ result.0.now ∷ option_map_or (λ rest. fields_of rest.now) result.1 [] }
+    ensures alone { fields_of result.0.now ≡ result.0.now ∷ [] }
+    ensures shorter { IfSome result.1 (λ rest. length rest.now < length line.now) }
+{
+    for (i, byte) in line.iter().enumerate() {
+        if *byte == b' ' {
+            return (&line[..i], Some(&line[i + 1..]));
+        }
+    }
+    (line, None)
+}
+
+// Whether a byte stands between words.
+fn is_blank(byte: u8) -> bool
+    ensures { result ≡ is_blank byte }
+{
+    byte == b' ' || byte == b'\t'
+}
+
+// The word at the start of a line that begins with one, and what stands behind it.
+fn split_word(line: &[u8]) -> (&[u8], &[u8])
+    requires some { 0 < length line.now }
+    requires word { is_blank (slice_index_or line.now 0 0) ≡ false }
+    ensures words { words_of line.now ≡ result.0.now ∷ words_of result.1.now }
+    ensures shorter { length result.1.now < length line.now }
+{
+    for (i, byte) in line.iter().enumerate() {
+        if is_blank(*byte) {
+            return (&line[..i], &line[i + 1..]);
+        }
+    }
+    (line, &[])
+}
+
+/// The first word of a line, with blanks between them and round them, and what stands behind it.
+pub(crate) fn next_word(line: &[u8]) -> Option<(&[u8], &[u8])>
+    ensures words { MatchOption result (words_of line.now ≡ []) (λ x. words_of line.now ≡ x.0.now ∷ words_of x.1.now) }
+    ensures shorter { IfSome result (λ x. length x.1.now < length line.now) }
+{
+    for (i, byte) in line.iter().enumerate() {
+        if !is_blank(*byte) {
+            return Some(split_word(&line[i..]));
+        }
+    }
+    None
+}

@@ -1,0 +1,366 @@
+//! The reading of a log's text. `read_log` takes line after line; `line_said` tells a comment, a deletion and a line
+//! of the log apart, and `log_line` reads the last: its number, its literals up to a 0, and its hints up to another.
+//! What was read so far is the lines and their numbers, in which the hints of later lines are looked up.
+
+ghost use Rattle.std.specs.Prelude.{◌≡◌, ◌++◌, ◌∷◌, [], IfOk, IfSome, List, MatchOption, None, Some};
+ghost use Rattle.std.specs.Bool.{OnTrue};
+ghost use Rattle.std.specs.List.{slice_get};
+ghost use Rattle.rup_check.specs.declared.line.Line.{Line};
+ghost use Rattle.pack_defs.specs.Lists.{is_empty};
+ghost use Rattle.lrat_text.specs.Lines.{without_return, words_of};
+ghost use Rattle.lrat_text.specs.LogReading.{AreNumbers, LogRead, after_words, behind_d, deleted_at, deletion, field_of, hint_at, hint_place, hints_at, is_next, lits_at, log_of, number_or, read_more, with_line};
+ghost use Rattle.lrat_text.specs.Steps.{Gives};
+
+use crate::error::LratErr;
+use crate::field::{Field, GREATEST, field_of, natural};
+use crate::lines::{is_whole, next_word, split_line, without_return};
+use clause_db::lit::Lit;
+use pack_defs::items::Items;
+use rup_check::line::{Line, Log};
+use std::alloc::{AllocError as NoMemory, Global};
+use std::marker::Model;
+
+// Whether a line has no word.
+fn is_bare(words: &[u8]) -> bool
+    ensures { result ≡ is_empty (words_of words.now) }
+{
+    match next_word(words) {
+        Some(_) => false,
+        None => true,
+    }
+}
+
+// The literals before a 0, into a list that is emptied first, and what stands behind it, on the n-th line.
+pub(crate) fn lits_of<'a>(n: u64, words: &'a [u8], lits: &mut Vec<Lit>) -> Result<&'a [u8], LratErr>
+    ensures { Gives (λ rest. (lits.new.items, words_of rest.now)) (lits_at n (words_of words.now)) result }
+{
+    lits.clear();
+    let mut rest = words;
+    while let Some((word, after)) = next_word(rest) {
+        rest = after;
+        match field_of(word) {
+            Some(Field::Number(lit)) => lits.push(lit)?,
+            Some(Field::End) => return Ok(rest),
+            None => return Err(LratErr::BadLine { n }),
+        }
+    }
+    Err(LratErr::BadLine { n })
+}
+
+// Whether the words behind a deletion's `d` are numbers and a 0 at the end, on the n-th line.
+pub(crate) fn deleted(n: u64, words: &[u8]) -> Result<(), LratErr>
+    ensures { Gives (λ u. u) (deleted_at n (words_of words.now)) result }
+{
+    let mut rest = words;
+    while let Some((word, after)) = next_word(rest) {
+        rest = after;
+        match field_of(word) {
+            Some(Field::Number(lit)) => {
+                if !lit.positive {
+                    return Err(LratErr::BadLine { n });
+                }
+            }
+            Some(Field::End) => {
+                if is_bare(rest) {
+                    return Ok(());
+                }
+                return Err(LratErr::BadLine { n });
+            }
+            None => return Err(LratErr::BadLine { n }),
+        }
+    }
+    Err(LratErr::BadLine { n })
+}
+
+// Whether this number stands at a place.
+fn stands_at(numbers: &[u64], place: u64, number: u64) -> bool
+    ensures { OnTrue result (slice_get numbers.now place ≡ Some number) }
+{
+    match numbers.get(place as usize) {
+        Some(other) => *other == number,
+        None => false,
+    }
+}
+
+// What a hint names: a clause by its number, or a line so far by its place behind the clauses.
+pub(crate) fn hint_place(clauses: u64, numbers: &[u64], h: u64) -> Option<u64>
+    requires { AreNumbers clauses numbers.now }
+    ensures { result ≡ hint_place clauses numbers.now h }
+{
+    if h <= clauses {
+        return Some(h);
+    }
+    // As long as no number was skipped, each line's number is its place.
+    if stands_at(numbers, h - clauses - 1, h) {
+        return Some(h);
+    }
+    match numbers.binary_search(&h) {
+        Ok(i) => Some(clauses + 1 + i as u64),
+        Err(_) => None,
+    }
+}
+
+// What a hint says on the n-th line: the place of what it names.
+fn hint_at(n: u64, clauses: u64, numbers: &[u64], hint: Lit) -> Result<u64, LratErr>
+    requires { AreNumbers clauses numbers.now }
+    ensures { Gives (λ place. place) (hint_at n clauses numbers.now hint) result }
+{
+    if !hint.positive {
+        return Err(LratErr::RatStep { n });
+    }
+    let Some(place) = hint_place(clauses, numbers, hint.var) else {
+        return Err(LratErr::BadLine { n });
+    };
+    Ok(place)
+}
+
+// The hints before a 0 that is the last word, each the place of what it names, on the n-th line, into a list that is
+// emptied first.
+pub(crate) fn hints_of(
+    n: u64,
+    clauses: u64,
+    numbers: &[u64],
+    words: &[u8],
+    hints: &mut Vec<u64>,
+) -> Result<(), LratErr>
+    requires { AreNumbers clauses numbers.now }
+    ensures { Gives (λ _. hints.new.items) (hints_at n clauses numbers.now (words_of words.now)) result }
+{
+    hints.clear();
+    let mut rest = words;
+    while let Some((word, after)) = next_word(rest) {
+        rest = after;
+        match field_of(word) {
+            Some(Field::Number(hint)) => match hint_at(n, clauses, numbers, hint) {
+                Ok(place) => hints.push(place)?,
+                Err(why) => return Err(why),
+            },
+            Some(Field::End) => {
+                if is_bare(rest) {
+                    return Ok(());
+                }
+                return Err(LratErr::BadLine { n });
+            }
+            None => return Err(LratErr::BadLine { n }),
+        }
+    }
+    Err(LratErr::BadLine { n })
+}
+
+// Room for the literals and hints of one line, which is used again for each, so that the lists of a line that was read
+// have just the room that they need.
+#[derive(Drop)]
+struct Scratch {
+    lits: Vec<Lit>,
+    hints: Vec<u64>,
+}
+
+// Whether a number is above the clauses and above those of all lines so far.
+fn is_next(clauses: u64, numbers: &[u64], number: u64) -> bool
+    requires { AreNumbers clauses numbers.now }
+    ensures { result ≡ is_next clauses numbers.now number }
+{
+    if number <= clauses {
+        return false;
+    }
+    match numbers.last() {
+        Some(last) => *last < number,
+        None => true,
+    }
+}
+
+// The number that a word gives a line of the log, on the n-th line of the text.
+fn number_of(n: u64, clauses: u64, numbers: &[u64], word: &[u8]) -> Result<u64, LratErr>
+    requires { AreNumbers clauses numbers.now }
+    ensures rises { IfOk result (λ x. AreNumbers clauses (numbers.now ++ x ∷ [])) }
+    ensures number { Gives (λ x. x) (number_or n clauses numbers.now (field_of word.now)) result }
+{
+    match field_of(word) {
+        Some(Field::Number(lit)) => {
+            if !lit.positive {
+                return Err(LratErr::BadLine { n });
+            }
+            if is_next(clauses, numbers, lit.var) {
+                return Ok(lit.var);
+            }
+            Err(LratErr::BadLine { n })
+        }
+        Some(Field::End) => Err(LratErr::BadLine { n }),
+        None => Err(LratErr::BadLine { n }),
+    }
+}
+
+// The line of a log that these words are, on the n-th line of the text: its number, and itself.
+#[tactic(auto, unfolding(crate::specs::LogReading::with_line))]
+fn log_line(
+    alloc: Global,
+    n: u64,
+    clauses: u64,
+    numbers: &[u64],
+    word: &[u8],
+    words: &[u8],
+    scratch: &mut Scratch,
+) -> Result<(u64, Line), LratErr>
+    requires { AreNumbers clauses numbers.now }
+    ensures line { (lines : List Line) → Gives (λ x. record { numbers = numbers.now ++ x.0 ∷ []; lines = lines ++ x.1 ∷ [] }) (with_line n clauses (record { numbers = numbers.now; lines = lines }) word.now (words_of words.now)) result }
+    ensures rises { IfOk result (λ x. AreNumbers clauses (numbers.now ++ x.0 ∷ [])) }
+{
+    let number = number_of(n, clauses, numbers, word)?;
+    let rest = lits_of(n, words, &mut scratch.lits)?;
+    hints_of(n, clauses, numbers, rest, &mut scratch.hints)?;
+    let lits = Vec::from_slice(alloc, &scratch.lits)?;
+    let hints = Vec::from_slice(alloc, &scratch.hints)?;
+    Ok((
+        number,
+        Line {
+            lits: Items::from_vec(lits),
+            hints: Items::from_vec(hints),
+        },
+    ))
+}
+
+// What a deletion line says behind its number and its `d`, on the n-th line of the text: nothing.
+#[tactic(auto, unfolding(crate::specs::LogReading::deletion))]
+fn deletion(n: u64, word: &[u8], words: &[u8]) -> Result<(), LratErr>
+    ensures { (state : LogRead) → Gives (λ u. state) (deletion n state word.now (words_of words.now)) result }
+{
+    let Some(_) = natural(GREATEST, word) else {
+        return Err(LratErr::BadLine { n });
+    };
+    deleted(n, words)
+}
+
+// What stands behind a `d`, if that is the first word.
+fn behind_d(words: &[u8]) -> Option<&[u8]>
+    ensures { MatchOption result (behind_d (words_of words.now) ≡ None) (λ rest. behind_d (words_of words.now) ≡ Some (words_of rest.now)) }
+{
+    let Some((word, rest)) = next_word(words) else {
+        return None;
+    };
+    if word == b"d".as_slice() {
+        return Some(rest);
+    }
+    None
+}
+
+// What a line says, the n-th of the text: a line of the log with its number, or nothing.
+#[tactic(auto, unfolding(crate::specs::LogReading::after_words))]
+fn line_said(
+    alloc: Global,
+    n: u64,
+    clauses: u64,
+    numbers: &[u64],
+    line: &[u8],
+    scratch: &mut Scratch,
+) -> Result<Option<(u64, Line)>, LratErr>
+    requires { AreNumbers clauses numbers.now }
+    ensures said { (lines : List Line) → Gives (read_more (record { numbers = numbers.now; lines = lines })) (after_words n clauses (record { numbers = numbers.now; lines = lines }) (words_of line.now)) result }
+    ensures rises { IfOk result (λ x. IfSome x (λ y. AreNumbers clauses (numbers.now ++ y.0 ∷ []))) }
+{
+    let Some((word, words)) = next_word(line) else {
+        return Ok(None);
+    };
+    if word == b"c".as_slice() {
+        return Ok(None);
+    }
+    if let Some(deleted) = behind_d(words) {
+        deletion(n, word, deleted)?;
+        return Ok(None);
+    }
+    let line = log_line(alloc, n, clauses, numbers, word, words, scratch)?;
+    Ok(Some(line))
+}
+
+// What was read so far of a log.
+#[derive(Drop)]
+struct SoFar {
+    // The numbers of its lines.
+    numbers: Vec<u64>,
+    lines: Vec<Line>,
+}
+
+impl Model for SoFar {
+    ghost use Rattle.lrat_text.specs.LogReading.{LogRead};
+
+    ghost Value = { LogRead };
+
+    ghost view = { λ s. record { numbers = s.numbers.items; lines = s.lines.items } };
+}
+
+// One line more, if there is one.
+fn with_said(
+    numbers: Vec<u64>,
+    lines: Vec<Line>,
+    said: Option<(u64, Line)>,
+) -> Result<SoFar, NoMemory>
+    ensures { IfOk result (λ new. new ≡ read_more (record { numbers = numbers.items; lines = lines.items }) said) }
+{
+    let mut numbers = numbers;
+    let mut lines = lines;
+    if let Some((number, line)) = said {
+        numbers.push(number)?;
+        lines.push(line)?;
+    }
+    Ok(SoFar { numbers, lines })
+}
+
+// What was read with the n-th line of the text.
+fn after_line(
+    alloc: Global,
+    n: u64,
+    clauses: u64,
+    so_far: SoFar,
+    line: &[u8],
+    scratch: &mut Scratch,
+) -> Result<SoFar, LratErr>
+    requires { AreNumbers clauses so_far.numbers }
+    ensures read { Gives (λ new. new) (after_words n clauses so_far (words_of (without_return line.now))) result }
+    ensures rises { IfOk result (λ new. AreNumbers clauses new.numbers) }
+{
+    let SoFar { numbers, lines } = so_far;
+    match line_said(alloc, n, clauses, &numbers, without_return(line), scratch) {
+        Ok(said) => match with_said(numbers, lines, said) {
+            Ok(new) => Ok(new),
+            Err(_) => Err(LratErr::NoMemory),
+        },
+        Err(why) => Err(why),
+    }
+}
+
+/// The proof log that a text says in LRAT's lines over this number of clauses. Words stand between blanks, a carriage
+/// return before the end of a line is dropped, lines without a word, comments and deletions are passed over, and each
+/// hint becomes the place of the clause or line that it names. It goes over the text once, and takes memory for what
+/// it read.
+///
+/// # Errors
+///
+/// `Truncated` where the text ends within a line; else `BadLine` or `RatStep` of the first line at fault; `NoMemory`
+/// where memory ran out.
+pub fn read_log(alloc: Global, text: &[u8], clauses: u64) -> Result<Log, LratErr>
+    ensures { Gives (λ log. log) (log_of text.now clauses) result }
+{
+    if !is_whole(text) {
+        return Err(LratErr::Truncated);
+    }
+    let mut so_far = SoFar {
+        numbers: Vec::new(alloc),
+        lines: Vec::new(alloc),
+    };
+    let mut scratch = Scratch {
+        lits: Vec::new(alloc),
+        hints: Vec::new(alloc),
+    };
+    let mut n = 0;
+    let mut rest = text;
+    while let Some((line, after)) = split_line(rest) {
+        rest = after;
+        n += 1;
+        match after_line(alloc, n, clauses, so_far, line, &mut scratch) {
+            Ok(next) => so_far = next,
+            Err(why) => return Err(why),
+        }
+    }
+    Ok(Log {
+        lines: Items::from_vec(so_far.lines),
+    })
+}

@@ -1,0 +1,122 @@
+//! The writing of logs and formulas, number by number behind the text so far.
+
+ghost use Rattle.std.specs.Prelude.{◌≡◌, ◌+◌, ◌≤◌, ◌^◌, ◌∷◌, ◌++◌, [], IfOk, OnOk, decimal, length, map};
+ghost use Rattle.std.specs.List.{flat_map};
+ghost use Rattle.lrat_text.specs.Lines.{line_of};
+ghost use Rattle.lrat_text.specs.LogText.{clause_fields, dimacs_text, header_line, lit_text, log_fields, log_text, spaced, zero_field};
+
+use clause_db::list::ClauseList;
+use clause_db::lit::Lit;
+use itoa::Buffer;
+use rup_check::line::{Line, Log};
+use std::alloc::{AllocError as NoMemory, Global};
+
+/// Adds a number. The only error is want of memory.
+pub fn push_number(text: &mut Vec<u8>, n: u64) -> Result<(), NoMemory>
+    ensures { OnOk result (text.new.items ≡ text.old.items ++ decimal n) }
+{
+    let mut buffer = Buffer::new();
+    text.extend_from_slice(buffer.format(n).as_bytes())
+}
+
+// Adds a literal.
+fn push_lit(text: &mut Vec<u8>, lit: Lit) -> Result<(), NoMemory>
+    ensures { OnOk result (text.new.items ≡ text.old.items ++ lit_text lit) }
+{
+    if !lit.positive {
+        text.extend_from_slice(b"-")?;
+    }
+    push_number(text, lit.var)
+}
+
+// Adds literals, each behind a space.
+fn push_lits(text: &mut Vec<u8>, lits: &[Lit]) -> Result<(), NoMemory>
+    ensures { OnOk result (text.new.items ≡ text.old.items ++ spaced (map lit_text lits.now)) }
+{
+    for lit in lits {
+        text.extend_from_slice(b" ")?;
+        push_lit(text, *lit)?;
+    }
+    Ok(())
+}
+
+/// Adds numbers, each behind a space. The only error is want of memory.
+pub fn push_numbers(text: &mut Vec<u8>, numbers: &[u64]) -> Result<(), NoMemory>
+    ensures { OnOk result (text.new.items ≡ text.old.items ++ spaced (map decimal numbers.now)) }
+{
+    for n in numbers {
+        text.extend_from_slice(b" ")?;
+        push_number(text, *n)?;
+    }
+    Ok(())
+}
+
+// Adds a line of a log.
+fn push_log_line(text: &mut Vec<u8>, number: u64, line: &Line) -> Result<(), NoMemory>
+    ensures { OnOk result (text.new.items ≡ text.old.items ++ line_of (log_fields number line.now)) }
+{
+    push_number(text, number)?;
+    push_lits(text, line.lits.as_slice())?;
+    text.extend_from_slice(b" 0")?;
+    push_numbers(text, line.hints.as_slice())?;
+    text.extend_from_slice(b" 0\n")?;
+    Ok(())
+}
+
+/// Adds a log, its lines numbered on from `first`: each is its number, its literals, 0, its hints and 0. The only
+/// error is want of memory.
+pub fn push_log(text: &mut Vec<u8>, first: u64, log: &Log) -> Result<(), NoMemory>
+    requires { first + length log.now.lines ≤ 2 ^ 63 }
+    ensures { OnOk result (text.new.items ≡ text.old.items ++ log_text first log.now.lines) }
+{
+    for (i, line) in log.lines.as_slice().iter().enumerate() {
+        push_log_line(text, first + i as u64, line)?;
+    }
+    Ok(())
+}
+
+/// The text of a log, its lines numbered on from `first`. The only error is want of memory.
+pub fn write_log(alloc: Global, first: u64, log: &Log) -> Result<Vec<u8>, NoMemory>
+    requires { first + length log.now.lines ≤ 2 ^ 63 }
+    ensures { IfOk result (λ text. text.items ≡ log_text first log.now.lines) }
+{
+    let mut text = Vec::new(alloc);
+    push_log(&mut text, first, log)?;
+    Ok(text)
+}
+
+// Adds a clause.
+fn push_clause(text: &mut Vec<u8>, clause: &[Lit]) -> Result<(), NoMemory>
+    ensures { OnOk result (text.new.items ≡ text.old.items ++ line_of (clause_fields clause.now)) }
+{
+    for lit in clause {
+        push_lit(text, *lit)?;
+        text.extend_from_slice(b" ")?;
+    }
+    text.extend_from_slice(b"0\n")?;
+    Ok(())
+}
+
+// Adds the first line of a formula.
+fn push_header(text: &mut Vec<u8>, clauses: &ClauseList) -> Result<(), NoMemory>
+    ensures { OnOk result (text.new.items ≡ text.old.items ++ header_line clauses.now) }
+{
+    text.extend_from_slice(b"p cnf ")?;
+    push_number(text, u64::from(clauses.vars()))?;
+    text.extend_from_slice(b" ")?;
+    push_number(text, clauses.len())?;
+    text.extend_from_slice(b"\n")?;
+    Ok(())
+}
+
+/// The text of a formula in DIMACS CNF, without comments. The only error is want of memory.
+pub fn write_dimacs(alloc: Global, clauses: &ClauseList) -> Result<Vec<u8>, NoMemory>
+    ensures { IfOk result (λ text. text.items ≡ dimacs_text clauses.now) }
+{
+    let mut text = Vec::new(alloc);
+    push_header(&mut text, clauses)?;
+    'clauses: for i in 0..clauses.len() {
+        push_clause(&mut text, clauses.get(i + 1))?;
+    }
+    Ok(text)
+}
