@@ -1,0 +1,27 @@
+-- The standings give the stations on air, and these the test's set.
+use Rattle.std.proofs.Common.{◌≡◌, ◌∙◌, map}
+use Rattle.pack_defs.proofs.Words.{ascending-from}
+use Rattle.pack_defs.specs.declared.station.Station.{Station}
+use Rattle.pack_defs.specs.Components.{component}
+use Rattle.pack_defs.specs.Scenario.{facilities}
+use Rattle.packing_graph.specs.Sets.{with_station}
+use Rattle.auction_core.specs.Clock.{on_air_by}
+use Rattle.transcript_text.proofs.OnAirLemmas.{on_air-ascend}
+use Rattle.transcript_text.proofs.TestSets.{found-set}
+use Rattle.transcript_text.proofs.write.test_clauses.Goals as goal
+
+pub invariant_of-on_air : goal.invariant_of-on_air
+invariant_of-on_air c = record {
+  ascending = rw c.as_slice.ensures (ascending-from (facilities c.args.sc.now) c.requires.ascend);
+  each = rw (c.as_slice.ensures, c.standings.ensures) c.requires.stations;
+}
+
+pub component_among-requires : goal.component_among-requires
+component_among-requires c =
+    on_air-ascend (map (λ (x : Station). x.id) c.as_slice.result.now) c.standings.result.now (rw c.as_slice.ensures (ascending-from (facilities c.args.sc.now) c.requires.ascend))
+
+pub returns-clause-count : goal.returns-clause-count
+returns-clause-count c =
+    let set : c.in_ok-set.set.items ≡ component c.args.book.now (with_station (on_air_by (facilities c.args.sc.now) c.args.clock.now) c.args.station) c.args.station =
+    c.in_ok-set.ensures.component ∙ (λ i. component c.args.book.now (with_station (on_air_by (map (λ (x : Station). x.id) (c.as_slice.ensures i)) (c.standings.ensures i)) c.args.station) c.args.station) in
+    λ st are. c.clause_count.ensures.count ∙ found-set c.args.sc.now c.args.book.now c.args.clock.now c.args.station _ c.requires.ascend c.requires.known (c.deref.ensures.value ∙ set) st are

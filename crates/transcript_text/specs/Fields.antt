@@ -1,0 +1,119 @@
+-- Lines and fields of a transcript, taken one after the other.
+use Rattle.std.specs.Prelude.{ℕ, Bool, true, false, not, ◌+◌, ◌==◌, nat_lt, nat_le, if◌then◌else◌, List, [], ◌∷◌, length, Option, Some, None, Result, Ok, Err}
+use Rattle.std.specs.Str.{bytes_eq}
+use Rattle.pack_defs.specs.Lists.{is_empty, is_in}
+use Rattle.pack_defs.specs.declared.scenario.Scenario.{Scenario}
+use Rattle.pack_defs.specs.Scenario.{facilities}
+use Rattle.lrat_text.specs.declared.field.Field.{Field}
+use Rattle.lrat_text.specs.Lines.{fields_of}
+use Rattle.lrat_text.specs.LogReading.{natural, field_of}
+use Rattle.transcript_text.specs.declared.error.TextErr.{TextErr}
+use Rattle.transcript_text.specs.declared.error.TextErr.TheVariants.{BadLine, Truncated}
+use Rattle.transcript_text.specs.Steps.{◌>>=◌}
+
+-- the whole lines that are left of a text, and the number of the first of them
+pub record LinesLeft : Type 0 where
+  pub number : ℕ
+  pub left : List (List ℕ)
+
+-- the fields that are left of a line, and the line's number
+pub record FieldsLeft : Type 0 where
+  pub number : ℕ
+  pub fields : List (List ℕ)
+
+abbrev line_or : ℕ → List (List ℕ) → Result (FieldsLeft × LinesLeft) TextErr
+line_or n [] = Err Truncated
+line_or n (line ∷ lines) = Ok (record { number = n; fields = fields_of line }, record { number = n + 1; left = lines })
+
+-- the next line, and the lines behind it
+abbrev pub next_line : LinesLeft → Result (FieldsLeft × LinesLeft) TextErr
+next_line lines = line_or lines.number lines.left
+
+abbrev field_or : ℕ → List (List ℕ) → Result (List ℕ × FieldsLeft) TextErr
+field_or n [] = Err (BadLine n)
+field_or n (field ∷ fields) = Ok (field, record { number = n; fields = fields })
+
+-- the next field, and the fields behind it
+abbrev pub next_field : FieldsLeft → Result (List ℕ × FieldsLeft) TextErr
+next_field line = field_or line.number line.fields
+
+-- the value, if there is one, and what is left
+abbrev pub found_or : {A B : Type 0} → ℕ → Option A → B → Result (A × B) TextErr
+found_or n None rest = Err (BadLine n)
+found_or n (Some x) rest = Ok (x, rest)
+
+-- no field is left
+unfoldable pub line_end : FieldsLeft → Result (Unit {0}) TextErr
+line_end line = if is_empty line.fields then Ok tt else Err (BadLine line.number)
+
+-- the next field is this word
+unfoldable pub word_at : List ℕ → FieldsLeft → Result FieldsLeft TextErr
+word_at word line = do
+  field ← next_field line
+  if bytes_eq field.0 word then Ok field.1 else Err (BadLine line.number)
+
+-- a number as it is spelled in a transcript: no 0 stands before another digit, and none behind a minus sign
+abbrev pub is_plain : List ℕ → Bool
+is_plain [] = false
+is_plain (c ∷ []) = true
+is_plain (c ∷ d ∷ rest) = if c == 45 then not (d == 48) else not (c == 48)
+
+-- the number of a field, at most this
+unfoldable pub plain_number : ℕ → List ℕ → Option ℕ
+plain_number most field = if is_plain field then natural most field else None
+
+-- what a field of a log's line says
+unfoldable pub plain_field : List ℕ → Option Field
+plain_field field = if is_plain field then field_of field else None
+
+-- a number in the next field, at most this
+unfoldable pub number_at : ℕ → FieldsLeft → Result (ℕ × FieldsLeft) TextErr
+number_at most line = do
+  field ← next_field line
+  found_or line.number (plain_number most field.0) field.1
+
+-- the greatest round, facility or worker that a field may have
+abbrev pub greatest_u32 : ℕ
+greatest_u32 = 4294967295
+
+-- the most entries, lines or moves that a field may count
+abbrev pub most_counted : ℕ
+most_counted = 1000000
+
+abbrev pub count_at : FieldsLeft → Result (ℕ × FieldsLeft) TextErr
+count_at = number_at most_counted
+
+-- a station of the scenario
+unfoldable pub station_at : Scenario → FieldsLeft → Result (ℕ × FieldsLeft) TextErr
+station_at sc line = do
+  s ← number_at greatest_u32 line
+  if is_in (facilities sc) s.0 then Ok s else Err (BadLine line.number)
+
+-- a channel, 14 to 51
+unfoldable pub channel_at : FieldsLeft → Result (ℕ × FieldsLeft) TextErr
+channel_at line = do
+  c ← number_at 51 line
+  if nat_le 14 c.0 then Ok c else Err (BadLine line.number)
+
+-- a worker of the scenario
+unfoldable pub worker_at : Scenario → FieldsLeft → Result (ℕ × FieldsLeft) TextErr
+worker_at sc line = do
+  w ← number_at greatest_u32 line
+  if nat_lt w.0 (length sc.workers) then Ok w else Err (BadLine line.number)
+
+-- the very number
+unfoldable pub exactly_at : ℕ → FieldsLeft → Result FieldsLeft TextErr
+exactly_at n line = do
+  m ← number_at n line
+  if m.0 == n then Ok m.1 else Err (BadLine line.number)
+
+-- the number is above the one before it, if there is one
+abbrev pub is_above : Option ℕ → ℕ → Bool
+is_above None n = true
+is_above (Some m) n = nat_lt m n
+
+-- a station above the one before it
+unfoldable pub station_above : Scenario → Option ℕ → FieldsLeft → Result (ℕ × FieldsLeft) TextErr
+station_above sc above line = do
+  s ← station_at sc line
+  if is_above above s.0 then Ok s else Err (BadLine line.number)

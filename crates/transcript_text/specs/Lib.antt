@@ -1,0 +1,9 @@
+pub mod Examples
+pub mod Steps
+pub mod Spelling
+pub mod Writable
+pub mod Fields
+pub mod LogLines
+pub mod Reading
+pub mod Spelled
+pub mod Named

@@ -1,0 +1,37 @@
+-- What holds of each record that the program makes, beside its being backed: it is so by how numbers, books and maps
+-- are kept.
+use Rattle.std.specs.Prelude.{ℕ, true, ◌≡◌, ◌≤◌, ◌<◌, ◌^◌, length}
+use Rattle.std.specs.List.{All}
+use Rattle.pack_defs.specs.Book.{BookView, IsInOrder, domain_of}
+use Rattle.pack_defs.specs.ChannelMap.{IsAscending}
+use Rattle.pack_defs.specs.Lists.{is_in}
+use Rattle.pack_defs.specs.declared.scenario.Scenario.{Scenario}
+use Rattle.auction_core.specs.declared.record.Record.{Record}
+use Rattle.auction_core.specs.declared.record.Shown.{Shown}
+use Rattle.auction_core.specs.declared.record.Shown.TheVariants.{Empty, Fits, Same, NoChannel, Refuted, Outside, Undecided}
+use Rattle.transcript_text.specs.Fields.{greatest_u32}
+use Rattle.transcript_text.specs.Spelled.{IsChannel}
+
+-- the entries of a fit ascend, as those of every channel map do
+abbrev pub IsFitAscending : Shown → Type 0
+IsFitAscending Empty = Unit {0}
+IsFitAscending (Fits delta) = IsAscending delta
+IsFitAscending Same = Unit {0}
+IsFitAscending (NoChannel s) = Unit {0}
+IsFitAscending (Refuted worker how) = Unit {0}
+IsFitAscending (Outside proof) = Unit {0}
+IsFitAscending (Undecided receipts) = Unit {0}
+
+-- the fits of a record ascend, that of its start and those of its steps, and a list can hold its steps
+pub record IsHeld (rec : Record) : Type 0 where
+  pub start : IsFitAscending rec.start
+  pub steps : All (λ x. IsFitAscending x.shown) rec.steps
+  pub count : length rec.steps < 2 ^ 64
+
+-- The scenario's stations have numbers of 32 bits. The book is in order, its channels are 14 to 51, and a list can
+-- hold its pairs. So is each that is made of files.
+pub record IsNamed (sc : Scenario) (book : BookView) : Type 0 where
+  pub numbers : All (λ x. x.id ≤ greatest_u32) sc.stations
+  pub in_order : IsInOrder book
+  pub channels : (s c : ℕ) → is_in (domain_of book s) c ≡ true → IsChannel c
+  pub pairs : length book.pairs < 2 ^ 62

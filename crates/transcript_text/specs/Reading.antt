@@ -1,0 +1,319 @@
+-- What a text says as a transcript: the transcript, or why it is none, by the first line at fault.
+use Rattle.std.specs.Prelude.{ℕ, zero, suc, Bool, ◌&&◌, ◌+◌, ◌≤◌, ◌==◌, if◌then◌else◌, List, [], ◌∷◌, length, Option, Some, None, Result, Ok, Err, codes, decimal}
+use Rattle.std.specs.Str.{bytes_eq}
+use Rattle.pack_defs.specs.Lists.{is_empty}
+use Rattle.pack_defs.specs.Book.{BookView}
+use Rattle.pack_defs.specs.declared.scenario.Scenario.{Scenario}
+use Rattle.pack_defs.specs.declared.order.Order.{Order}
+use Rattle.pack_defs.specs.declared.order.Order.TheVariants.{ByFacility, ByVolume}
+use Rattle.rup_check.specs.declared.line.Line.{Line}
+use Rattle.rup_check.specs.declared.line.Log.{Log}
+use Rattle.cert_types.specs.declared.answer.Receipt.{Receipt}
+use Rattle.cert_types.specs.declared.answer.Receipt.TheVariants.{Lines, Moves}
+use Rattle.cert_types.specs.declared.answer.Refutation.TheVariants.{Proof as LogProof, Dead as DeadPair}
+use Rattle.auction_core.specs.declared.record.Shown.{Shown}
+use Rattle.auction_core.specs.declared.record.Shown.TheVariants.{Empty, Fits, Same as LikeBefore, NoChannel as WithoutChannel, Refuted, Outside as ByOutside, Undecided as LeftOpen}
+use Rattle.lrat_text.specs.Lines.{whole_lines, is_whole}
+use Rattle.lrat_text.specs.LogText.{greatest}
+use Rattle.transcript_text.specs.declared.error.TextErr.{TextErr}
+use Rattle.transcript_text.specs.declared.error.TextErr.TheVariants.{Version, BadLine, Truncated}
+use Rattle.transcript_text.specs.declared.head.StepTest.{StepTest}
+use Rattle.transcript_text.specs.declared.head.Head.{Head}
+use Rattle.transcript_text.specs.declared.head.Head.TheVariants.{Fit, Same, NoChannel, Log as LogHead, Dead, Outside, Undecided, End}
+use Rattle.transcript_text.specs.declared.transcript.Transcript.{Transcript}
+use Rattle.transcript_text.specs.declared.transcript.TranscriptStep.{TranscriptStep}
+use Rattle.transcript_text.specs.Steps.{◌>>=◌}
+use Rattle.transcript_text.specs.Spelling.{clauses_in}
+use Rattle.transcript_text.specs.Fields.{LinesLeft, FieldsLeft, next_line, next_field, line_end, word_at, number_at, count_at, exactly_at, station_at, channel_at, worker_at, greatest_u32, most_counted}
+use Rattle.transcript_text.specs.LogLines.{log_at, entries_at, moves_at, stations_at}
+
+-- ---- logs whose first line may have any number
+
+-- a log, and the number of its first line; 0 where it has none
+pub record FoundLog : Type 0 where
+  pub log : Log
+  pub first : ℕ
+
+abbrev pub found_log : ℕ → List Line → FoundLog
+found_log first lines = record { log = record { lines = lines }; first = first }
+
+-- one line of a log, or more, of which the first has any number
+unfoldable pub some_log : ℕ → LinesLeft → Result (FoundLog × LinesLeft) TextErr
+some_log k lines = do
+  next ← next_line lines
+  first ← number_at greatest next.0
+  log ← log_at first.0 k lines
+  Ok (found_log first.0 log.0, log.1)
+
+-- a log of this many lines
+unfoldable pub numbered_log : ℕ → LinesLeft → Result (FoundLog × LinesLeft) TextErr
+numbered_log k lines = if k == 0 then Ok (found_log 0 [], lines) else some_log k lines
+
+-- ---- receipts
+
+-- a receipt, and the number of its log's first line
+pub record FoundReceipt : Type 0 where
+  pub receipt : Receipt
+  pub first : ℕ
+
+unfoldable pub lines_receipt : ℕ → LinesLeft → Result (FoundReceipt × LinesLeft) TextErr
+lines_receipt k lines = do
+  found ← numbered_log k lines
+  Ok (record { receipt = Lines found.0.log; first = found.0.first }, found.1)
+
+unfoldable pub moves_receipt : Scenario → ℕ → LinesLeft → Result (FoundReceipt × LinesLeft) TextErr
+moves_receipt sc k lines = do
+  moves ← moves_at sc k lines
+  Ok (record { receipt = Moves moves.0; first = 0 }, moves.1)
+
+-- the worker and the count of a receipt's first line
+unfoldable pub receipt_count : ℕ → FieldsLeft → Result ℕ TextErr
+receipt_count worker line = do
+  rest ← exactly_at worker line
+  k ← count_at rest
+  u ← line_end k.1
+  Ok k.0
+
+-- the receipt with this word, on the n-th line
+abbrev pub receipt_by : Scenario → ℕ → List ℕ → ℕ → LinesLeft → Result (FoundReceipt × LinesLeft) TextErr
+receipt_by sc n word k lines =
+    if bytes_eq word (codes "lines") then lines_receipt k lines
+    else (if bytes_eq word (codes "moves") then moves_receipt sc k lines else Err (BadLine n))
+
+-- the receipt of this worker
+unfoldable pub receipt_at : Scenario → ℕ → LinesLeft → Result (FoundReceipt × LinesLeft) TextErr
+receipt_at sc worker lines = do
+  next ← next_line lines
+  word ← next_field next.0
+  k ← receipt_count worker word.1
+  receipt_by sc lines.number word.0 k next.1
+
+-- the receipts of this many workers, from this one on
+unfoldable pub receipts_at : Scenario → ℕ → ℕ → LinesLeft → Result ((List Receipt × List ℕ) × LinesLeft) TextErr
+receipts_at sc worker zero lines = Ok (([], []), lines)
+receipts_at sc worker (suc k) lines = do
+  found ← receipt_at sc worker lines
+  rest ← receipts_at sc (worker + 1) k found.1
+  Ok ((found.0.receipt ∷ rest.0.0, found.0.first ∷ rest.0.1), rest.1)
+
+-- ---- the first line of a step
+
+-- the round and the station
+unfoldable pub test_at : Scenario → FieldsLeft → Result (StepTest × FieldsLeft) TextErr
+test_at sc line = do
+  r ← number_at greatest_u32 line
+  s ← station_at sc r.1
+  Ok (record { round = r.0; station = s.0 }, s.1)
+
+unfoldable pub fit_head : Scenario → FieldsLeft → Result Head TextErr
+fit_head sc line = do
+  t ← test_at sc line
+  k ← count_at t.1
+  u ← line_end k.1
+  Ok (Fit t.0 k.0)
+
+unfoldable pub same_head : Scenario → FieldsLeft → Result Head TextErr
+same_head sc line = do
+  t ← test_at sc line
+  u ← line_end t.1
+  Ok (Same t.0)
+
+unfoldable pub none_head : Scenario → FieldsLeft → Result Head TextErr
+none_head sc line = do
+  t ← test_at sc line
+  u ← line_end t.1
+  Ok (NoChannel t.0)
+
+unfoldable pub log_head : Scenario → FieldsLeft → Result Head TextErr
+log_head sc line = do
+  t ← test_at sc line
+  w ← worker_at sc t.1
+  k ← count_at w.1
+  u ← line_end k.1
+  Ok (LogHead t.0 w.0 k.0)
+
+unfoldable pub dead_head : Scenario → FieldsLeft → Result Head TextErr
+dead_head sc line = do
+  t ← test_at sc line
+  w ← worker_at sc t.1
+  f ← station_at sc w.1
+  a ← channel_at f.1
+  g ← station_at sc a.1
+  b ← channel_at g.1
+  u ← line_end b.1
+  Ok (Dead t.0 w.0 (record { f = f.0; a = a.0; g = g.0; b = b.0 }))
+
+unfoldable pub outside_head : Scenario → FieldsLeft → Result Head TextErr
+outside_head sc line = do
+  t ← test_at sc line
+  k ← count_at t.1
+  u ← line_end k.1
+  Ok (Outside t.0 k.0)
+
+-- it counts a receipt of each worker
+unfoldable pub undecided_head : Scenario → FieldsLeft → Result Head TextErr
+undecided_head sc line = do
+  t ← test_at sc line
+  rest ← exactly_at (length sc.workers) t.1
+  u ← line_end rest
+  Ok (Undecided t.0)
+
+-- it counts the steps
+unfoldable pub end_head : ℕ → FieldsLeft → Result Head TextErr
+end_head steps line = do
+  rest ← word_at (decimal steps) line
+  u ← line_end rest
+  Ok End
+
+-- the head with this word
+abbrev pub head_by : Scenario → ℕ → List ℕ → FieldsLeft → Result Head TextErr
+head_by sc steps word line =
+    if bytes_eq word (codes "fit") then fit_head sc line
+    else (if bytes_eq word (codes "same") then same_head sc line
+    else (if bytes_eq word (codes "none") then none_head sc line
+    else (if bytes_eq word (codes "log") then log_head sc line
+    else (if bytes_eq word (codes "dead") then dead_head sc line
+    else (if bytes_eq word (codes "outside") then outside_head sc line
+    else (if bytes_eq word (codes "undecided") then undecided_head sc line
+    else (if bytes_eq word (codes "end") then end_head steps line
+    else Err (BadLine line.number))))))))
+
+-- what a step's first line says, or the last line, after this many steps
+unfoldable pub head_at : Scenario → ℕ → FieldsLeft → Result Head TextErr
+head_at sc steps line = do
+  word ← next_field line
+  head_by sc steps word.0 word.1
+
+-- a step's log has no more lines than may be counted
+abbrev pub IsCounted : Head → Type 0
+IsCounted (Fit test k) = Unit {0}
+IsCounted (Same test) = Unit {0}
+IsCounted (NoChannel test) = Unit {0}
+IsCounted (LogHead test worker k) = k ≤ most_counted
+IsCounted (Dead test worker pair) = Unit {0}
+IsCounted (Outside test k) = k ≤ most_counted
+IsCounted (Undecided test) = Unit {0}
+IsCounted End = Unit {0}
+
+-- ---- a step
+
+abbrev pub step_of : StepTest → Shown → List ℕ → TranscriptStep
+step_of test shown firsts =
+    record { step = record { round = test.round; station = test.station; shown = shown }; firsts = firsts }
+
+unfoldable pub fit_step : Scenario → StepTest → ℕ → LinesLeft → Result (TranscriptStep × LinesLeft) TextErr
+fit_step sc test k lines = do
+  entries ← entries_at sc None k lines
+  Ok (step_of test (Fits entries.0) [], entries.1)
+
+-- the subset on the line behind the first, and the log over its clauses
+unfoldable pub log_step : Scenario → BookView → StepTest → ℕ → ℕ → LinesLeft → Result (TranscriptStep × LinesLeft) TextErr
+log_step sc book test worker k lines = do
+  next ← next_line lines
+  rest ← word_at (codes "on") next.0
+  subset ← stations_at sc rest.number None rest.fields
+  log ← log_at (clauses_in book subset + 1) k next.1
+  Ok (step_of test (Refuted worker (LogProof subset (record { lines = log.0 }))) [], log.1)
+
+-- a log whose first line may have any number
+unfoldable pub outside_step : StepTest → ℕ → LinesLeft → Result (TranscriptStep × LinesLeft) TextErr
+outside_step test k lines = do
+  found ← numbered_log k lines
+  Ok (step_of test (ByOutside (record { log = found.0.log })) (found.0.first ∷ []), found.1)
+
+unfoldable pub undecided_step : Scenario → StepTest → LinesLeft → Result (TranscriptStep × LinesLeft) TextErr
+undecided_step sc test lines = do
+  found ← receipts_at sc 0 (length sc.workers) lines
+  Ok (step_of test (LeftOpen found.0.0) found.0.1, found.1)
+
+-- a step that was read, and the lines behind it
+abbrev pub as_some : Result (TranscriptStep × LinesLeft) TextErr → Result (Option TranscriptStep × LinesLeft) TextErr
+as_some read = read >>= λ x. Ok (Some x.0, x.1)
+
+-- the step of this first line, if it isn't the last line
+unfoldable pub step_at : Scenario → BookView → Head → LinesLeft → Result (Option TranscriptStep × LinesLeft) TextErr
+step_at sc book (Fit test k) lines = as_some (fit_step sc test k lines)
+step_at sc book (Same test) lines = Ok (Some (step_of test LikeBefore []), lines)
+step_at sc book (NoChannel test) lines = Ok (Some (step_of test (WithoutChannel test.station) []), lines)
+step_at sc book (LogHead test worker k) lines = as_some (log_step sc book test worker k lines)
+step_at sc book (Dead test worker pair) lines = Ok (Some (step_of test (Refuted worker (DeadPair pair)) []), lines)
+step_at sc book (Outside test k) lines = as_some (outside_step test k lines)
+step_at sc book (Undecided test) lines = as_some (undecided_step sc test lines)
+step_at sc book End lines = Ok (None, lines)
+
+-- the next step, after this many; none at the last line
+unfoldable pub next_step : Scenario → BookView → ℕ → LinesLeft → Result (Option TranscriptStep × LinesLeft) TextErr
+next_step sc book steps lines = do
+  next ← next_line lines
+  head ← head_at sc steps next.0
+  step_at sc book head next.1
+
+-- a step, and then what the rest says, if it isn't the last line
+abbrev pub step_or : Option TranscriptStep → LinesLeft → (LinesLeft → Result (List TranscriptStep × LinesLeft) TextErr) → Result (List TranscriptStep × LinesLeft) TextErr
+step_or None lines rest = Ok ([], lines)
+step_or (Some x) lines rest = rest lines >>= λ more. Ok (x ∷ more.0, more.1)
+
+-- The steps, after this many, up to the last line. Each has a line at least, so that no more than so many are to come.
+unfoldable pub steps_at : Scenario → BookView → ℕ → ℕ → LinesLeft → Result (List TranscriptStep × LinesLeft) TextErr
+steps_at sc book zero steps lines = Err Truncated
+steps_at sc book (suc most) steps lines = do
+  next ← next_step sc book steps lines
+  step_or next.0 next.1 (λ rest. steps_at sc book most (steps + 1) rest)
+
+-- ---- the whole
+
+-- the order that a first line names, if it names one
+unfoldable pub order_of : List ℕ → Option Order
+order_of line =
+    if bytes_eq line (codes "transcript 1") then Some ByFacility
+    else (if bytes_eq line (codes "transcript 2") then Some ByVolume else None)
+
+-- the order, if there is one, and the lines behind the first
+abbrev pub version_or : Option Order → List (List ℕ) → Result (Order × LinesLeft) TextErr
+version_or None lines = Err Version
+version_or (Some order) lines = Ok (order, record { number = 2; left = lines })
+
+-- the order that the first line names, and the lines behind it
+abbrev pub version_at : List (List ℕ) → Result (Order × LinesLeft) TextErr
+version_at [] = Err Truncated
+version_at (line ∷ lines) = version_or (order_of line) lines
+
+unfoldable pub fit_start : Scenario → FieldsLeft → LinesLeft → Result (Shown × LinesLeft) TextErr
+fit_start sc line lines = do
+  k ← count_at line
+  u ← line_end k.1
+  entries ← entries_at sc None k.0 lines
+  Ok (Fits entries.0, entries.1)
+
+unfoldable pub empty_start : FieldsLeft → LinesLeft → Result (Shown × LinesLeft) TextErr
+empty_start line lines = do
+  u ← line_end line
+  Ok (Empty, lines)
+
+-- the start with this word, on the n-th line
+abbrev pub start_by : Scenario → ℕ → List ℕ → FieldsLeft → LinesLeft → Result (Shown × LinesLeft) TextErr
+start_by sc n word line lines =
+    if bytes_eq word (codes "empty") then empty_start line lines
+    else (if bytes_eq word (codes "fit") then fit_start sc line lines else Err (BadLine n))
+
+-- how the start test was settled
+unfoldable pub start_at : Scenario → LinesLeft → Result (Shown × LinesLeft) TextErr
+start_at sc lines = do
+  next ← next_line lines
+  rest ← word_at (codes "start") next.0
+  kind ← next_field rest
+  start_by sc lines.number kind.0 kind.1 next.1
+
+-- nothing stands behind the last line
+abbrev pub text_end : Bool → LinesLeft → Result (Unit {0}) TextErr
+text_end whole lines = if is_empty lines.left && whole then Ok tt else Err (BadLine lines.number)
+
+-- The transcript that a text says, or the first fault: its first line is whole and names no version; the first whole line
+-- that may not stand where it stands, or any bytes behind the `end` line; the text ends before its `end` line does.
+unfoldable pub transcript_of : Scenario → BookView → List ℕ → Result Transcript TextErr
+transcript_of sc book text = do
+  version ← version_at (whole_lines text)
+  start ← start_at sc version.1
+  steps ← steps_at sc book (length start.1.left) 0 start.1
+  u ← text_end (is_whole text) steps.1
+  Ok (record { order = version.0; start = start.0; steps = steps.0 })

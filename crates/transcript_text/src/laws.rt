@@ -1,0 +1,52 @@
+//! What a transcript's text says, about the definitions alone: worked texts, and that a text which is written is read
+//! again.
+
+ghost use Rattle.std.specs.Prelude.{◌≡◌, ◌<◌, ◌^◌, ◌∷◌, [], ℕ, List, Ok, Err, codes, length};
+ghost use Rattle.auction_core.specs.declared.record.Shown.TheVariants as Shown;
+ghost use Rattle.pack_defs.specs.Scenario.{IsWithinLimits};
+ghost use Rattle.pack_defs.specs.declared.scenario.Scenario.{Scenario};
+ghost use Rattle.auction_core.specs.Backed.{IsBacked};
+ghost use Rattle.auction_core.specs.declared.record.Record.{Record};
+ghost use Rattle.auction_core.specs.declared.record.Ending.TheVariants as Ending;
+ghost use Rattle.transcript_text.specs.Named.{IsHeld, IsNamed};
+ghost use Rattle.pack_defs.specs.Book.{BookView};
+ghost use Rattle.pack_defs.specs.declared.order.Order.TheVariants.{ByFacility};
+ghost use Rattle.transcript_text.specs.declared.transcript.Transcript.{Transcript};
+ghost use Rattle.transcript_text.specs.Spelled.{IsSpelled};
+ghost use Rattle.pack_defs.specs.Examples.{three_stations};
+ghost use Rattle.transcript_text.specs.declared.error.TextErr.TheVariants.{BadLine, Truncated, Version};
+ghost use Rattle.transcript_text.specs.Examples.{fitted, later_text, later_transcript, other_text, other_transcript, three, three_text, three_transcript, two_workers};
+ghost use Rattle.transcript_text.specs.Reading.{transcript_of};
+ghost use Rattle.transcript_text.specs.Spelling.{spelling, transcript_for, transcript_text};
+
+/// The transcript of the three stations' auction, both ways, and some texts that are refused.
+pub fn text_of_three_stations()
+    ensures written { spelling three_stations three_transcript ≡ three_text }
+    ensures read { transcript_of three three_stations (codes "transcript 1\nstart empty\nfit 1 1 1\nat 1 14\nend 1\n") ≡ Ok (record { order = ByFacility; start = Shown.Empty; steps = fitted 1 1 14 ∷ [] }) }
+    ensures whole { transcript_of three three_stations three_text ≡ Ok three_transcript }
+    ensures version { transcript_of three three_stations (codes "transcript 1\r\n") ≡ Err Version }
+    ensures none { transcript_of three three_stations (codes "transcript 3") ≡ Err Truncated }
+    ensures by_volume { transcript_of three three_stations later_text ≡ Ok later_transcript }
+    ensures by_volume_written { spelling three_stations later_transcript ≡ later_text }
+    ensures other { transcript_of two_workers three_stations other_text ≡ Ok other_transcript }
+    ensures other_written { spelling three_stations other_transcript ≡ other_text }
+    ensures after_end { transcript_of three three_stations (codes "transcript 1\nstart empty\nend 0\nx") ≡ Err (BadLine 4) }
+    ensures wrong_count { transcript_of three three_stations (codes "transcript 1\nstart empty\nend 1\n") ≡ Err (BadLine 3) }
+{}
+
+/// A transcript that can be written is read again as itself.
+pub fn a_written_transcript_is_read()
+    ensures { (sc : Scenario) (book : BookView) (t : Transcript) → IsSpelled sc book t → transcript_of sc book (spelling book t) ≡ Ok t }
+{}
+
+/// The transcript of a backed record that was carried through is read again as itself, where the scenario, the book
+/// and the record are as those that the program makes.
+pub fn a_records_transcript_is_read()
+    ensures { (sc : Scenario) (book : BookView) (rec : Record) → IsBacked sc book rec.order rec → rec.ending ≡ Ending.Done → IsWithinLimits sc → IsNamed sc book → IsHeld rec → transcript_of sc book (transcript_text sc book rec) ≡ Ok (transcript_for sc book rec) }
+{}
+
+/// What is read is what its text says, and no other text says it: a text that is a transcript is the one that is
+/// written of it. The scenario's workers are counted in 32 bits.
+pub fn a_transcript_has_one_text()
+    ensures { (sc : Scenario) (book : BookView) (text : List ℕ) (t : Transcript) → length sc.workers < 2 ^ 32 → transcript_of sc book text ≡ Ok t → text ≡ spelling book t }
+{}

@@ -1,0 +1,24 @@
+//! The transcript of a finished auction: its record as a text, and back. What is written of a record can be looked at
+//! by whoever wants to check the auction, with whatever program; what is read is given to the check of a transcript.
+#![tactic(auto)]
+
+pub mod again;
+mod error;
+mod fields;
+mod head;
+mod heads;
+pub mod laws;
+mod log_lines;
+mod on_air;
+mod parts;
+pub mod read;
+mod reading;
+#[cfg(test)]
+mod samples;
+mod steps;
+#[cfg(test)]
+mod tests;
+pub mod transcript;
+pub mod write;
+
+pub use error::TextErr;

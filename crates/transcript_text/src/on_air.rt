@@ -1,0 +1,31 @@
+//! The stations on air, as a set that can be asked.
+
+ghost use Rattle.std.specs.Prelude.{◌≡◌, IsTrue, length, map};
+ghost use Rattle.pack_defs.specs.Lists.{is_ascending};
+ghost use Rattle.auction_core.specs.Clock.{on_air_by};
+
+use auction_core::clock::Standing;
+use pack_defs::station::Station;
+use packing_graph::station_set::StationSet;
+
+/// The stations of a list that stand on air, each found by halves.
+#[derive(Clone, Copy, Drop)]
+pub struct OnAir<'a> {
+    /// The stations, ascending.
+    pub stations: &'a [Station],
+    /// Where each of them stands.
+    pub standings: &'a [Standing],
+    pub ghost ascending: { IsTrue (is_ascending (map (λ x. x.id) stations.now)) },
+    pub ghost each: { length standings.now ≡ length stations.now },
+}
+
+impl<'a> StationSet for OnAir<'a> {
+    ghost stations = { λ set. on_air_by (map (λ x. x.id) set.stations.now) set.standings.now };
+
+    fn has(&self, station: u32) -> bool {
+        match self.stations.binary_search_by_key(&station, |x| x.id) {
+            Ok(i) => self.standings[i].is_on_air(),
+            Err(_) => false,
+        }
+    }
+}

@@ -1,0 +1,166 @@
+//! The reading of a whole transcript.
+
+ghost use Rattle.std.specs.Prelude.{◌≡◌};
+ghost use Rattle.pack_defs.specs.Scenario.{StationsAscend};
+ghost use Rattle.lrat_text.specs.Lines.{whole_lines};
+ghost use Rattle.transcript_text.specs.Reading.{empty_start, fit_start, order_of, start_at, start_by, text_end, transcript_of, version_at};
+ghost use Rattle.transcript_text.specs.Steps.{Gives};
+
+use crate::error::TextErr;
+use crate::fields::{LineFields, TextLines, count_at, line_end, next_field, next_line, word_at};
+use crate::log_lines::entries_at;
+use crate::steps::steps_at;
+use crate::transcript::Transcript;
+use auction_core::record::Shown;
+use lrat_text::lines::{is_whole, split_line};
+use pack_defs::book::Book;
+use pack_defs::channel_map::ChannelMap;
+use pack_defs::items::Items;
+use pack_defs::order::Order;
+use pack_defs::scenario::Scenario;
+use std::alloc::Global;
+
+// The order of a round's tests that a first line names, if it names one.
+#[tactic(auto, unfolding(crate::specs::Reading::order_of))]
+fn order_of(line: &[u8]) -> Option<Order>
+    ensures { result ≡ order_of line.now }
+{
+    if line == b"transcript 1".as_slice() {
+        return Some(Order::ByFacility);
+    }
+    if line == b"transcript 2".as_slice() {
+        return Some(Order::ByVolume);
+    }
+    None
+}
+
+// The order that the first line names, and the lines behind it.
+fn version_at(text: &[u8]) -> Result<(Order, TextLines<'_>), TextErr>
+    ensures { Gives (λ x. x) (version_at (whole_lines text.now)) result }
+{
+    let Some((line, rest)) = split_line(text) else {
+        return Err(TextErr::Truncated);
+    };
+    let Some(order) = order_of(line) else {
+        return Err(TextErr::Version);
+    };
+    let lines = TextLines {
+        number: 2,
+        text: rest,
+    };
+    Ok((order, lines))
+}
+
+// A start that fits, by so many entries.
+#[tactic(auto, unfolding(crate::specs::Reading::fit_start))]
+fn fit_start<'a>(
+    alloc: Global,
+    sc: &Scenario,
+    line: LineFields<'a>,
+    lines: TextLines<'a>,
+) -> Result<(Shown, TextLines<'a>), TextErr>
+    requires { StationsAscend sc.now }
+    ensures { Gives (λ x. x) (fit_start sc.now line.entry lines.entry) result }
+{
+    let (count, fields) = count_at(line)?;
+    line_end(fields)?;
+    let (entries, rest) = entries_at(alloc, sc, count, lines)?;
+    let delta = ChannelMap::of(alloc, &entries)?;
+    Ok((Shown::Fits(delta), rest))
+}
+
+// An empty start.
+#[tactic(auto, unfolding(crate::specs::Reading::empty_start))]
+fn empty_start<'a>(
+    line: LineFields<'a>,
+    lines: TextLines<'a>,
+) -> Result<(Shown, TextLines<'a>), TextErr>
+    ensures { Gives (λ x. x) (empty_start line.entry lines.entry) result }
+{
+    line_end(line)?;
+    Ok((Shown::Empty, lines))
+}
+
+// The start with this word, on the n-th line.
+fn start_by<'a>(
+    alloc: Global,
+    sc: &Scenario,
+    n: u64,
+    word: &[u8],
+    line: LineFields<'a>,
+    lines: TextLines<'a>,
+) -> Result<(Shown, TextLines<'a>), TextErr>
+    requires { StationsAscend sc.now }
+    ensures { Gives (λ x. x) (start_by sc.now n word.now line.entry lines.entry) result }
+{
+    if word == b"empty".as_slice() {
+        return empty_start(line, lines);
+    }
+    if word == b"fit".as_slice() {
+        return fit_start(alloc, sc, line, lines);
+    }
+    Err(TextErr::BadLine { n })
+}
+
+// How the start test was settled.
+#[tactic(auto, unfolding(crate::specs::Reading::start_at))]
+fn start_at<'a>(
+    alloc: Global,
+    sc: &Scenario,
+    lines: TextLines<'a>,
+) -> Result<(Shown, TextLines<'a>), TextErr>
+    requires { StationsAscend sc.now }
+    ensures { Gives (λ x. x) (start_at sc.now lines.entry) result }
+{
+    let n = lines.number;
+    let (line, rest) = next_line(lines)?;
+    let fields = word_at(b"start", line)?;
+    let (kind, fields) = next_field(fields)?;
+    start_by(alloc, sc, n, kind, fields, rest)
+}
+
+// That nothing stands behind the last line.
+fn text_end<'a>(whole: bool, lines: TextLines<'a>) -> Result<(), TextErr>
+    ensures { Gives (λ u. u) (text_end whole lines.entry) result }
+{
+    match split_line(lines.text) {
+        Some(_) => return Err(TextErr::BadLine { n: lines.number }),
+        None => {
+            if whole {
+                return Ok(());
+            }
+            return Err(TextErr::BadLine { n: lines.number });
+        }
+    }
+}
+
+/// The transcript that a text says, of an auction by this scenario and this book. It goes over the text once, but for
+/// the first line of a receipt's log and of a proof from outside, whose number is read before it; and for each proof
+/// over some stations it counts the clauses of these, by their pairs. It takes memory for what it read, whatever the
+/// counts say that the text states.
+///
+/// # Errors
+///
+/// `Version` where the first line is whole and names no version; `BadLine` of the first whole line that may not stand
+/// where it stands, or where any bytes stand behind the `end` line; `Truncated` where the text ends before its `end`
+/// line does; `NoMemory` where memory ran out.
+#[tactic(auto, unfolding(crate::specs::Reading::transcript_of))]
+pub fn read_transcript(
+    alloc: Global,
+    text: &[u8],
+    sc: &Scenario,
+    book: &Book,
+) -> Result<Transcript, TextErr>
+    requires { StationsAscend sc.now }
+    ensures { Gives (λ t. t) (transcript_of sc.now book.now text.now) result }
+{
+    let (order, lines) = version_at(text)?;
+    let (start, lines) = start_at(alloc, sc, lines)?;
+    let (steps, lines) = steps_at(alloc, sc, book, lines)?;
+    text_end(is_whole(text), lines)?;
+    Ok(Transcript {
+        order,
+        start,
+        steps: Items::from_vec(steps),
+    })
+}

@@ -1,0 +1,231 @@
+//! The reading of an undecided test's receipts, and of a log whose first line may have any number.
+
+ghost use Rattle.std.specs.Prelude.{◌≡◌, ◌≤◌, ◌++◌, ◌∷◌, IfOk, [], length};
+ghost use Rattle.pack_defs.specs.Scenario.{StationsAscend};
+ghost use Rattle.transcript_text.specs.Fields.{most_counted};
+ghost use Rattle.transcript_text.specs.Reading.{lines_receipt, moves_receipt, numbered_log, receipt_at, receipt_by, receipt_count, receipts_at, some_log};
+ghost use Rattle.transcript_text.specs.Steps.{Gives};
+
+use crate::error::TextErr;
+use crate::fields::{
+    LineFields, TextLines, count_at, exactly_at, line_end, next_field, next_line, number_at,
+};
+use crate::log_lines::{log_at, moves_at};
+use cert_types::answer::Receipt;
+use lrat_text::field::GREATEST;
+use pack_defs::items::Items;
+use pack_defs::scenario::Scenario;
+use rup_check::line::Log;
+use std::alloc::{AllocError as NoMemory, Global};
+use std::marker::Model;
+
+/// A log, and the number of its first line; 0 where it has none.
+#[derive(Drop)]
+pub(crate) struct NumberedLog {
+    pub(crate) log: Log,
+    pub(crate) first: u64,
+}
+
+impl Model for NumberedLog {
+    ghost use Rattle.transcript_text.specs.Reading.{FoundLog};
+
+    ghost Value = { FoundLog };
+
+    ghost view = { λ s. record { log = s.log; first = s.first } };
+}
+
+/// A receipt, and the number of its log's first line; 0 where it has none.
+#[derive(Drop)]
+pub(crate) struct NumberedReceipt {
+    receipt: Receipt,
+    first: u64,
+}
+
+impl Model for NumberedReceipt {
+    ghost use Rattle.transcript_text.specs.Reading.{FoundReceipt};
+
+    ghost Value = { FoundReceipt };
+
+    ghost view = { λ s. record { receipt = s.receipt; first = s.first } };
+}
+
+// One line of a log, or more, of which the first has any number.
+#[tactic(auto, unfolding(crate::specs::Reading::some_log))]
+fn some_log<'a>(
+    alloc: Global,
+    count: u64,
+    lines: TextLines<'a>,
+) -> Result<(NumberedLog, TextLines<'a>), TextErr>
+    requires { count ≤ most_counted }
+    ensures { Gives (λ x. x) (some_log count lines.entry) result }
+{
+    let (line, _) = next_line(lines.again())?;
+    let (first, _) = number_at(GREATEST, line)?;
+    let (log, rest) = log_at(alloc, first, count, lines)?;
+    let log = Log {
+        lines: Items::from_vec(log),
+    };
+    Ok((NumberedLog { log, first }, rest))
+}
+
+/// A log of so many lines, of which the first has any number, as the clauses that it goes on from are not known here.
+#[tactic(auto, unfolding(crate::specs::Reading::numbered_log))]
+pub(crate) fn numbered_log<'a>(
+    alloc: Global,
+    count: u64,
+    lines: TextLines<'a>,
+) -> Result<(NumberedLog, TextLines<'a>), TextErr>
+    requires { count ≤ most_counted }
+    ensures { Gives (λ x. x) (numbered_log count lines.entry) result }
+{
+    if count == 0 {
+        let log = Log {
+            lines: Items::from_vec(Vec::new(alloc)),
+        };
+        return Ok((NumberedLog { log, first: 0 }, lines));
+    }
+    some_log(alloc, count, lines)
+}
+
+// A receipt of so many lines.
+#[tactic(auto, unfolding(crate::specs::Reading::lines_receipt))]
+fn lines_receipt<'a>(
+    alloc: Global,
+    count: u64,
+    lines: TextLines<'a>,
+) -> Result<(NumberedReceipt, TextLines<'a>), TextErr>
+    requires { count ≤ most_counted }
+    ensures { Gives (λ x. x) (lines_receipt count lines.entry) result }
+{
+    let (found, rest) = numbered_log(alloc, count, lines)?;
+    let NumberedLog { log, first } = found;
+    let receipt = Receipt::Lines(log);
+    Ok((NumberedReceipt { receipt, first }, rest))
+}
+
+// Moves, as many as that.
+#[tactic(auto, unfolding(crate::specs::Reading::moves_receipt))]
+fn moves_receipt<'a>(
+    alloc: Global,
+    sc: &Scenario,
+    count: u64,
+    lines: TextLines<'a>,
+) -> Result<(NumberedReceipt, TextLines<'a>), TextErr>
+    requires { StationsAscend sc.now }
+    ensures { Gives (λ x. x) (moves_receipt sc.now count lines.entry) result }
+{
+    let (moves, rest) = moves_at(alloc, sc, count, lines)?;
+    let receipt = Receipt::Moves(Items::from_vec(moves));
+    Ok((NumberedReceipt { receipt, first: 0 }, rest))
+}
+
+// The worker and the count of a receipt's first line.
+#[tactic(auto, unfolding(crate::specs::Reading::receipt_count))]
+fn receipt_count<'a>(worker: u64, line: LineFields<'a>) -> Result<u64, TextErr>
+    ensures count { Gives (λ x. x) (receipt_count worker line.entry) result }
+    ensures few { IfOk result (λ k. k ≤ most_counted) }
+{
+    let rest = exactly_at(worker, line)?;
+    let (count, rest) = count_at(rest)?;
+    line_end(rest)?;
+    Ok(count)
+}
+
+// The receipt with this word, on the n-th line.
+fn receipt_by<'a>(
+    alloc: Global,
+    sc: &Scenario,
+    n: u64,
+    word: &[u8],
+    count: u64,
+    lines: TextLines<'a>,
+) -> Result<(NumberedReceipt, TextLines<'a>), TextErr>
+    requires ascend { StationsAscend sc.now }
+    requires few { count ≤ most_counted }
+    ensures { Gives (λ x. x) (receipt_by sc.now n word.now count lines.entry) result }
+{
+    if word == b"lines".as_slice() {
+        return lines_receipt(alloc, count, lines);
+    }
+    if word == b"moves".as_slice() {
+        return moves_receipt(alloc, sc, count, lines);
+    }
+    Err(TextErr::BadLine { n })
+}
+
+// The receipt of this worker.
+#[tactic(auto, unfolding(crate::specs::Reading::receipt_at))]
+fn receipt_at<'a>(
+    alloc: Global,
+    sc: &Scenario,
+    worker: u64,
+    lines: TextLines<'a>,
+) -> Result<(NumberedReceipt, TextLines<'a>), TextErr>
+    requires { StationsAscend sc.now }
+    ensures { Gives (λ x. x) (receipt_at sc.now worker lines.entry) result }
+{
+    let n = lines.number;
+    let (line, rest) = next_line(lines)?;
+    let (word, fields) = next_field(line)?;
+    let count = receipt_count(worker, fields)?;
+    receipt_by(alloc, sc, n, word, count, rest)
+}
+
+/// The receipts that were read, and the number of each one's first line.
+#[derive(Drop)]
+pub(crate) struct Receipts {
+    pub(crate) receipts: Vec<Receipt>,
+    pub(crate) firsts: Vec<u64>,
+}
+
+impl Model for Receipts {
+    ghost use Rattle.std.specs.Prelude.{List, ℕ};
+    ghost use Rattle.cert_types.specs.declared.answer.Receipt.{Receipt};
+
+    ghost Value = { List Receipt × List ℕ };
+
+    ghost view = { λ s. (s.receipts.items, s.firsts.items) };
+}
+
+// One receipt more.
+fn with_receipt(so_far: Receipts, found: NumberedReceipt) -> Result<Receipts, NoMemory>
+    ensures { IfOk result (λ new. new ≡ (so_far.0 ++ found.receipt ∷ [], so_far.1 ++ found.first ∷ [])) }
+{
+    let Receipts {
+        mut receipts,
+        mut firsts,
+    } = so_far;
+    let NumberedReceipt { receipt, first } = found;
+    receipts.push(receipt)?;
+    firsts.push(first)?;
+    Ok(Receipts { receipts, firsts })
+}
+
+/// A receipt of each worker.
+pub(crate) fn receipts_at<'a>(
+    alloc: Global,
+    sc: &Scenario,
+    lines: TextLines<'a>,
+) -> Result<(Receipts, TextLines<'a>), TextErr>
+    requires { StationsAscend sc.now }
+    ensures { Gives (λ x. x) (receipts_at sc.now 0 (length sc.now.workers) lines.entry) result }
+{
+    let mut so_far = Receipts {
+        receipts: Vec::new(alloc),
+        firsts: Vec::new(alloc),
+    };
+    let mut rest = lines;
+    for worker in 0..sc.workers.as_slice().len() {
+        match receipt_at(alloc, sc, worker as u64, rest) {
+            Ok((found, after)) => {
+                rest = after;
+                match with_receipt(so_far, found) {
+                    Ok(next) => so_far = next,
+                    Err(_) => return Err(TextErr::NoMemory),
+                }
+            }
+            Err(why) => return Err(why),
+        }
+    }
+    Ok((so_far, rest))
+}

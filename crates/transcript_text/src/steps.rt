@@ -1,0 +1,216 @@
+//! The reading of a transcript's steps.
+
+ghost use Rattle.std.specs.Prelude.{◌≡◌, ◌≤◌, length};
+ghost use Rattle.pack_defs.specs.Scenario.{StationsAscend};
+ghost use Rattle.transcript_text.specs.Fields.{most_counted};
+ghost use Rattle.transcript_text.specs.Reading.{IsCounted, fit_step, log_step, next_step, outside_step, step_at, step_of, steps_at, undecided_step};
+ghost use Rattle.transcript_text.specs.Steps.{Gives};
+
+use crate::error::TextErr;
+use crate::fields::{TextLines, next_line, word_at};
+use crate::head::{Head, StepTest};
+use crate::heads::head_at;
+use crate::log_lines::{entries_at, log_at, stations_of};
+use crate::reading::{NumberedLog, Receipts, numbered_log, receipts_at};
+use crate::transcript::TranscriptStep;
+use auction_core::record::{Shown, Step};
+use cert_types::answer::Refutation;
+use cert_types::outside::OutsideProof;
+use cnf_encode::count::clause_count;
+use pack_defs::book::Book;
+use pack_defs::channel_map::ChannelMap;
+use pack_defs::items::Items;
+use pack_defs::scenario::Scenario;
+use rup_check::line::Log;
+use std::alloc::Global;
+
+// A step of a transcript.
+fn step_of(test: StepTest, shown: Shown, firsts: Vec<u64>) -> TranscriptStep
+    ensures { result ≡ step_of test shown firsts.items }
+{
+    TranscriptStep {
+        step: Step {
+            round: test.round,
+            station: test.station,
+            shown,
+        },
+        firsts: Items::from_vec(firsts),
+    }
+}
+
+// A test that fits, by so many entries.
+#[tactic(auto, unfolding(crate::specs::Reading::fit_step))]
+fn fit_step<'a>(
+    alloc: Global,
+    sc: &Scenario,
+    test: StepTest,
+    count: u64,
+    lines: TextLines<'a>,
+) -> Result<(TranscriptStep, TextLines<'a>), TextErr>
+    requires { StationsAscend sc.now }
+    ensures { Gives (λ x. x) (fit_step sc.now test count lines.entry) result }
+{
+    let (entries, rest) = entries_at(alloc, sc, count, lines)?;
+    let delta = ChannelMap::of(alloc, &entries)?;
+    let step = step_of(test, Shown::Fits(delta), Vec::new(alloc));
+    Ok((step, rest))
+}
+
+// The subset on the line behind the first, and the log over its clauses.
+#[tactic(auto, unfolding(crate::specs::Reading::log_step))]
+fn log_step<'a>(
+    alloc: Global,
+    sc: &Scenario,
+    book: &Book,
+    test: StepTest,
+    worker: u32,
+    count: u64,
+    lines: TextLines<'a>,
+) -> Result<(TranscriptStep, TextLines<'a>), TextErr>
+    requires ascend { StationsAscend sc.now }
+    requires few { count ≤ most_counted }
+    ensures { Gives (λ x. x) (log_step sc.now book.now test worker count lines.entry) result }
+{
+    let (line, rest) = next_line(lines)?;
+    let line = word_at(b"on", line)?;
+    let subset = stations_of(alloc, sc, line.number, line.into_left())?;
+    let first = clause_count(book, &subset) + 1;
+    let (log, rest) = log_at(alloc, first, count, rest)?;
+    let how = Refutation::Proof {
+        subset: Items::from_vec(subset),
+        log: Log {
+            lines: Items::from_vec(log),
+        },
+    };
+    let step = step_of(test, Shown::Refuted { worker, how }, Vec::new(alloc));
+    Ok((step, rest))
+}
+
+// A log whose first line may have any number.
+#[tactic(auto, unfolding(crate::specs::Reading::outside_step))]
+fn outside_step<'a>(
+    alloc: Global,
+    test: StepTest,
+    count: u64,
+    lines: TextLines<'a>,
+) -> Result<(TranscriptStep, TextLines<'a>), TextErr>
+    requires { count ≤ most_counted }
+    ensures { Gives (λ x. x) (outside_step test count lines.entry) result }
+{
+    let (found, rest) = numbered_log(alloc, count, lines)?;
+    let NumberedLog { log, first } = found;
+    let firsts = vec![in alloc; first]?;
+    let step = step_of(test, Shown::Outside(OutsideProof { log }), firsts);
+    Ok((step, rest))
+}
+
+// A receipt of each worker.
+#[tactic(auto, unfolding(crate::specs::Reading::undecided_step))]
+fn undecided_step<'a>(
+    alloc: Global,
+    sc: &Scenario,
+    test: StepTest,
+    lines: TextLines<'a>,
+) -> Result<(TranscriptStep, TextLines<'a>), TextErr>
+    requires { StationsAscend sc.now }
+    ensures { Gives (λ x. x) (undecided_step sc.now test lines.entry) result }
+{
+    let (found, rest) = receipts_at(alloc, sc, lines)?;
+    let Receipts { receipts, firsts } = found;
+    let shown = Shown::Undecided(Items::from_vec(receipts));
+    Ok((step_of(test, shown, firsts), rest))
+}
+
+// The step of this first line, if it isn't the last line.
+#[tactic(auto, unfolding(crate::specs::Reading::step_at))]
+fn step_at<'a>(
+    alloc: Global,
+    sc: &Scenario,
+    book: &Book,
+    head: Head,
+    lines: TextLines<'a>,
+) -> Result<(Option<TranscriptStep>, TextLines<'a>), TextErr>
+    requires ascend { StationsAscend sc.now }
+    requires few { IsCounted head }
+    ensures { Gives (λ x. x) (step_at sc.now book.now head lines.entry) result }
+{
+    match head {
+        Head::Fit { test, count } => {
+            let (step, rest) = fit_step(alloc, sc, test, count, lines)?;
+            return Ok((Some(step), rest));
+        }
+        Head::Same { test } => {
+            let step = step_of(test, Shown::Same, Vec::new(alloc));
+            return Ok((Some(step), lines));
+        }
+        Head::NoChannel { test } => {
+            let shown = Shown::NoChannel(test.station);
+            return Ok((Some(step_of(test, shown, Vec::new(alloc))), lines));
+        }
+        Head::Log {
+            test,
+            worker,
+            count,
+        } => {
+            let (step, rest) = log_step(alloc, sc, book, test, worker, count, lines)?;
+            return Ok((Some(step), rest));
+        }
+        Head::Dead { test, worker, pair } => {
+            let how = Refutation::Dead(pair);
+            let shown = Shown::Refuted { worker, how };
+            return Ok((Some(step_of(test, shown, Vec::new(alloc))), lines));
+        }
+        Head::Outside { test, count } => {
+            let (step, rest) = outside_step(alloc, test, count, lines)?;
+            return Ok((Some(step), rest));
+        }
+        Head::Undecided { test } => {
+            let (step, rest) = undecided_step(alloc, sc, test, lines)?;
+            return Ok((Some(step), rest));
+        }
+        Head::End => return Ok((None, lines)),
+    }
+}
+
+// The next step, after this many; none at the last line.
+#[tactic(auto, unfolding(crate::specs::Reading::next_step))]
+fn next_step<'a>(
+    alloc: Global,
+    sc: &Scenario,
+    book: &Book,
+    steps: u64,
+    lines: TextLines<'a>,
+) -> Result<(Option<TranscriptStep>, TextLines<'a>), TextErr>
+    requires { StationsAscend sc.now }
+    ensures { Gives (λ x. x) (next_step sc.now book.now steps lines.entry) result }
+{
+    let (line, rest) = next_line(lines)?;
+    let head = head_at(sc, steps, line)?;
+    step_at(alloc, sc, book, head, rest)
+}
+
+/// The steps, up to the last line.
+pub(crate) fn steps_at<'a>(
+    alloc: Global,
+    sc: &Scenario,
+    book: &Book,
+    lines: TextLines<'a>,
+) -> Result<(Vec<TranscriptStep>, TextLines<'a>), TextErr>
+    requires { StationsAscend sc.now }
+    ensures { Gives (λ x. (x.0.items, x.1)) (steps_at sc.now book.now (length lines.entry.left) 0 lines.entry) result }
+{
+    let mut steps = Vec::new(alloc);
+    let mut rest = lines;
+    loop {
+        match next_step(alloc, sc, book, steps.len() as u64, rest) {
+            Ok((next, after)) => match next {
+                Some(step) => {
+                    rest = after;
+                    steps.push(step)?;
+                }
+                None => return Ok((steps, after)),
+            },
+            Err(why) => return Err(why),
+        }
+    }
+}

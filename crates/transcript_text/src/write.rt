@@ -1,0 +1,114 @@
+//! The transcript of a finished record, as a text. The steps are written in turn, beside a clock of their own: it
+//! says which stations are on air when a step's test is asked, hence over how many clauses the step's logs are
+//! numbered.
+
+ghost use Rattle.std.specs.Prelude.{◌≡◌, ◌≤◌, ◌+◌, ◌<◌, ◌^◌, IfOk, IsFalse, IsTrue, MatchOption, length, map, slice_index};
+ghost use Rattle.std.specs.List.Sorted.{IsStrictlyIncreasing};
+ghost use Rattle.pack_defs.specs.ClockRule.{ClockState};
+ghost use Rattle.pack_defs.specs.Lists.{is_in};
+ghost use Rattle.pack_defs.specs.Scenario.{IsWithinLimits, StationsAscend, facilities};
+ghost use Rattle.auction_core.specs.Backed.{IsBacked};
+ghost use Rattle.auction_core.specs.Clock.{AreStandings};
+ghost use Rattle.auction_core.specs.State.{tested_set};
+ghost use Rattle.transcript_text.specs.Spelling.{clauses_in, firsts_of, transcript_text};
+
+use crate::on_air::OnAir;
+use crate::parts::{push_end, push_start, push_step, push_version};
+use auction_core::clock::Clock;
+use auction_core::record::{Ending, Record, Shown, Step};
+use cnf_encode::count::clause_count;
+use offer_sched::offers::schedule;
+use pack_defs::book::Book;
+use pack_defs::scenario::Scenario;
+use pack_defs::station::Station;
+use packing_graph::component::component_among;
+use std::alloc::{AllocError as NoMemory, Global};
+
+// The place of the station of this number.
+fn place_of(stations: &[Station], id: u32) -> Option<usize>
+    requires { IsStrictlyIncreasing (map (λ x. x.id) stations.now) }
+    ensures { MatchOption result (IsFalse (is_in (map (λ x. x.id) stations.now) id))
+        (λ i. (i < length stations.now) × (slice_index (map (λ x. x.id) stations.now) i ≡ id)) }
+{
+    stations
+        .binary_search_by_key(&id, |station| station.id)
+        .ok()
+}
+
+// How many clauses the formula of a test's set has: of the stations that its station reaches among those on air.
+fn test_clauses(
+    alloc: Global,
+    sc: &Scenario,
+    book: &Book,
+    clock: &Clock,
+    station: u32,
+) -> Result<u64, NoMemory>
+    requires ascend { StationsAscend sc.now }
+    requires known { IsTrue (is_in (facilities sc.now) station) }
+    requires stations { length clock.now ≡ length sc.now.stations }
+    ensures count { IfOk result (λ n. (st : ClockState) → AreStandings sc.now st clock.now → n ≡ clauses_in book.now (tested_set sc.now book.now st station)) }
+    ensures few { IfOk result (λ n. n + 1000001 ≤ 2 ^ 63) }
+{
+    let on_air = OnAir {
+        stations: sc.stations.as_slice(),
+        standings: clock.standings(),
+    };
+    let set = component_among(alloc, book, &on_air, station)?;
+    Ok(clause_count(book, &set))
+}
+
+// How many clauses the logs of a step go on from: of its test's set, where it has a log over that; else none is
+// counted.
+fn log_clauses(
+    alloc: Global,
+    sc: &Scenario,
+    book: &Book,
+    clock: &Clock,
+    step: &Step,
+) -> Result<u64, NoMemory>
+    requires ascend { StationsAscend sc.now }
+    requires known { IsTrue (is_in (facilities sc.now) step.now.station) }
+    requires stations { length clock.now ≡ length sc.now.stations }
+    ensures count { IfOk result (λ n. (st : ClockState) → AreStandings sc.now st clock.now → firsts_of n step.now.shown ≡ firsts_of (clauses_in book.now (tested_set sc.now book.now st step.now.station)) step.now.shown) }
+    ensures few { IfOk result (λ n. n + 1000001 ≤ 2 ^ 63) }
+{
+    match &step.shown {
+        Shown::Outside(_) | Shown::Undecided(_) => {
+            return test_clauses(alloc, sc, book, clock, step.station);
+        }
+        Shown::Empty | Shown::Fits(_) | Shown::Same => return Ok(0),
+        Shown::NoChannel(_) | Shown::Refuted { .. } => return Ok(0),
+    }
+}
+
+/// The transcript of a record, as a text: its first line says in which order a round tests the stations, then come
+/// the start, each step, and a last line that counts the steps. The book is the one by which the record is backed.
+/// The text is written once from its start to its end; a step costs what it has to say, one with a proof also what the
+/// pairs of the proof's stations cost, and one that is undecided or shown from outside what its test's stations and
+/// their pairs cost. The only error is want of memory.
+pub fn write_transcript(alloc: Global, rec: &Record, book: &Book) -> Result<Vec<u8>, NoMemory>
+    requires backed { IsBacked rec.now.scenario book.now rec.now.order rec.now }
+    requires done { rec.now.ending ≡ Ending.Done }
+    requires limits { IsWithinLimits rec.now.scenario }
+    ensures { IfOk result (λ text. text.items ≡ transcript_text rec.now.scenario book.now rec.now) }
+{
+    let _stations = book.len();
+    let sc = &rec.scenario;
+    let prices = schedule(alloc, sc)?;
+    let mut clock = Clock::open(alloc, sc)?;
+    let mut text = Vec::new(alloc);
+    push_version(&mut text, rec.order)?;
+    push_start(&mut text, &rec.start)?;
+    for step in rec.steps.as_slice() {
+        match place_of(sc.stations.as_slice(), step.station) {
+            Some(i) => {
+                let clauses = log_clauses(alloc, sc, book, &clock, step)?;
+                push_step(&mut text, book, clauses, step)?;
+                clock.settle(sc, &prices, i, step.round, step.shown.shows_room());
+            }
+            None => unreachable!(),
+        }
+    }
+    push_end(&mut text, rec.steps.as_slice().len() as u64)?;
+    Ok(text)
+}
