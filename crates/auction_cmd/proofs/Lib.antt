@@ -1,4 +1,5 @@
 pub mod EndLemmas
+pub mod FeedLemmas
 pub mod PlanLemmas
 pub mod PromiseLemmas
 pub mod ReadingLemmas

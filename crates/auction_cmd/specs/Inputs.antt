@@ -2,6 +2,8 @@
 use Rattle.std.specs.Prelude.{◌≡◌, ◌≤◌, ℕ, Bool, true, nat_lt, if◌then◌else◌, List, length, Option, Some, None, Result, Ok, Err, ⊤}
 use Rattle.outside_io.specs.Faults.{HasRisen}
 use Rattle.outside_io.specs.Files.{StoredFile, bytes_of}
+use Rattle.outside_io.specs.declared.folder.LoadErr.{LoadErr}
+use Rattle.outside_io.specs.declared.folder.LoadErr.TheVariants.{Failed, TooLong as LongFile, NoMemory as NoLoad}
 use Rattle.constraint_files.specs.Domains.{domains_of}
 use Rattle.constraint_files.specs.Rows.{PairsView, pairs_of}
 use Rattle.constraint_files.specs.declared.error.ReadErr.{ReadErr}
@@ -40,11 +42,21 @@ bytes_within input (Some bytes) =
 abbrev pub file_of : List StoredFile → List ℕ → Input → Result (List ℕ) Stop
 file_of files name input = bytes_within input (bytes_of files name)
 
+-- why the reading of a file stops, where the folder answers so
+abbrev pub stop_of : LoadErr → Input → Stop
+stop_of Failed input = CannotRead input
+stop_of LongFile input = Refused (TooLong input)
+stop_of NoLoad input = NoMemory
+
+-- why the reading of a constraint file stops, where its reader answers so
+abbrev pub refused_by : Input → ReadErr → Stop
+refused_by input (RefusedRow line why) = Refused (Row input line why)
+refused_by input NoRoom = NoMemory
+
 -- what a constraint file holds, or which of its records is refused
 abbrev pub rows_read : {A : Type 0} → Input → Result A ReadErr → Result A Stop
 rows_read input (Ok x) = Ok x
-rows_read input (Err (RefusedRow line why)) = Err (Refused (Row input line why))
-rows_read input (Err NoRoom) = Err NoMemory
+rows_read input (Err why) = Err (refused_by input why)
 
 -- the scenario that a file holds, or why it is refused
 abbrev pub scenario_read : Result Scenario ScenarioErr → Result Scenario Stop

@@ -2,6 +2,7 @@ pub mod Counts
 pub mod Ends
 pub mod Inputs
 pub mod Outside
+pub mod Pieces
 pub mod Plan
 pub mod Promises
 pub mod Refusals

@@ -107,7 +107,7 @@ pub record IsLeftOpen (files : List StoredFile) (names : RunNames) (before after
   pub auction : IsOpenRecordOf inputs rec
   pub line : IsSaid before after open_line
 
--- the status is this one; or else memory ran out, or a load of a folder that isn't steady failed
+-- the status is this one; or else memory ran out, or a folder that isn't steady failed to hand out a file
 abbrev pub IsOr : ℕ → Outside → ℕ → Type 0
 IsOr wanted before status = (status ≡ wanted) ⊎ ((status ≡ 8) ⊎ ((status ≡ 3) × (before.steady ≢ true)))
 

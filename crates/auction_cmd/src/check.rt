@@ -29,7 +29,7 @@ fn counts(alloc: Global, inputs: &Inputs) -> Result<Vec<u8>, NoMemory>
 }
 
 /// Reads the inputs and writes how many stations and pairs the book has, and how many fields of the rows file pair a
-/// station with itself, and name one without a domain row. It stores nothing.
+/// station with itself, and how many others are of a pair one of whose stations has no domain row. It stores nothing.
 pub fn check<F: Folder, K: Sink>(
     alloc: Global,
     files: &InputArgs<'_>,

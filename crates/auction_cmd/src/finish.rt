@@ -1,3 +1,5 @@
+//! How the program ended: its status, and the record where it comes back.
+
 ghost use Rattle.std.specs.Prelude.{◌≡◌, None, Some};
 
 use auction_core::record::Record;

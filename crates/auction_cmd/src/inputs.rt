@@ -2,19 +2,15 @@
 
 ghost use Rattle.std.specs.Prelude.{◌≡◌, List, Some, IfOk};
 ghost use Rattle.outside_io.specs.Files.{StoredFile};
-ghost use Rattle.constraint_files.specs.Domains.{domains_of};
-ghost use Rattle.constraint_files.specs.Rows.{pairs_of};
 ghost use Rattle.pack_defs.specs.Book.{stations_of};
 ghost use Rattle.pack_defs.specs.Scenario.{IsWithinLimits, facilities};
 ghost use Rattle.scenario_json.specs.ScenarioOf.{scenario_of};
-ghost use Rattle.auction_cmd.specs.Inputs.{Agrees, CountsFault, and_then, file_of, inputs_of, rows_read, scenario_read};
+ghost use Rattle.auction_cmd.specs.Inputs.{Agrees, CountsFault, and_then, file_of, inputs_of, scenario_read, stop_of};
 ghost use Rattle.auction_cmd.specs.Words.{inputs_seen};
 
+use crate::constraints::{domains_from, pairs_from};
 use crate::refusal::{Input, Refusal};
 use crate::words::InputArgs;
-use constraint_files::domains::{Domains, read_domains};
-use constraint_files::error::{ReadErr, RowWhy};
-use constraint_files::pairs::{Pairs, read_pairs};
 use outside_io::folder::{Folder, LoadErr};
 use pack_defs::book::Book;
 use pack_defs::scenario::Scenario;
@@ -23,8 +19,8 @@ use scenario_json::join::{JoinErr, join};
 use scenario_json::scenario::read_scenario;
 use std::alloc::Global;
 
-// The greatest length of an input file, in bytes.
-const FILE_LIMIT: u64 = 268_435_456;
+/// The greatest length of an input file, in bytes.
+pub(crate) const FILE_LIMIT: u64 = 268_435_456;
 
 /// Why the inputs were not read.
 #[derive(Clone, Copy, Debug, PartialEq, Eq)]
@@ -48,6 +44,17 @@ pub struct Inputs {
     pub strangers: u64,
 }
 
+/// Why the reading of an input file stops, where the folder answers so.
+pub(crate) fn stop_of(why: LoadErr, input: Input) -> Stop
+    ensures { result ≡ stop_of why input }
+{
+    match why {
+        LoadErr::Failed => Stop::CannotRead(input),
+        LoadErr::TooLong => Stop::Refused(Refusal::TooLong(input)),
+        LoadErr::NoMemory => Stop::NoMemory,
+    }
+}
+
 // The bytes of an input file.
 fn load<F: Folder>(alloc: Global, folder: &mut F, name: &str, input: Input) -> Result<Vec<u8>, Stop>
     ensures told { (files : List StoredFile) → F.files folder.old ≡ Some files →
@@ -59,53 +66,7 @@ fn load<F: Folder>(alloc: Global, folder: &mut F, name: &str, input: Input) -> R
     let mut bytes = Vec::new(alloc);
     match folder.load(name, FILE_LIMIT, &mut bytes) {
         Ok(()) => Ok(bytes),
-        Err(LoadErr::Failed) => Err(Stop::CannotRead(input)),
-        Err(LoadErr::TooLong) => Err(Stop::Refused(Refusal::TooLong(input))),
-        Err(LoadErr::NoMemory) => Err(Stop::NoMemory),
-    }
-}
-
-// The reading stops at this line of a constraint file.
-fn refused_row(input: Input, line: u64, why: RowWhy) -> Stop
-    ensures { result ≡ Stop.Refused (Refusal.Row input line why) }
-{
-    Stop::Refused(Refusal::Row { input, line, why })
-}
-
-// The domains that a file holds.
-fn domains_from<F: Folder>(alloc: Global, folder: &mut F, name: &str) -> Result<Domains, Stop>
-    ensures told { (files : List StoredFile) → F.files folder.old ≡ Some files →
-        Agrees (λ d. d) (F.steady folder.old) (and_then (file_of files name.now Input.Domains) (λ bytes. rows_read Input.Domains (domains_of bytes))) result }
-    ensures files { F.files folder.new ≡ F.files folder.old }
-    ensures steady { F.steady folder.new ≡ F.steady folder.old }
-    ensures counted { CountsFault (F.faults folder.old) (F.faults folder.new) result }
-{
-    let bytes = load(alloc, folder, name, Input::Domains)?;
-    match read_domains(alloc, &bytes) {
-        Ok(domains) => Ok(domains),
-        Err(ReadErr::Row { line, why }) => Err(refused_row(Input::Domains, line, why)),
-        Err(ReadErr::NoMemory) => Err(Stop::NoMemory),
-    }
-}
-
-// The pairs that a file holds, over these domains.
-fn pairs_from<F: Folder>(
-    alloc: Global,
-    folder: &mut F,
-    name: &str,
-    domains: &Domains,
-) -> Result<Pairs, Stop>
-    ensures told { (files : List StoredFile) → F.files folder.old ≡ Some files →
-        Agrees (λ p. p) (F.steady folder.old) (and_then (file_of files name.now Input.Rows) (λ bytes. rows_read Input.Rows (pairs_of bytes domains.now))) result }
-    ensures files { F.files folder.new ≡ F.files folder.old }
-    ensures steady { F.steady folder.new ≡ F.steady folder.old }
-    ensures counted { CountsFault (F.faults folder.old) (F.faults folder.new) result }
-{
-    let bytes = load(alloc, folder, name, Input::Rows)?;
-    match read_pairs(alloc, &bytes, domains) {
-        Ok(pairs) => Ok(pairs),
-        Err(ReadErr::Row { line, why }) => Err(refused_row(Input::Rows, line, why)),
-        Err(ReadErr::NoMemory) => Err(Stop::NoMemory),
+        Err(why) => Err(stop_of(why, input)),
     }
 }
 

@@ -3,6 +3,7 @@
 
 pub mod auction;
 mod check;
+mod constraints;
 mod explain;
 pub mod finish;
 pub mod inputs;

@@ -202,6 +202,24 @@ fn too_many_domains_are_refused(rt: HostRuntime) -> Result<(), Fail> {
     Ok(())
 }
 
+// Whether a check of the three stations, over rows of so many bytes, leaves what these facts say.
+fn leaves_over(alloc: Global, length: usize, facts: &str) -> Result<bool, NoMemory> {
+    let rows = "\n".repeat(alloc, length)?;
+    let scene = Scene {
+        command: CHECK,
+        rows: &rows,
+        ..RUN
+    };
+    leaves(alloc, &scene, facts)
+}
+
+#[test]
+fn a_file_one_byte_too_long_is_refused(rt: HostRuntime) -> Result<(), Fail> {
+    let facts = "status 5; said: r.csv: too long\n; nothing stored; no record; inputs kept";
+    assert!(rt; leaves_over(rt.alloc(), 268_435_457, facts)?);
+    Ok(())
+}
+
 #[test]
 fn output_names_given_twice_are_refused(rt: HostRuntime) -> Result<(), Fail> {
     let table = [

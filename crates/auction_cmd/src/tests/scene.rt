@@ -26,6 +26,8 @@ pub enum Change<'a> {
     Bare,
     // The folder's call of this number fails.
     Call(u64),
+    // The input of this name holds this text, and the folder's call of this number fails.
+    Stops(&'a str, &'a str, u64),
     // The sink's write of this number fails.
     Write(u64),
 }
@@ -83,6 +85,7 @@ fn scenario_of(alloc: Global, scene: &Scene<'_>) -> Result<String, NoMemory> {
 fn held<'a>(change: Change<'a>, name: &str, text: &'a str) -> Option<&'a [u8]> {
     match change {
         Change::Holds(at, other) if at == name => Some(other.as_bytes()),
+        Change::Stops(at, other, _) if at == name => Some(other.as_bytes()),
         Change::Garbled(at) if at == name => Some(NO_TEXT),
         Change::Missing(at) if at == name => None,
         Change::Bare => None,
@@ -127,7 +130,7 @@ fn words_of(alloc: Global, line: &str) -> Result<Vec<String>, NoMemory> {
 fn folder_of(alloc: Global, scene: &Scene<'_>) -> Result<MemoryFolder, NoMemory> {
     let files = inputs_of(alloc, scene)?;
     let failing = match scene.change {
-        Change::Call(call) => Vec::from_slice(alloc, &[call])?,
+        Change::Call(call) | Change::Stops(_, _, call) => Vec::from_slice(alloc, &[call])?,
         _ => Vec::new(alloc),
     };
     Ok(MemoryFolder::new(files, failing))
@@ -180,7 +183,7 @@ fn counted_text(
     folder: &MemoryFolder,
 ) -> Result<String, NoMemory> {
     match scene.change {
-        Change::Call(_) => faults_text(alloc, folder),
+        Change::Call(_) | Change::Stops(_, _, _) => faults_text(alloc, folder),
         _ => String::from_str(alloc, "no call fails"),
     }
 }

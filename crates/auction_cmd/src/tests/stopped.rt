@@ -26,6 +26,7 @@ fn first_untrue_of<'a>(
 #[test]
 fn the_folder_or_the_sink_fails(rt: HostRuntime) -> Result<(), Fail> {
     let table = [
+        // Domains and rows are begun and handed out in pieces, of which the last is empty; the scenario is one load.
         (
             COMMAND,
             Change::Call(1),
@@ -33,18 +34,29 @@ fn the_folder_or_the_sink_fails(rt: HostRuntime) -> Result<(), Fail> {
         ),
         (
             COMMAND,
-            Change::Call(2),
+            Change::Call(4),
             "status 3; said: cannot read r.csv\n; nothing stored; no record; faults: 1",
         ),
         (
             COMMAND,
-            Change::Call(3),
+            Change::Call(5),
+            "status 3; said: cannot read r.csv\n; nothing stored; no record; faults: 1",
+        ),
+        (
+            COMMAND,
+            Change::Call(7),
             "status 3; said: cannot read s.json\n; nothing stored; no record; faults: 1",
         ),
         (
             COMMAND,
-            Change::Call(4),
+            Change::Call(8),
             "status 4; said: cannot write out.csv\n; nothing stored; a record; faults: 1",
+        ),
+        // Behind a line that is refused nothing is read.
+        (
+            COMMAND,
+            Change::Stops("d.csv", "DOMAIN,1,x\n", 3),
+            "status 5; said: d.csv: line 1: bad number\n; nothing stored; no record; faults: 0",
         ),
         (
             COMMAND,
@@ -65,17 +77,17 @@ fn the_folder_or_the_sink_fails(rt: HostRuntime) -> Result<(), Fail> {
         ),
         (
             CHECK,
-            Change::Call(1),
+            Change::Call(2),
             "status 3; said: cannot read d.csv\n; nothing stored; no record",
         ),
         (
             CHECK,
-            Change::Call(2),
+            Change::Call(6),
             "status 3; said: cannot read r.csv\n; nothing stored; no record",
         ),
         (
             CHECK,
-            Change::Call(3),
+            Change::Call(7),
             "status 3; said: cannot read s.json\n; nothing stored; no record",
         ),
         (
