@@ -1,5 +1,5 @@
 -- The order of pairs in a tree is the order that the definitions give them.
-use Rattle.std.proofs.Common.{◌≡◌, ◌<◌, ◌&&◌, ◌||◌, ◌∷◌, [], ℕ, List, Bool, true, false, Ordering, refl, sym, arith, nat_cmp, eqb, ltb}
+use Rattle.std.proofs.Common.{◌≡◌, ◌<◌, ◌≤◌, ◌+◌, ◌&&◌, ◌||◌, ◌∷◌, [], ℕ, List, Bool, true, false, Ordering, refl, sym, arith, cond, fold, length, nat_cmp, eqb, ltb}
 use Rattle.std.specs.declared.cmp.Ordering.TheVariants.{Less, Equal, Greater}
 use Rattle.std.specs.Ordering.{ordering_then}
 use Rattle.std.specs.BTreeSet.{insert_key}
@@ -48,3 +48,27 @@ insert-pair (q ∷ qs) p = go (pair_cmp p q) refl (ranks p q) (insert-pair qs p)
     go Less is r later = rw (is, r.0, r.1) refl
     go Equal is r later = rw (is, r.0, r.1) refl
     go Greater is r later = rw (is, r, later) refl
+
+-- the same of some pairs
+pub insert-pairs : (ks ps : List Pair) → fold (insert_key pair_cmp) ks ps ≡ fold with_pair ks ps
+insert-pairs ks [] = refl
+insert-pairs ks (p ∷ ps) = rw (insert-pair ks p) (insert-pairs (with_pair ks p) ps)
+
+-- a pair more
+with-few : (ks : List Pair) (p : Pair) → length (with_pair ks p) ≤ length ks + 1
+with-few [] p = omega arith
+with-few (q ∷ qs) p = go (comes_before q p) (comes_before p q) (with-few qs p)
+  where
+    go : (after before : Bool) → length (with_pair qs p) ≤ length qs + 1 → length (cond after (q ∷ with_pair qs p) (cond before (p ∷ q ∷ qs) (q ∷ qs))) ≤ length (q ∷ qs) + 1
+    go true before later = omega (arith, later)
+    go false true later = omega arith
+    go false false later = omega arith
+
+-- pairs are at most as many as were put
+pub puts-few : (ks ps : List Pair) → length (fold with_pair ks ps) ≤ length ks + length ps
+puts-few ks [] = omega arith
+puts-few ks (p ∷ ps) = omega (arith, puts-few (with_pair ks p) ps, with-few ks p)
+
+pub none-left : (ks : List Pair) → length ks ≡ 0 → ks ≡ []
+none-left [] e = refl
+none-left (k ∷ ks) e = absurd (omega (arith, e))

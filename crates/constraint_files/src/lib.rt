@@ -7,6 +7,7 @@ mod domain_table;
 pub mod domains;
 pub mod error;
 pub mod field;
+mod in_order;
 mod interference_row;
 mod line_reader;
 mod pair_table;

@@ -1,6 +1,6 @@
 //! The pairs of the records read so far.
 
-ghost use Rattle.std.specs.Prelude.{◌≡◌, ◌+◌, [], ℕ, List, Option, fold, IfOk, OnOk, option_map};
+ghost use Rattle.std.specs.Prelude.{◌≡◌, ◌+◌, [], ℕ, List, Option, fold, IfOk, OnOk, length, nat_lt, option_map};
 ghost use Rattle.pack_defs.specs.Lists.{is_in};
 ghost use Rattle.constraint_files.specs.Domains.{channels_of};
 ghost use Rattle.constraint_files.specs.Reads.{Changes};
@@ -8,6 +8,7 @@ ghost use Rattle.constraint_files.specs.Rows.{add_row, add_row_over, pair_of, wi
 
 use crate::domains::Domains;
 use crate::error::{RowErr, RowWhy};
+use crate::in_order::in_order;
 use crate::interference_row::{Row, interference_row};
 use crate::plain_lines::one_more;
 use crate::record::Record;
@@ -16,24 +17,29 @@ use pack_defs::pair::Pair;
 use std::alloc::{AllocError as NoMemory, Global};
 use std::collections::BTreeSet;
 use std::marker::Model;
+use std::mem;
 
 /// The greatest number of pairs.
 const MOST_PAIRS: usize = 4_000_000;
 
-/// What the records read so far say.
+/// What the records read so far say. The pairs that were told of last lie as they came, each as often as it came, since a
+/// list of them is soon sorted. They go into the tree only where all that came are so many that their number must be known
+/// after each record.
 #[derive(Drop)]
 pub(crate) struct PairTable {
-    pairs: BTreeSet<Pair>,
+    tree: BTreeSet<Pair>,
+    last: Vec<Pair>,
     self_pairs: u64,
     strangers: u64,
 }
 
 impl Model for PairTable {
-    ghost use Rattle.constraint_files.specs.Rows.{PairsView};
+    ghost use Rattle.std.specs.Prelude.{fold};
+    ghost use Rattle.constraint_files.specs.Rows.{PairsView, with_pair};
 
     ghost Value = { PairsView };
 
-    ghost view = { λ t. record { list = t.pairs.keys; self_pairs = t.self_pairs; strangers = t.strangers } };
+    ghost view = { λ t. record { list = fold with_pair t.tree.keys t.last.items; self_pairs = t.self_pairs; strangers = t.strangers } };
 }
 
 /// The pair of `s` on channel `a` and `t` on channel `b`, with the lesser station first.
@@ -62,12 +68,54 @@ fn own_channel(domains: &Domains, row: &Row) -> Option<bool>
     }
 }
 
+/// Puts a pair into a tree, if it isn't there yet.
+fn put_in_tree(tree: &mut BTreeSet<Pair>, pair: Pair) -> Result<(), NoMemory>
+    ensures { OnOk result (tree.new.keys ≡ with_pair tree.old.keys pair) }
+{
+    tree.insert(pair)?;
+    Ok(())
+}
+
+/// Puts these pairs into a tree.
+fn put_all(tree: &mut BTreeSet<Pair>, pairs: Vec<Pair>) -> Result<(), NoMemory>
+    ensures { OnOk result (tree.new.keys ≡ fold with_pair tree.old.keys pairs.items) }
+{
+    for pair in pairs {
+        put_in_tree(tree, pair)?;
+    }
+    Ok(())
+}
+
+/// The pairs of a tree after these are put into it, ascending.
+fn in_tree(alloc: Global, tree: BTreeSet<Pair>, pairs: Vec<Pair>) -> Result<Vec<Pair>, NoMemory>
+    ensures { IfOk result (λ list. list.items ≡ fold with_pair tree.keys pairs.items) }
+{
+    let mut tree = tree;
+    put_all(&mut tree, pairs)?;
+    let mut list = Vec::with_capacity(alloc, tree.len())?;
+    for pair in tree {
+        list.push(pair)?;
+    }
+    Ok(list)
+}
+
+/// The same. Pairs that no tree has yet are sorted.
+fn ascending(alloc: Global, tree: BTreeSet<Pair>, pairs: Vec<Pair>) -> Result<Vec<Pair>, NoMemory>
+    ensures { IfOk result (λ list. list.items ≡ fold with_pair tree.keys pairs.items) }
+{
+    if tree.is_empty() {
+        return Ok(in_order(pairs));
+    }
+    in_tree(alloc, tree, pairs)
+}
+
 impl PairTable {
     pub(crate) fn new(alloc: Global) -> PairTable
         ensures { result ≡ record { list = []; self_pairs = 0; strangers = 0 } }
     {
         PairTable {
-            pairs: BTreeSet::new(alloc),
+            tree: BTreeSet::new(alloc),
+            last: Vec::new(alloc),
             self_pairs: 0,
             strangers: 0,
         }
@@ -77,7 +125,7 @@ impl PairTable {
     fn put(&mut self, pair: Pair) -> Result<(), NoMemory>
         ensures { OnOk result (self.new ≡ record { list = with_pair self.old.list pair; self_pairs = self.old.self_pairs; strangers = self.old.strangers }) }
     {
-        self.pairs.insert(pair)?;
+        self.last.push(pair)?;
         Ok(())
     }
 
@@ -144,25 +192,45 @@ impl PairTable {
     {
         let row = interference_row(alloc, fields)?;
         self.add_row(domains, &row)?;
-        if self.pairs.len() > MOST_PAIRS {
+        if self.has_too_many(alloc)? {
             return Err(RowErr::Refused(RowWhy::TooMany));
         }
         Ok(())
+    }
+
+    /// Puts the last pairs into the tree. Gives how many it has then.
+    fn settle(&mut self, alloc: Global) -> Result<usize, NoMemory>
+        ensures same { OnOk result (self.new ≡ self.old) }
+        ensures count { IfOk result (λ n. n ≡ length self.old.list) }
+    {
+        let last = mem::replace(&mut self.last, Vec::new(alloc));
+        put_all(&mut self.tree, last)?;
+        Ok(self.tree.len())
+    }
+
+    /// Whether the pairs are more than may be.
+    fn has_too_many(&mut self, alloc: Global) -> Result<bool, NoMemory>
+        ensures same { OnOk result (self.new ≡ self.old) }
+        ensures count { IfOk result (λ b. b ≡ nat_lt 4000000 (length self.old.list)) }
+    {
+        let count = self.last.len();
+        if count <= MOST_PAIRS && self.tree.len() <= MOST_PAIRS - count {
+            return Ok(false);
+        }
+        Ok(self.settle(alloc)? > MOST_PAIRS)
     }
 
     /// The pairs, ascending, and the counts.
     pub(crate) fn into_parts(self, alloc: Global) -> Result<(Vec<Pair>, u64, u64), NoMemory>
         ensures { IfOk result (λ p. record { list = p.0.items; self_pairs = p.1; strangers = p.2 } ≡ self) }
     {
-        let mut list = Vec::with_capacity(alloc, self.pairs.len())?;
         let PairTable {
-            pairs,
+            tree,
+            last,
             self_pairs,
             strangers,
         } = self;
-        for pair in pairs {
-            list.push(pair)?;
-        }
+        let list = ascending(alloc, tree, last)?;
         Ok((list, self_pairs, strangers))
     }
 }
