@@ -218,15 +218,13 @@ rest-roomier s c room verdicts (inr query) = inr (record { turn = query.0.turn; 
 course-roomier : (s : SetupView) (c : CourseView) (room verdicts : ℕ) → IsCourse s c → IsCourse s (with_room c room verdicts)
 course-roomier s c room verdicts h = record {
   sound = h.sound;
-  standings = h.standings;
+  clock = h.clock;
   stations = h.stations;
   begun = h.begun;
   round = h.round;
   turn = h.turn;
   bid = h.bid;
   idle = λ off. let i = h.idle off in record { steps = i.steps; map = i.map; round = i.round; turn = i.turn };
-  sum = h.sum;
-  bound = h.bound;
   each = h.each;
   past = record { parts = h.past.parts; on_air = h.past.on_air; long = h.past.long; seen = h.past.seen; fits = h.past.fits };
   rule = λ running. let r = h.rule running in record { before = r.before; parts = r.parts; walked = r.walked };

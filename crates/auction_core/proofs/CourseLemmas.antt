@@ -1,70 +1,31 @@
 -- How a settled test moves what the program keeps of the clock.
-use Rattle.std.proofs.Common.{◌≡◌, ◌∙◌, ℕ, zero, suc, ◌+◌, ◌-◌, ◌*◌, ◌<◌, ◌≤◌, ◌^◌, Bool, true, false, not, cond, ◌||◌, eqb, inl, inr, List, [], ◌∷◌, ◌++◌, length, set, get_or, get_or-set_same, sum_by, All, Option, sym, ap, subst, arith, length-append}
+use Rattle.std.proofs.Common.{◌≡◌, ◌∙◌, ℕ, ◌+◌, ◌-◌, ◌<◌, ◌≤◌, Bool, true, false, not, cond, ◌||◌, eqb, inl, inr, List, [], ◌∷◌, ◌++◌, length, set, get_or, get_or-set_same, Option, sym, ap, subst, arith, length-append}
 use Rattle.std.proofs.lemmas.Bool.{false≢true, or_cases, or_right}
-use Rattle.std.proofs.Math.Nat.{mul-le-mul}
-use Rattle.std.proofs.lemmas.List.Sums.{sum_by-append}
 use Rattle.pack_defs.specs.declared.order.Order.{Order}
 use Rattle.pack_defs.specs.declared.scenario.Scenario.{Scenario}
-use Rattle.pack_defs.specs.declared.station.Station.{Station}
 use Rattle.pack_defs.specs.ChannelMap.{overlaid}
 use Rattle.pack_defs.specs.Lists.{is_in, without}
-use Rattle.pack_defs.specs.Scenario.{IsStationWithinLimits, IsWithinLimits, facilities, volume_in}
-use Rattle.pack_defs.specs.Prices.{falls, offer, prices, prices_from}
+use Rattle.pack_defs.specs.Scenario.{facilities}
+use Rattle.pack_defs.specs.Prices.{offer}
 use Rattle.pack_defs.specs.ClockRule.{ClockTest, ClockState, FrozenAt, OnAirSince, after_answer, exits, goes_on_air, is_active, is_on_air}
 use Rattle.auction_core.specs.declared.clock.Standing.{Standing}
-use Rattle.auction_core.specs.declared.clock.Standing.TheVariants.{Active, OnAir}
+use Rattle.auction_core.specs.declared.clock.Standing.TheVariants.{Active}
 use Rattle.auction_core.specs.declared.record.Shown.{Shown}
 use Rattle.auction_core.specs.declared.record.Step.{Step}
 use Rattle.auction_core.specs.Backed.{after_start, after_steps, shown_start}
-use Rattle.auction_core.specs.Clock.{AreStandings, answered_standing, stands_on_air}
-use Rattle.auction_core.specs.Course.{CourseView, IsCourse, IsDue, clock_of, core_state, left_of, map_after, most_paid, next_test, paid}
+use Rattle.auction_core.specs.Clock.{IsClockOf, answered_clock, answered_standing, stands_on_air}
+use Rattle.auction_core.specs.Course.{CourseView, IsCourse, IsDue, clock_of, core_state, left_of, map_after, next_test}
 use Rattle.auction_core.specs.Past.{PastView}
 use Rattle.auction_core.specs.Rule.{IsAuction}
 use Rattle.auction_core.specs.Setup.{IsSound, SetupView}
 use Rattle.auction_core.specs.State.{CoreState, delta_of, settled, shows_room}
-use Rattle.auction_core.proofs.ClockLemmas.{answer-standings, is_on_air_at, length-standings}
+use Rattle.auction_core.proofs.ClockLemmas.{is_on_air_at, length-standings}
+use Rattle.auction_core.proofs.Paid.{answer-clock}
 use Rattle.auction_core.proofs.Sets.{step_of}
 use Rattle.auction_core.proofs.Steps.{after_steps-push}
 
 pub sound-auction : (s : SetupView) → IsSound s → IsAuction s.scenario s.book
 sound-auction s h = let some = h.auction.limits.some_worker in record { stations = h.auction.limits.ascend; in_order = h.in_order; workers = omega (arith, some) }
-
--- ---- the bounds
-
-price_at_most : (c : ℕ) (ds : List ℕ) (r : ℕ) → get_or (prices_from c ds) r 0 ≤ c
-price_at_most c [] zero = omega arith
-price_at_most c [] (suc r) = omega arith
-price_at_most c (d ∷ ds) zero = omega arith
-price_at_most c (d ∷ ds) (suc r) = let rest = price_at_most (c - d) ds r in omega (arith, rest)
-
-volume_at_most : (xs : List Station) (s : ℕ) → All IsStationWithinLimits xs → volume_in xs s ≤ 1000000
-volume_at_most [] s h = omega arith
-volume_at_most (x ∷ xs) s h =
-    elim (eqb x.id s) as (λ b. cond b x.volume (volume_in xs s) ≤ 1000000) [
-      | true ↦ let own : IsStationWithinLimits x = h 0 x (omega arith) in own.volume
-      | false ↦ volume_at_most xs s (λ k d l. h (suc k) d (omega arith))
-    ]
-
--- an offer is at most 10^12 cents
-offer_at_most : (sc : Scenario) (s r : ℕ) → IsWithinLimits sc → offer sc s r ≤ most_paid
-offer_at_most sc s r h =
-    let price = price_at_most sc.opening (falls sc) r in
-    let volume = volume_at_most sc.stations s h.each_station in
-    let opening : get_or (prices sc) r 0 ≤ 1000000 = omega (arith, price, h.opening) in
-    mul-le-mul opening volume
-
--- so is what a test's answer pays
-paid_at_most : (sc : Scenario) (t : ClockTest) (fits : Bool) → IsWithinLimits sc → paid (answered_standing sc t fits) ≤ most_paid
-paid_at_most sc t true h =
-    elim (exits sc t) as (λ b. paid (cond b (OnAir t.round) Active) ≤ most_paid) [ true ↦ omega arith | false ↦ omega arith ]
-paid_at_most sc t false h = offer_at_most sc t.station (t.round - 1) h
-
--- and the total stays within 64 bits
-fits_total : (total pay frozen active air stations : ℕ) → total ≤ most_paid * frozen → frozen + active + air ≤ stations → stations ≤ 8192 → pay ≤ most_paid → total + pay < 2 ^ 64
-fits_total total pay frozen active air stations a b c d = omega arith
-
-pub total-fits : (s : SetupView) (c : CourseView) (t : ClockTest) (fits : Bool) → IsSound s → IsCourse s c → c.total + paid (answered_standing s.scenario t fits) < 2 ^ 64
-total-fits s c t fits l h = fits_total c.total (paid (answered_standing s.scenario t fits)) (length (clock_of s c).frozen) (length (clock_of s c).active) (length (clock_of s c).on_air) (length s.scenario.stations) h.bound h.each l.auction.limits.stations (paid_at_most s.scenario t fits l.auction.limits)
 
 -- ---- what a test's answer makes of the lists of a state
 
@@ -97,30 +58,25 @@ in-without (y ∷ ys) x s h =
       | false ↦ λ k. or_right (eqb y s) (is_in ys s) (in-without ys x s k)
     ]) h
 
--- what is paid, and who is still asked and on air
-pub record Moved (old new : ClockState) (pay : ℕ) : Type 0 where
-  pub sum : sum_by (λ x. x.price) new.frozen ≡ sum_by (λ x. x.price) old.frozen + pay
-  pub bound : pay + most_paid * length old.frozen ≤ most_paid * length new.frozen
+-- who is still asked, frozen and on air
+pub record Moved (old new : ClockState) : Type 0 where
   pub each : length new.frozen + length new.active + length new.on_air ≤ length old.frozen + length old.active + length old.on_air
   pub kept : (f : ℕ) → is_active new f ≡ true → is_active old f ≡ true
 
-pub moved-by : (sc : Scenario) (st : ClockState) (t : ClockTest) (fits : Bool) → is_active st t.station ≡ true → IsWithinLimits sc → Moved st (after_answer sc st t fits) (paid (answered_standing sc t fits))
-moved-by sc st t true active l =
+pub moved-by : (sc : Scenario) (st : ClockState) (t : ClockTest) (fits : Bool) → is_active st t.station ≡ true → Moved st (after_answer sc st t fits)
+moved-by sc st t true active =
     let fewer = length-without st.active t.station active in
     let on : OnAirSince = record { station = t.station; round = t.round } in
     let more = length-append st.on_air (on ∷ []) in
-    elim (exits sc t) as (λ b. Moved st (cond b (goes_on_air st t) st) (paid (cond b (OnAir t.round) Active))) [
-      | true ↦ record { sum = omega arith; bound = omega arith; each = rw more (omega (arith, fewer)); kept = λ f h. in-without st.active t.station f h }
-      | false ↦ record { sum = omega arith; bound = omega arith; each = omega arith; kept = λ f h. h }
+    elim (exits sc t) as (λ b. Moved st (cond b (goes_on_air st t) st)) [
+      | true ↦ record { each = rw more (omega (arith, fewer)); kept = λ f h. in-without st.active t.station f h }
+      | false ↦ record { each = omega arith; kept = λ f h. h }
     ]
-moved-by sc st t false active l =
+moved-by sc st t false active =
     let new : FrozenAt = record { station = t.station; round = t.round; price = offer sc t.station (t.round - 1) } in
     let more = length-append st.frozen (new ∷ []) in
     let fewer = length-without st.active t.station active in
-    let small = offer_at_most sc t.station (t.round - 1) l in
     record {
-      sum = sum_by-append (λ (x : FrozenAt). x.price) st.frozen (new ∷ []) ∙ ap (λ n. sum_by (λ (x : FrozenAt). x.price) st.frozen + n) (omega arith);
-      bound = rw more (omega (arith, small));
       each = rw more (omega (arith, fewer));
       kept = λ f h. in-without st.active t.station f h;
     }
@@ -143,10 +99,9 @@ next_standing s c shown = answered_standing s.scenario (next_test s c) (shows_ro
 abbrev pub next_course : SetupView → CourseView → Shown → ℕ → PastView → CourseView
 next_course s c shown i past = record {
   start = c.start;
-  standings = set c.standings i (next_standing s c shown);
+  clock = answered_clock s.scenario (next_test s c) i (shows_room shown) c.clock;
   map = record { stations = c.map.stations; entries = map_after c.map.entries (next_standing s c shown) (delta_of c.past.steps (next_test s c).station shown) };
   past = past;
-  total = c.total + paid (next_standing s c shown);
   round = c.round;
   turn = c.turn + 1;
 }
@@ -161,11 +116,11 @@ next-clock s c shown i past more =
     let first : CoreState = after_start s.scenario s.order (shown_start c.start) in
     ap (λ xs. (after_steps s.scenario first xs).clock) more ∙ ap (λ z. z.clock) (after_steps-push s.scenario first c.past.steps (step_of (next_test s c) shown))
 
-pub next-standings : (s : SetupView) (c : CourseView) (shown : Shown) (i : ℕ) (past : PastView) → IsSound s → IsCourse s c → IsDue s c → IsAt s c i → IsStepMore s c shown past →
-    AreStandings s.scenario (clock_of s (next_course s c shown i past)) (set c.standings i (next_standing s c shown))
-next-standings s c shown i past l h due at more =
-    subst (λ z. AreStandings s.scenario z (set c.standings i (next_standing s c shown))) (sym (next-clock s c shown i past more))
-    (answer-standings i (next_test s c) (shows_room shown) l.auction.limits.ascend h.standings at.within at.station due.active)
+pub next-is-clock : (s : SetupView) (c : CourseView) (shown : Shown) (i : ℕ) (past : PastView) → IsSound s → IsCourse s c → IsDue s c → IsAt s c i → IsStepMore s c shown past →
+    IsClockOf s.scenario (clock_of s (next_course s c shown i past)) (next_course s c shown i past).clock
+next-is-clock s c shown i past l h due at more =
+    subst (λ z. IsClockOf s.scenario z (next_course s c shown i past).clock) (sym (next-clock s c shown i past more))
+    (answer-clock i (next_test s c) (shows_room shown) l.auction.limits.ascend h.clock at.within at.station due.active)
 
 -- the auction's state is settled so, and goes on to the tests that are left
 abbrev made : (order : Order) (start : Option Shown) (steps : List Step) (number : ℕ) (left : List ClockTest) (clock : ClockState) (entries : List (ℕ × ℕ)) → CoreState
@@ -176,10 +131,10 @@ next-on-air : (s : SetupView) (c : CourseView) (shown : Shown) (i : ℕ) (past :
     is_on_air (after_answer s.scenario (clock_of s c) (next_test s c) (shows_room shown)) (next_test s c).station ≡ stands_on_air (next_standing s c shown)
 next-on-air s c shown i past l h due at more =
     let standing = next_standing s c shown in
-    let inside : i < length c.standings = rw (length-standings h.standings) at.within in
-    let here : get_or (set c.standings i standing) i Active ≡ standing = get_or-set_same c.standings i standing Active inside in
+    let inside : i < length c.clock.standings = rw (length-standings h.clock.standings) at.within in
+    let here : get_or (set c.clock.standings i standing) i Active ≡ standing = get_or-set_same c.clock.standings i standing Active inside in
     ap (λ z. is_on_air z (next_test s c).station) (sym (next-clock s c shown i past more))
-    ∙ (is_on_air_at i (next_test s c).station Active (next-standings s c shown i past l h due at more) at.within at.station ∙ ap stands_on_air here)
+    ∙ (is_on_air_at i (next_test s c).station Active (next-is-clock s c shown i past l h due at more).standings at.within at.station ∙ ap stands_on_air here)
 
 pub next-state : (s : SetupView) (c : CourseView) (shown : Shown) (i : ℕ) (past : PastView) (n : ℕ) → IsSound s → IsCourse s c → IsDue s c → IsAt s c i → IsStepMore s c shown past →
     core_state s (next_course s c shown i past) n ≡ record (settled s.scenario (core_state s c n) (next_test s c) shown) { left = left_of s (next_course s c shown i past) }

@@ -1,6 +1,6 @@
 -- The course before the start test, and once that test is settled.
 use Rattle.std.specs.Prelude.{find, option_map}
-use Rattle.std.proofs.Common.{MatchOption, ◌≡◌, ◌∙◌, ℕ, ◌+◌, ◌≤◌, Bool, true, false, not, cond, List, [], ◌∷◌, length, filter, get_or, Option, Some, None, refl, sym, ap, ap₂, subst, sum_by, arith, ◌*◌}
+use Rattle.std.proofs.Common.{MatchOption, ◌≡◌, ◌∙◌, ℕ, ◌+◌, ◌≤◌, Bool, true, false, not, cond, List, [], ◌∷◌, length, filter, get_or, Option, Some, None, refl, sym, ap, ap₂, subst, arith}
 use Rattle.std.proofs.lemmas.Bool.{cond-false, cond-true, false≢true, not-true}
 use Rattle.std.proofs.lemmas.List.{length-map}
 use Rattle.pack_defs.specs.declared.scenario.Scenario.{Scenario}
@@ -12,13 +12,12 @@ use Rattle.pack_defs.specs.Scenario.{facilities}
 use Rattle.pack_defs.specs.Prices.{bidders, declines, start_set}
 use Rattle.pack_defs.specs.ClockRule.{ClockState, OnAirSince, clock_tests, is_active, opening_state}
 use Rattle.pack_defs.proofs.Members.{Contains-from_filter, is_in-gives}
-use Rattle.auction_core.specs.declared.clock.Standing.{Standing}
 use Rattle.auction_core.specs.declared.record.Shown.{Shown}
 use Rattle.auction_core.specs.declared.record.Shown.TheVariants.{Empty, Fits, Same, NoChannel, Refuted, Outside, Undecided}
 use Rattle.auction_core.specs.declared.record.Step.{Step}
 use Rattle.auction_core.specs.Backed.{IsSettledBy, IsStartShown, after_start, after_steps, shown_start}
-use Rattle.auction_core.specs.Clock.{AreStandings}
-use Rattle.auction_core.specs.Course.{CourseView, GivesWithin, GoesByRule, IsCourse, IsIdle, clock_of, core_state, left_of, most_paid, tests_left}
+use Rattle.auction_core.specs.Clock.{ClockView, IsClockOf}
+use Rattle.auction_core.specs.Course.{CourseView, GivesWithin, GoesByRule, IsCourse, IsIdle, clock_of, core_state, left_of, tests_left}
 use Rattle.auction_core.specs.Parts.{IsPartsOf, last_seen}
 use Rattle.auction_core.specs.Past.{PastView}
 use Rattle.auction_core.specs.Setup.{IsSound, SetupView}
@@ -42,8 +41,8 @@ both-kinds p (x ∷ xs) =
     ]
 
 -- the course before the start test
-abbrev pub first_course : Scenario → List Standing → PastView → CourseView
-first_course sc standings past = record { start = None; standings = standings; map = record { stations = facilities sc; entries = [] }; past = past; total = 0; round = 1; turn = 0 }
+abbrev pub first_course : Scenario → ClockView → PastView → CourseView
+first_course sc clock past = record { start = None; clock = clock; map = record { stations = facilities sc; entries = [] }; past = past; round = 1; turn = 0 }
 
 -- what is kept before the first test
 pub record IsFirstPast (s : SetupView) (past : PastView) : Type 0 where
@@ -53,10 +52,10 @@ pub record IsFirstPast (s : SetupView) (past : PastView) : Type 0 where
   pub seen : (i : ℕ) → get_or past.seen i 0 ≡ 0
   pub steps : past.steps ≡ []
 
-pub first-clock : (s : SetupView) (standings : List Standing) (past : PastView) → past.steps ≡ [] → clock_of s (first_course s.scenario standings past) ≡ opening_state s.scenario
+pub first-clock : (s : SetupView) (standings : ClockView) (past : PastView) → past.steps ≡ [] → clock_of s (first_course s.scenario standings past) ≡ opening_state s.scenario
 first-clock s standings past none = ap (λ xs. (after_steps s.scenario (after_start s.scenario s.order Empty) xs).clock) none
 
-pub first-holds : (s : SetupView) (standings : List Standing) (past : PastView) → IsSound s → AreStandings s.scenario (opening_state s.scenario) standings → IsFirstPast s past → IsCourse s (first_course s.scenario standings past)
+pub first-holds : (s : SetupView) (standings : ClockView) (past : PastView) → IsSound s → IsClockOf s.scenario (opening_state s.scenario) standings → IsFirstPast s past → IsCourse s (first_course s.scenario standings past)
 first-holds s standings past l are f =
     let sc = s.scenario in
     let clock = first-clock s standings past f.steps in
@@ -65,15 +64,13 @@ first-holds s standings past l are f =
     let on = length-map (start_set sc) (λ z. (let x : OnAirSince = record { station = z; round = 0 } in x)) in
     record {
       sound = l;
-      standings = subst (λ z. AreStandings sc z standings) (sym clock) are;
+      clock = subst (λ z. IsClockOf sc z standings) (sym clock) are;
       stations = refl;
       begun = omega arith;
       round = omega arith;
       turn = omega arith;
       bid = λ f active. not-true (declines sc f 0) (Contains-from_filter (λ z. not (declines sc z 0)) (facilities sc) f (is_in-gives (bidders sc) f (subst (λ (z : ClockState). is_active z f ≡ true) clock active))).1;
       idle = λ _. record { steps = f.steps; map = refl; round = refl; turn = refl };
-      sum = sym (ap (λ (z : ClockState). sum_by (λ x. x.price) z.frozen) clock);
-      bound = omega arith;
       each = subst (λ (z : ClockState). length z.frozen + length z.active + length z.on_air ≤ length sc.stations) (sym clock) (omega (arith, few, on, all));
       past = record {
         parts = subst (λ z. IsPartsOf sc s.book z past.parts) (sym clock) f.parts;
@@ -85,7 +82,7 @@ first-holds s standings past l are f =
       rule = λ running. absurd (false≢true running);
     }
 
-pub first-state : (s : SetupView) (standings : List Standing) (past : PastView) → past.steps ≡ [] → core_state s (first_course s.scenario standings past) 1 ≡ before_start s.scenario s.order
+pub first-state : (s : SetupView) (standings : ClockView) (past : PastView) → past.steps ≡ [] → core_state s (first_course s.scenario standings past) 1 ≡ before_start s.scenario s.order
 first-state s standings past none =
     let first : ClockState → List Step → CoreState = λ c xs. record (before_start s.scenario s.order) { clock = c; steps = xs } in
     ap₂ first (first-clock s standings past none) none
@@ -170,15 +167,13 @@ begun-holds s c shown fresh h is =
     let back = sym clock in
     record {
       sound = h.sound;
-      standings = subst (λ z. AreStandings sc z c.standings) back h.standings;
+      clock = subst (λ z. IsClockOf sc z c.clock) back h.clock;
       stations = h.stations;
       begun = h.begun;
       round = h.round;
       turn = h.turn;
       bid = λ f active. h.bid f (subst (λ (z : ClockState). is_active z f ≡ true) clock active);
       idle = λ none. begun-idle c shown idle none;
-      sum = subst (λ (z : ClockState). c.total ≡ sum_by (λ x. x.price) z.frozen) back h.sum;
-      bound = subst (λ (z : ClockState). c.total ≤ most_paid * length z.frozen) back h.bound;
       each = subst (λ (z : ClockState). length z.frozen + length z.active + length z.on_air ≤ length sc.stations) back h.each;
       past = record {
         parts = subst (λ z. IsPartsOf sc s.book z c.past.parts) back h.past.parts;

@@ -1,5 +1,5 @@
 -- Which tests are left, and how the program goes on past those that need no query.
-use Rattle.std.proofs.Common.{◌≡◌, ◌∙◌, ℕ, suc, ◌+◌, ◌-◌, ◌*◌, ◌<◌, ◌≤◌, Bool, true, false, not, cond, inl, inr, List, [], ◌∷◌, ◌++◌, length, map, filter, drop, get_or, Option, Some, None, MatchOption, refl, sym, ap, ap₂, subst, sum_by, arith, append_assoc}
+use Rattle.std.proofs.Common.{◌≡◌, ◌∙◌, ℕ, suc, ◌+◌, ◌-◌, ◌*◌, ◌<◌, ◌≤◌, Bool, true, false, not, cond, inl, inr, List, [], ◌∷◌, ◌++◌, length, map, filter, drop, get_or, Option, Some, None, MatchOption, refl, sym, ap, ap₂, subst, arith, append_assoc}
 use Rattle.std.specs.Prelude.{option_map}
 use Rattle.std.specs.Option.{option_map_or}
 use Rattle.std.proofs.lemmas.Bool.{both_ways, cond-true}
@@ -14,12 +14,12 @@ use Rattle.pack_defs.specs.Prices.{declines, falls, last_round}
 use Rattle.pack_defs.specs.ClockRule.{ClockTest, ClockState, after_answer, bidders_in_turn, clock_tests, is_active, is_on_air, tests_of, turns}
 use Rattle.auction_core.specs.declared.record.Shown.{Shown}
 use Rattle.auction_core.specs.Backed.{IsSettledBy, IsStepShown, shown_start}
-use Rattle.auction_core.specs.Course.{CourseView, GoesByRule, IsAtRest, IsCourse, IsDue, IsOver, IsSettled, clock_of, core_state, left_of, most_paid, next_test, paid, test_at, tests_left, unasked_of}
+use Rattle.auction_core.specs.Course.{CourseView, GoesByRule, IsAtRest, IsCourse, IsDue, IsOver, IsSettled, clock_of, core_state, left_of, next_test, test_at, tests_left, unasked_of}
 use Rattle.auction_core.specs.Past.{PastView}
 use Rattle.auction_core.specs.Setup.{IsSound, SetupView}
 use Rattle.auction_core.specs.State.{CoreState, go_on, settled, settled_unasked, shows_room, start_fits, test_task}
 use Rattle.auction_core.specs.Walked.{IsWalked}
-use Rattle.auction_core.proofs.CourseLemmas.{IsAt, IsStepMore, moved-by, next-clock, next_course, next-standings, next_standing, next-state, sound-auction}
+use Rattle.auction_core.proofs.CourseLemmas.{IsAt, IsStepMore, moved-by, next-clock, next_course, next-is-clock, next-state, sound-auction}
 use Rattle.auction_core.proofs.KeptPast.{HasNoted, next-past, step-within}
 use Rattle.auction_core.proofs.Sets.{fits-stand-same, step_of}
 use Rattle.auction_core.proofs.Walk.{off-air, walk-skip, walk-step}
@@ -137,23 +137,19 @@ next-holds s c shown i past l running h due at j is =
     let t = next_test s c in
     let fits = shows_room shown in
     let new = next_course s c shown i past in
-    let moved = moved-by sc (clock_of s c) t fits due.active l.auction.limits in
+    let moved = moved-by sc (clock_of s c) t fits due.active in
     let same : after_answer sc (clock_of s c) t fits ≡ clock_of s new = sym (next-clock s c shown i past j.steps) in
-    let sum = h.sum in
-    let bound = h.bound in
     let each = h.each in
     let inside = due.turn in
     record {
       sound = l;
-      standings = next-standings s c shown i past l h due at j.steps;
+      clock = next-is-clock s c shown i past l h due at j.steps;
       stations = h.stations;
       begun = h.begun;
       round = h.round;
       turn = omega (arith, inside);
       bid = λ f k. h.bid f (moved.kept f (subst (λ (z : ClockState). is_active z f ≡ true) (sym same) k));
       idle = λ idle. absurd (both_ways (start_fits c.start) idle running);
-      sum = subst (λ (z : ClockState). new.total ≡ sum_by (λ x. x.price) z.frozen) same (ap (λ n. n + paid (next_standing s c shown)) sum ∙ sym moved.sum);
-      bound = subst (λ (z : ClockState). new.total ≤ most_paid * length z.frozen) same (omega (arith, bound, moved.bound));
       each = subst (λ (z : ClockState). length z.frozen + length z.active + length z.on_air ≤ length sc.stations) same (omega (arith, each, moved.each));
       past = next-past s c shown i past l h.past at j (due-off s c running l h due) (step-within sc s.book (core_state s c 0) t shown is h.past.fits);
       rule = λ _. next-rule s c shown i past l running h due at j.steps is;
@@ -234,15 +230,13 @@ leads-idle s c running inside off n =
 moved-on : (s : SetupView) (c : CourseView) (round turn : ℕ) → start_fits c.start ≡ true → 1 ≤ round → round ≤ last_round s.scenario → turn ≤ length s.scenario.stations → IsCourse s c → GoesByRule s (record c { round = round; turn = turn }) → IsCourse s (record c { round = round; turn = turn })
 moved-on s c round turn running first last within h g = record {
   sound = h.sound;
-  standings = h.standings;
+  clock = h.clock;
   stations = h.stations;
   begun = first;
   round = last;
   turn = within;
   bid = h.bid;
   idle = λ idle. absurd (both_ways (start_fits c.start) idle running);
-  sum = h.sum;
-  bound = h.bound;
   each = h.each;
   past = record { parts = h.past.parts; on_air = h.past.on_air; long = h.past.long; seen = h.past.seen; fits = h.past.fits };
   rule = λ _. g;

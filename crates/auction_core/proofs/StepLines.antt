@@ -1,5 +1,10 @@
 -- Steps kept in lines and verdicts: what one step more makes of them, and where a fit stands.
-use Rattle.std.proofs.Common.{◌≡◌, ℕ, zero, suc, ◌+◌, ◌-◌, ◌<◌, ◌≤◌, Bool, true, false, if◌then◌else◌, List, [], ◌∷◌, ◌++◌, length, get_or, is_some, unwrap_or, refl, sym, ap, ◌∙◌, eqb-true, arith}
+use Rattle.std.proofs.Common.{◌≡◌, ℕ, zero, suc, ◌+◌, ◌-◌, ◌<◌, ◌≤◌, Bool, true, false, if◌then◌else◌, List, [], ◌∷◌, ◌++◌, length, map, get_or, is_some, slice_get, unwrap_or, Option, option_map, MatchOption, refl, sym, ap, ◌∙◌, eqb-true, eq-eqb, arith}
+use Rattle.std.specs.Bool.{⊤}
+use Rattle.std.specs.List.{list_all}
+use Rattle.std.proofs.lemmas.Bool.{and_from, and_parts}
+use Rattle.std.proofs.lemmas.List.Folds.{list_all-append}
+use Rattle.std.proofs.lemmas.Option.{slice_get-map}
 use Rattle.std.proofs.lemmas.List.{get_or_push, length_push}
 use Rattle.auction_core.specs.declared.record.Shown.{Shown}
 use Rattle.auction_core.specs.declared.record.Shown.TheVariants.{Empty, Fits, Same, NoChannel, Refuted, Outside, Undecided}
@@ -8,7 +13,7 @@ use Rattle.auction_core.specs.declared.step_list.Line.{Line}
 use Rattle.auction_core.specs.declared.step_list.Way.{Way}
 use Rattle.auction_core.specs.declared.step_list.Way.TheVariants.{Verdict, LikeBefore, Bare}
 use Rattle.auction_core.specs.State.{fit_of}
-use Rattle.auction_core.specs.StepList.{fit_at, merged, names_only, shown_by, takers, takes_verdict, told_behind, told_with, way_of}
+use Rattle.auction_core.specs.StepList.{IsKept, fit_at, line_of, merged, names_only, shown_by, takers, takes_verdict, told_behind, told_with, way_of}
 
 abbrev pub line_as : ℕ → ℕ → Way → Line
 line_as r s w = record { round = r; station = s; way = w }
@@ -94,6 +99,79 @@ pub steps-now : (ls now : List Line) (told told_now : List Shown) (r s : ℕ) (w
 steps-now ls now told told_now r s w x way lines verdicts e named =
     ap (λ ks. merged ks told_now) (lines ∙ ap (λ v. ls ++ line_as r s v ∷ []) way)
     ∙ (ap (merged (ls ++ line_as r s (way_of x) ∷ [])) verdicts ∙ pushed ls told r s x e named)
+
+-- the verdicts are still verdicts
+abbrev pub is_verdict : Shown → Bool
+is_verdict x = takes_verdict (way_of x)
+
+still-verdicts : (told : List Shown) (x : Shown) → list_all is_verdict told ≡ true → list_all is_verdict (told_with told x) ≡ true
+still-verdicts told x v = go (takes_verdict (way_of x)) refl
+  where
+    go : (b : Bool) → takes_verdict (way_of x) ≡ b → list_all is_verdict (if b then told ++ x ∷ [] else told) ≡ true
+    go true e = list_all-append is_verdict told (x ∷ []) ∙ and_from (list_all is_verdict told) (list_all is_verdict (x ∷ [])) v (and_from (is_verdict x) true e refl)
+    go false e = v
+
+pub kept-now : (ls now : List Line) (told told_now : List Shown) (r s : ℕ) (w : Way) (x : Shown) → w ≡ way_of x → now ≡ ls ++ line_as r s w ∷ [] → told_now ≡ told_with told x → IsKept ls told → IsKept now told_now
+kept-now ls now told told_now r s w x way lines verdicts k = record {
+  each = takers-now ls now told told_now r s w x way lines verdicts k.each;
+  verdicts = ap (list_all is_verdict) verdicts ∙ still-verdicts told x k.verdicts;
+}
+
+-- ---- the line of a step
+
+-- what takes a verdict is one
+a-verdict : (w : Way) → takes_verdict w ≡ true → w ≡ Verdict
+a-verdict Verdict h = refl
+a-verdict LikeBefore h = cc
+a-verdict Bare h = cc
+
+-- the lines of the steps are those that are kept
+lines-back : (ls : List Line) (told : List Shown) → takers ls ≡ length told → list_all is_verdict told ≡ true → map line_of (merged ls told) ≡ ls
+lines-back [] told e v = refl
+lines-back (l ∷ ls) told e v = behind l.way told e v (λ rest f u. lines-back ls rest f u)
+  where
+    behind : (w : Way) (told : List Shown) → (if takes_verdict w then 1 else 0) + takers ls ≡ length told → list_all is_verdict told ≡ true →
+        ((rest : List Shown) → takers ls ≡ length rest → list_all is_verdict rest ≡ true → map line_of (merged ls rest) ≡ ls) →
+        line_of (step_as l.round l.station (shown_by w l.station told)) ∷ map line_of (merged ls (told_behind w told)) ≡ line_as l.round l.station w ∷ ls
+    behind Verdict [] e v next = absurd (omega arith)
+    behind Verdict (y ∷ ys) e v next =
+        let both = and_parts (is_verdict y) (list_all is_verdict ys) v in
+        ap (λ w. line_as l.round l.station w ∷ map line_of (merged ls ys)) (a-verdict (way_of y) both.0)
+        ∙ ap (λ ks. line_as l.round l.station Verdict ∷ ks) (next ys (omega arith) both.1)
+    behind LikeBefore told e v next = ap (λ ks. line_as l.round l.station LikeBefore ∷ ks) (next told (omega arith) v)
+    behind Bare told e v next = ap (λ ks. line_as l.round l.station Bare ∷ ks) (next told (omega arith) v)
+
+pub line-there : (ls : List Line) (told : List Shown) (k : ℕ) → IsKept ls told → slice_get ls k ≡ option_map line_of (slice_get (merged ls told) k)
+line-there ls told k h =
+    ap (λ ks. slice_get ks k) (sym (lines-back ls told h.each h.verdicts)) ∙ slice_get-map line_of (merged ls told) k
+
+-- no verdict names a station without a channel
+verdict-names : (s : ℕ) (x : Shown) → is_verdict x ≡ true → names_only s x ≡ true
+verdict-names s Empty h = refl
+verdict-names s (Fits delta) h = refl
+verdict-names s Same h = refl
+verdict-names s (NoChannel f) h = cc
+verdict-names s (Refuted worker how) h = refl
+verdict-names s (Outside proof) h = refl
+verdict-names s (Undecided receipts) h = refl
+
+names-within : (ls : List Line) (told : List Shown) (k : ℕ) → takers ls ≡ length told → list_all is_verdict told ≡ true → MatchOption (slice_get (merged ls told) k) ⊤ (λ x. names_only x.station x.shown ≡ true)
+names-within [] told k e v = record {}
+names-within (l ∷ ls) told k e v = behind l.way told k e v (λ rest j f u. names-within ls rest j f u)
+  where
+    behind : (w : Way) (told : List Shown) (k : ℕ) → (if takes_verdict w then 1 else 0) + takers ls ≡ length told → list_all is_verdict told ≡ true →
+        ((rest : List Shown) (j : ℕ) → takers ls ≡ length rest → list_all is_verdict rest ≡ true → MatchOption (slice_get (merged ls rest) j) ⊤ (λ x. names_only x.station x.shown ≡ true)) →
+        MatchOption (slice_get (step_as l.round l.station (shown_by w l.station told) ∷ merged ls (told_behind w told)) k) ⊤ (λ x. names_only x.station x.shown ≡ true)
+    behind Verdict [] k e v next = absurd (omega arith)
+    behind Verdict (y ∷ ys) zero e v next = verdict-names l.station y (and_parts (is_verdict y) (list_all is_verdict ys) v).0
+    behind Verdict (y ∷ ys) (suc k) e v next = next ys k (omega arith) (and_parts (is_verdict y) (list_all is_verdict ys) v).1
+    behind LikeBefore told zero e v next = refl
+    behind LikeBefore told (suc k) e v next = next told k (omega arith) v
+    behind Bare told zero e v next = eq-eqb l.station l.station refl
+    behind Bare told (suc k) e v next = next told k (omega arith) v
+
+pub names-there : (ls : List Line) (told : List Shown) (k : ℕ) → IsKept ls told → MatchOption (slice_get (merged ls told) k) ⊤ (λ x. names_only x.station x.shown ≡ true)
+names-there ls told k h = names-within ls told k h.each h.verdicts
 
 -- ---- where a fit stands among the verdicts
 

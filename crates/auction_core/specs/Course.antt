@@ -1,6 +1,6 @@
 -- Where the clock stands between two tests, as the program keeps it: a standing for each station, and where the next test's
 -- station comes in its round. That it is so kept is this project's own.
-use Rattle.std.specs.Prelude.{ℕ, Bool, false, not, ◌+◌, ◌-◌, ◌*◌, ◌<◌, ◌≤◌, ◌≡◌, ◌⊎◌, ◌&&◌, nat_le, if◌then◌else◌, true, List, [], ◌∷◌, ◌++◌, map, filter, drop, length, sum_by, slice_index, Option, None}
+use Rattle.std.specs.Prelude.{ℕ, Bool, false, not, ◌+◌, ◌-◌, ◌*◌, ◌<◌, ◌≤◌, ◌≡◌, ◌⊎◌, ◌&&◌, nat_le, if◌then◌else◌, true, List, [], ◌∷◌, ◌++◌, map, filter, drop, length, slice_index, Option, None}
 use Rattle.pack_defs.specs.Lists.{has_station, is_in}
 use Rattle.pack_defs.specs.ChannelMap.{overlaid}
 use Rattle.pack_defs.specs.declared.scenario.Scenario.{Scenario}
@@ -9,24 +9,22 @@ use Rattle.pack_defs.specs.Prices.{declines, last_round}
 use Rattle.pack_defs.specs.ClockRule.{ClockTest, ClockState, bidders_in_turn, clock_tests, is_active, opening_state, tests_of, turns}
 use Rattle.auction_core.specs.declared.record.Shown.{Shown}
 use Rattle.auction_core.specs.declared.clock.Standing.{Standing}
-use Rattle.auction_core.specs.declared.clock.Standing.TheVariants.{Active, OnAir, Frozen}
 use Rattle.auction_core.specs.AirMap.{AirMapView}
 use Rattle.auction_core.specs.Backed.{after_start, after_steps, shown_start}
-use Rattle.auction_core.specs.Clock.{AreStandings, stands_on_air}
+use Rattle.auction_core.specs.Clock.{ClockView, IsClockOf, stands_on_air}
 use Rattle.auction_core.specs.Parts.{IsPartsOf, last_seen}
 use Rattle.auction_core.specs.Past.{PastView}
 use Rattle.auction_core.specs.Setup.{IsSound, SetupView}
 use Rattle.auction_core.specs.State.{CoreState, last_fit, settled, settled_unasked, start_fits}
 use Rattle.auction_core.specs.Walked.{IsWalked}
 
--- How the start was shown, if it was; where each station stands; the map of those on air; what is kept of the tests so far;
--- what the frozen ones are paid together, in cents; the round of the next test, and where its station comes in the round.
+-- How the start was shown, if it was; where each station stands, and what the frozen ones are paid; the map of those on air;
+-- what is kept of the tests so far; the round of the next test, and where its station comes in the round.
 pub record CourseView : Type 0 where
   pub start : Option Shown
-  pub standings : List Standing
+  pub clock : ClockView
   pub map : AirMapView
   pub past : PastView
-  pub total : ℕ
   pub round : ℕ
   pub turn : ℕ
 
@@ -65,16 +63,6 @@ core_state s c number = record {
   number = number;
 }
 
--- what a station that stands so is paid, in cents
-abbrev pub paid : Standing → ℕ
-paid Active = 0
-paid (OnAir round) = 0
-paid (Frozen round price) = price
-
--- the greatest price that a station may be paid, in cents
-abbrev pub most_paid : ℕ
-most_paid = 1000000000000
-
 -- the map once a station stands so: overwritten by these channels, where it is on air
 abbrev pub map_after : List (ℕ × ℕ) → Standing → List (ℕ × ℕ) → List (ℕ × ℕ)
 map_after entries standing delta = if stands_on_air standing then overlaid entries delta else entries
@@ -108,15 +96,13 @@ pub record IsIdle (c : CourseView) : Type 0 where
 -- What the program keeps says where the clock stands.
 pub record IsCourse (s : SetupView) (c : CourseView) : Type 0 where
   pub sound : IsSound s
-  pub standings : AreStandings s.scenario (clock_of s c) c.standings
+  pub clock : IsClockOf s.scenario (clock_of s c) c.clock
   pub stations : c.map.stations ≡ facilities s.scenario
   pub begun : 1 ≤ c.round
   pub round : c.round ≤ last_round s.scenario
   pub turn : c.turn ≤ length s.scenario.stations
   pub bid : (f : ℕ) → is_active (clock_of s c) f ≡ true → declines s.scenario f 0 ≡ false
   pub idle : start_fits c.start ≡ false → IsIdle c
-  pub sum : c.total ≡ sum_by (λ x. x.price) (clock_of s c).frozen
-  pub bound : c.total ≤ most_paid * length (clock_of s c).frozen
   pub each : length (clock_of s c).frozen + length (clock_of s c).active + length (clock_of s c).on_air ≤ length s.scenario.stations
   pub past : KeepsPast s c
   pub rule : start_fits c.start ≡ true → GoesByRule s c

@@ -1,6 +1,7 @@
 -- How the steps of an auction are kept: a line for each, and beside the lines the verdicts of those that have one of their
 -- own. That they are so kept is this project's own.
-use Rattle.std.specs.Prelude.{ℕ, zero, suc, Bool, true, false, ◌+◌, ◌==◌, if◌then◌else◌, List, [], ◌∷◌, ◌++◌, unwrap_or}
+use Rattle.std.specs.Prelude.{ℕ, zero, suc, Bool, true, false, ◌+◌, ◌==◌, if◌then◌else◌, List, [], ◌∷◌, ◌++◌, ◌≡◌, length, unwrap_or}
+use Rattle.std.specs.List.{list_all}
 use Rattle.auction_core.specs.declared.record.Shown.{Shown}
 use Rattle.auction_core.specs.declared.record.Shown.TheVariants.{Empty, Fits, Same, NoChannel, Refuted, Outside, Undecided}
 use Rattle.auction_core.specs.declared.record.Step.{Step}
@@ -54,6 +55,15 @@ merged (l ∷ ls) told =
 abbrev pub takers : List Line → ℕ
 takers [] = 0
 takers (l ∷ ls) = (if takes_verdict l.way then 1 else 0) + takers ls
+
+-- the line of a step
+abbrev pub line_of : Step → Line
+line_of x = record { round = x.round; station = x.station; way = way_of x.shown }
+
+-- there is a verdict for each line that has one of its own, and each of them is one
+pub record IsKept (lines : List Line) (told : List Shown) : Type 0 where
+  pub each : takers lines ≡ length told
+  pub verdicts : list_all (λ x. takes_verdict (way_of x)) told ≡ true
 
 -- the verdicts once a test is settled so
 abbrev pub told_with : List Shown → Shown → List Shown

@@ -1,11 +1,13 @@
-//! Where each station stands while the clock runs.
+//! Where each station stands while the clock runs, and what the frozen ones are paid.
 
-ghost use Rattle.std.specs.Prelude.{◌≡◌, ◌<◌, ◌≤◌, ◌*◌, IfOk, length, slice_index, slice_index_or, slice_set};
+ghost use Rattle.std.specs.Prelude.{◌≡◌, ◌<◌, ◌≤◌, ◌*◌, [], IfOk, None, length, slice_index, slice_index_or, slice_set};
 ghost use Rattle.pack_defs.specs.Scenario.{IsWithinLimits, facilities};
 ghost use Rattle.pack_defs.specs.Prices.{last_round, prices};
 ghost use Rattle.pack_defs.specs.ClockRule.{exits, opening_state};
-ghost use Rattle.auction_core.specs.Clock.{AreStandings, answered_standing, declines_offer, opening_standing, stands_active, stands_on_air};
+ghost use Rattle.freeze_ledger.specs.Ledger.{price_of, sum_paid, with_price};
+ghost use Rattle.auction_core.specs.Clock.{IsClockOf, answered_clock, declines_offer, most_paid, opening_standing, stands_active, stands_on_air};
 
+use freeze_ledger::ledger::Ledger;
 use offer_sched::offers::offer;
 use pack_defs::scenario::Scenario;
 use pack_defs::station::Station;
@@ -19,8 +21,8 @@ pub enum Standing {
     Active,
     /// It has been on air since this round; 0 is the start.
     OnAir { round: u32 },
-    /// It was frozen in this round, and is paid this price, in cents.
-    Frozen { round: u32, price: u64 },
+    /// It was frozen in this round. The clock's ledger says what it is paid.
+    Frozen { round: u32 },
 }
 
 impl Standing {
@@ -35,19 +37,22 @@ impl Standing {
     }
 }
 
-/// Where each station of a scenario stands, in the scenario's order.
+/// Where each station of a scenario stands, in the scenario's order, and what the frozen ones are paid. It has room for
+/// the price of every station that is still asked.
 #[derive(Debug, Drop)]
 pub struct Clock {
     standings: Vec<Standing>,
+    ledger: Ledger,
 }
 
 impl Model for Clock {
-    ghost use Rattle.std.specs.Prelude.{List};
-    ghost use Rattle.auction_core.specs.declared.clock.Standing.{Standing};
+    ghost use Rattle.auction_core.specs.Clock.{ClockView, HasRoomToPay};
 
-    ghost Value = { List Standing };
+    ghost Value = { ClockView };
 
-    ghost view = { λ c. c.standings.items };
+    ghost view = { λ c. record { standings = c.standings.items; paid = c.ledger.paid } };
+
+    ghost invariant = { λ c. HasRoomToPay c.standings.items c.ledger };
 }
 
 // Whether the station declines this offer, in cents, in this round: it has no value, or one above it; or, where the owners
@@ -99,30 +104,45 @@ fn exits(sc: &Scenario, schedule: &[u32], i: usize, round: u32) -> bool
 
 impl Clock {
     /// The clock before its first round: a station that declines the opening offer is on air since round 0, and every
-    /// other one is active. The only error is want of memory.
+    /// other one is active. It makes room for the price of every station. The only error is want of memory.
     pub fn open(alloc: Global, sc: &Scenario) -> Result<Clock, NoMemory>
         requires { IsWithinLimits sc.now }
-        ensures { IfOk result (λ clock. AreStandings sc.now (opening_state sc.now) clock) }
+        ensures { IfOk result (λ clock. IsClockOf sc.now (opening_state sc.now) clock) }
     {
         let stations = sc.stations.as_slice();
         let mut standings = Vec::with_capacity(alloc, stations.len())?;
         for station in stations {
             standings.push(opening(sc, station))?;
         }
-        Ok(Clock { standings })
+        let ledger = room_to_pay(alloc, stations.len())?;
+        Ok(Clock { standings, ledger })
     }
 
     /// Where each station stands, in the scenario's order.
     pub fn standings(&self) -> &[Standing]
-        ensures { result.now ≡ self.now }
+        ensures { result.now ≡ self.now.standings }
     {
         &self.standings
     }
 
+    /// What a station, by its facility number, is paid, in cents; none where it is not frozen. It searches by halves.
+    pub fn paid(&self, station: u32) -> Option<u64>
+        ensures { result ≡ price_of station self.now.paid }
+    {
+        self.ledger.paid(station)
+    }
+
+    /// What the frozen stations are paid together, in cents. It takes constant time.
+    pub fn total(&self) -> u64
+        ensures { result ≡ sum_paid self.now.paid }
+    {
+        self.ledger.total()
+    }
+
     /// Whether the station at this place is still asked.
     pub fn is_active(&self, i: usize) -> bool
-        requires { i < length self.now }
-        ensures { result ≡ stands_active (slice_index_or self.now i Standing.Active) }
+        requires { i < length self.now.standings }
+        ensures { result ≡ stands_active (slice_index_or self.now.standings i Standing.Active) }
     {
         match self.standings[i] {
             Standing::Active => true,
@@ -130,34 +150,42 @@ impl Clock {
         }
     }
 
-    // The station at this place goes on air in this round.
+    // The active station at this place goes on air in this round.
     fn air(&mut self, i: usize, round: u32)
-        requires { i < length self.old }
-        ensures { self.new ≡ slice_set self.old i (Standing.OnAir round) }
+        requires place { i < length self.old.standings }
+        requires active { slice_index_or self.old.standings i Standing.Active ≡ Standing.Active }
+        ensures { self.new ≡ record { standings = slice_set self.old.standings i (Standing.OnAir round); paid = self.old.paid } }
     {
         self.standings[i] = Standing::OnAir { round };
     }
 
-    // The station at this place is frozen in this round, at this price, in cents.
-    fn freeze(&mut self, i: usize, round: u32, price: u64)
-        requires { i < length self.old }
-        ensures { self.new ≡ slice_set self.old i (Standing.Frozen round price) }
+    // The active station at this place, of this facility number, is frozen in this round, at this price, in cents.
+    fn freeze(&mut self, i: usize, station: u32, round: u32, price: u64)
+        requires place { i < length self.old.standings }
+        requires active { slice_index_or self.old.standings i Standing.Active ≡ Standing.Active }
+        requires absent { price_of station self.old.paid ≡ None }
+        requires few { length self.old.standings ≤ 8192 }
+        requires price { price ≤ most_paid }
+        ensures { self.new ≡ record { standings = slice_set self.old.standings i (Standing.Frozen round); paid = with_price station price self.old.paid } }
     {
-        self.standings[i] = Standing::Frozen { round, price };
+        self.standings[i] = Standing::Frozen { round };
+        self.ledger.freeze(station, price);
     }
 
     /// The active station at this place, once its test of this round is answered: one that fits goes on air in the last
-    /// round, or where it declines the round's offer; one that doesn't is frozen at the offer of one round before.
+    /// round, or where it declines the round's offer; one that doesn't is frozen at the offer of one round before. It takes no
+    /// memory.
     pub fn settle(&mut self, sc: &Scenario, schedule: &[u32], i: usize, round: u32, fits: bool)
         requires limits { IsWithinLimits sc.now }
         requires schedule { schedule.now ≡ prices sc.now }
         requires place { i < length sc.now.stations }
-        requires stations { length self.old ≡ length sc.now.stations }
-        requires active { slice_index_or self.old i Standing.Active ≡ Standing.Active }
+        requires stations { length self.old.standings ≡ length sc.now.stations }
+        requires active { slice_index_or self.old.standings i Standing.Active ≡ Standing.Active }
+        requires unpaid { price_of (slice_index (facilities sc.now) i) self.old.paid ≡ None }
         requires begun { 1 ≤ round }
         requires round { round ≤ last_round sc.now }
-        ensures { self.new ≡ slice_set self.old i (answered_standing sc.now
-            (record { round = round; station = slice_index (facilities sc.now) i }) fits) }
+        ensures { self.new ≡ answered_clock sc.now
+            (record { round = round; station = slice_index (facilities sc.now) i }) i fits self.old }
     {
         if fits {
             if exits(sc, schedule, i, round) {
@@ -165,9 +193,21 @@ impl Clock {
             }
             return;
         }
-        let volume = sc.stations.as_slice()[i].volume;
-        self.freeze(i, round, offer(schedule, volume, round - 1));
+        let station = &sc.stations.as_slice()[i];
+        let price = offer(schedule, station.volume, round - 1);
+        self.freeze(i, station.id, round, price);
     }
+}
+
+// An empty ledger with room for so many stations.
+fn room_to_pay(alloc: Global, stations: usize) -> Result<Ledger, NoMemory>
+    requires { stations ≤ 8192 }
+    ensures paid { IfOk result (λ ledger. ledger.paid ≡ []) }
+    ensures room { IfOk result (λ ledger. stations ≤ ledger.spare) }
+{
+    let mut ledger = Ledger::new(alloc);
+    ledger.reserve(stations as u32)?;
+    Ok(ledger)
 }
 
 #[cfg(test)]
@@ -221,11 +261,10 @@ mod tests {
         clock.settle(&sc, &prices, 0, 1, true);
         assert!(rt; clock.is_active(0));
         clock.settle(&sc, &prices, 0, 2, false);
-        let frozen = Standing::Frozen {
-            round: 2,
-            price: 60,
-        };
-        assert_eq!(rt; clock.standings()[0], frozen);
+        assert_eq!(rt; clock.standings()[0], Standing::Frozen { round: 2 });
+        assert_eq!(rt; clock.paid(3), Some(60));
+        assert_eq!(rt; clock.paid(8), None);
+        assert_eq!(rt; clock.total(), 60);
         Ok(())
     }
 }

@@ -8,7 +8,7 @@ ghost use Rattle.pack_defs.specs.Prices.{last_round};
 ghost use Rattle.pack_defs.specs.Scenario.{facilities};
 ghost use Rattle.auction_core.specs.Backed.{IsStartShown, IsStepShown, record_of};
 ghost use Rattle.auction_core.specs.Clock.{AreStandings, stands_on_air};
-ghost use Rattle.auction_core.specs.Course.{IsAtRest, IsCourse, IsDue, IsSettled, clock_of, core_state, is_roomy, left_of, map_after, next_test, paid, turns_left, unasked_of};
+ghost use Rattle.auction_core.specs.Course.{IsAtRest, IsCourse, IsDue, IsSettled, clock_of, core_state, is_roomy, left_of, map_after, next_test, turns_left, unasked_of};
 ghost use Rattle.auction_core.specs.Parts.{IsPartsOf, label_of, labelled, relabelled};
 ghost use Rattle.auction_core.specs.State.{before_start, go_on, is_same, last_fit, start_delta, start_fits, started};
 ghost use Rattle.auction_core.specs.StepList.{takes_verdict, way_of};
@@ -30,7 +30,6 @@ pub struct Course {
     clock: Clock,
     map: AirMap,
     past: Past,
-    total: u64,
     // The next test: its round, and where its station comes in the round.
     round: u32,
     turn: usize,
@@ -43,10 +42,9 @@ impl Model for Course {
 
     ghost view = { λ c. record {
       start = c.start;
-      standings = c.clock;
+      clock = c.clock;
       map = c.map;
       past = c.past;
-      total = c.total;
       round = c.round;
       turn = c.turn;
     } };
@@ -69,7 +67,6 @@ impl Course {
             clock,
             map: AirMap::none(alloc, stations)?,
             past,
-            total: 0,
             round: 1,
             turn: 0,
         };
@@ -193,7 +190,7 @@ impl Course {
             start,
             map,
             past,
-            total,
+            clock,
             ..
         } = self;
         let Some(start) = start else { unreachable!() };
@@ -204,7 +201,7 @@ impl Course {
             start,
             steps: past.into_steps(alloc)?,
             map: map.whole(alloc)?,
-            total,
+            total: clock.total(),
         })
     }
 
@@ -238,7 +235,6 @@ impl Course {
             },
         );
         let standing = self.clock.standings()[place];
-        self.total += paid(&standing);
         take_if(&mut self.map, &self.past, place, &standing);
         air_if(&mut self.past, setup.book(), station, &standing);
         self.turn += 1;
@@ -341,16 +337,6 @@ impl Course {
         ensures state { (n : ℕ) → core_state setup.now self.new n ≡ go_on setup.now.scenario setup.now.book (left_of setup.now self.old) (core_state setup.now self.old n) }
     {
         while self.pass(setup) {}
-    }
-}
-
-// What a station that stands so is paid, in cents.
-fn paid(standing: &Standing) -> u64
-    ensures { result ≡ paid standing.now }
-{
-    match standing {
-        Standing::Frozen { price, .. } => *price,
-        _ => 0,
     }
 }
 

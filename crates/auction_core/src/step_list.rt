@@ -1,9 +1,9 @@
 //! The steps of an auction, kept so that one that needed no query costs a few bytes.
 
-ghost use Rattle.std.specs.Prelude.{◌≡◌, ◌≤◌, ◌+◌, ◌++◌, ◌∷◌, [], IfOk, OnOk, length, option_map, true, unwrap_or};
+ghost use Rattle.std.specs.Prelude.{◌≡◌, ◌≤◌, ◌+◌, ◌++◌, ◌∷◌, [], IfOk, MatchOption, OnOk, length, option_map, slice_get, true, unwrap_or, ⊤};
 ghost use Rattle.std.specs.Vec.Iter.{into_iter_items};
 ghost use Rattle.auction_core.specs.State.{fit_of};
-ghost use Rattle.auction_core.specs.StepList.{fit_at, names_only, shown_by, takes_verdict, told_behind, told_with, way_of};
+ghost use Rattle.auction_core.specs.StepList.{fit_at, line_of, names_only, shown_by, takes_verdict, told_behind, told_with, way_of};
 
 use crate::record::{Shown, Step};
 use pack_defs::channel_map::ChannelMap;
@@ -41,8 +41,8 @@ pub struct StepList {
 }
 
 impl Model for StepList {
-    ghost use Rattle.std.specs.Prelude.{◌≡◌, ◌-◌, length, vec_capacity, vec_len};
-    ghost use Rattle.auction_core.specs.StepList.{StepListView, merged, takers};
+    ghost use Rattle.std.specs.Prelude.{◌-◌, vec_capacity, vec_len};
+    ghost use Rattle.auction_core.specs.StepList.{IsKept, StepListView, merged};
 
     ghost Value = { StepListView };
 
@@ -53,7 +53,7 @@ impl Model for StepList {
       verdicts = vec_capacity l.told - vec_len l.told;
     } };
 
-    ghost invariant = { λ l. takers l.lines.items ≡ length l.told.items };
+    ghost invariant = { λ l. IsKept l.lines.items l.told.items };
 }
 
 impl StepList {
@@ -80,6 +80,18 @@ impl StepList {
         ensures { result ≡ length self.now.told }
     {
         self.told.len()
+    }
+
+    /// The step at this place, from 0, without its verdict: when and of whom it was, and what shows it; none behind the last.
+    /// Where that is a station without a channel, it is the step's own.
+    pub fn line(&self, place: usize) -> Option<Line>
+        ensures line { result ≡ option_map line_of (slice_get self.now.steps place) }
+        ensures names { MatchOption (slice_get self.now.steps place) ⊤ (λ x. names_only x.station x.shown ≡ true) }
+    {
+        match self.lines.get(place) {
+            Some(line) => Some(*line),
+            None => None,
+        }
     }
 
     /// The fit at this place among the verdicts, counted from 1; none at 0, or where the verdict there is no fit.

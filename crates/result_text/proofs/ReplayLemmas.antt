@@ -9,6 +9,7 @@ use Rattle.pack_defs.specs.Scenario.{IsWithinLimits, StationsAscend, facilities}
 use Rattle.pack_defs.specs.Book.{BookView, IsInOrder}
 use Rattle.pack_defs.specs.ClockRule.{ClockTest, ClockState, OnAirSince, clock_rule, exits, is_listed, opening_state}
 use Rattle.pack_defs.proofs.Members.{is_in-from}
+use Rattle.freeze_ledger.specs.Ledger.{price_of}
 use Rattle.auction_core.specs.declared.clock.Standing.{Standing}
 use Rattle.auction_core.specs.declared.clock.Standing.TheVariants.{Active, OnAir}
 use Rattle.auction_core.specs.declared.record.Record.{Record}
@@ -18,9 +19,10 @@ use Rattle.auction_core.specs.declared.record.Step.{Step}
 use Rattle.auction_core.specs.declared.record.Ending.TheVariants.{Done}
 use Rattle.auction_core.specs.State.{shows_room, test_of}
 use Rattle.auction_core.specs.Backed.{IsBacked, after_start, after_steps, is_undecided, undecided_of}
-use Rattle.auction_core.specs.Clock.{AreStandings, answered_standing, standing_from, standing_of}
+use Rattle.auction_core.specs.Clock.{AreStandings, ClockView, IsClockOf, answered_clock, answered_standing, standing_from, standing_of}
 use Rattle.auction_core.specs.Rule.{IsAuction}
-use Rattle.auction_core.proofs.ClockLemmas.{active-is, answer-standings, is_active_at, length-standings}
+use Rattle.auction_core.proofs.ClockLemmas.{active-is, is_active_at, length-standings}
+use Rattle.auction_core.proofs.Paid.{active-unpaid, answer-clock}
 use Rattle.result_text.specs.ResultText.{each_frozen_by, frozen_by}
 use Rattle.result_text.proofs.StepLemmas.{IsNext, backed-clock}
 
@@ -39,17 +41,21 @@ next-there {sc} {rec} {steps} {k} {x} stations next same absent =
 pub next-active : {sc : Scenario} {rec : Record} {steps : List Step} {k : ℕ} {x : Step} {v : List Standing} (i : ℕ) → IsNext sc rec steps k x → AreStandings sc (after_steps sc (after_start sc rec.order rec.start) (take k steps)).clock v → i < length sc.stations → get_or (facilities sc) i 0 ≡ x.station → get_or v i Active ≡ Active
 next-active {sc} {rec} {steps} {k} {x} {v} i next are h at = active-is (get_or v i Active) (sym (is_active_at i x.station Active are h at) ∙ next.active)
 
--- and its standing alone moves
-pub next-standings : {sc : Scenario} {rec : Record} {steps : List Step} {k : ℕ} {x : Step} {v : List Standing} (i : ℕ) → IsNext sc rec steps k x → StationsAscend sc → AreStandings sc (after_steps sc (after_start sc rec.order rec.start) (take k steps)).clock v → i < length sc.stations → get_or (facilities sc) i 0 ≡ x.station →
-    AreStandings sc (after_steps sc (after_start sc rec.order rec.start) (take (k + 1) steps)).clock (set v i (answered_standing sc (test_of x) (shows_room x.shown)))
-next-standings {sc} {rec} {steps} {k} {x} {v} i next ascend are h at =
-    subst (λ p. AreStandings sc p.clock (set v i (answered_standing sc (test_of x) (shows_room x.shown)))) (sym next.moves)
-    (answer-standings i (test_of x) (shows_room x.shown) ascend are h at next.active)
+-- it isn't paid
+pub next-unpaid : {sc : Scenario} {rec : Record} {steps : List Step} {k : ℕ} {x : Step} {v : ClockView} (i : ℕ) → IsNext sc rec steps k x → IsClockOf sc (after_steps sc (after_start sc rec.order rec.start) (take k steps)).clock v → i < length sc.stations → get_or (facilities sc) i 0 ≡ x.station → price_of (get_or (facilities sc) i 0) v.paid ≡ None
+next-unpaid {sc} {rec} {steps} {k} {x} {v} i next is h at = ap (λ f. price_of f v.paid) at ∙ active-unpaid i x.station is h at next.active
 
--- after a backed record's last step the standings are the rule's
-pub last-standings : {sc : Scenario} {v : List Standing} (book : BookView) (rec : Record) (steps : List Step) (k : ℕ) → IsAuction sc book → IsBacked sc book rec.order rec → rec.ending ≡ Done → steps ≡ rec.steps → length steps ≤ k → AreStandings sc (after_steps sc (after_start sc rec.order rec.start) (take k steps)).clock v → AreStandings sc (clock_rule sc book rec.order (undecided_of rec.steps)) v
-last-standings {sc} {v} book rec steps k a backed done same h are =
-    subst (λ z. AreStandings sc z v) (ap (λ ys. (after_steps sc (after_start sc rec.order rec.start) ys).clock) (take_all k steps h ∙ same) ∙ backed-clock sc book rec a backed done) are
+-- and it alone moves
+pub next-clock : {sc : Scenario} {rec : Record} {steps : List Step} {k : ℕ} {x : Step} {v : ClockView} (i : ℕ) → IsNext sc rec steps k x → StationsAscend sc → IsClockOf sc (after_steps sc (after_start sc rec.order rec.start) (take k steps)).clock v → i < length sc.stations → get_or (facilities sc) i 0 ≡ x.station →
+    IsClockOf sc (after_steps sc (after_start sc rec.order rec.start) (take (k + 1) steps)).clock (answered_clock sc (test_of x) i (shows_room x.shown) v)
+next-clock {sc} {rec} {steps} {k} {x} {v} i next ascend are h at =
+    subst (λ p. IsClockOf sc p.clock (answered_clock sc (test_of x) i (shows_room x.shown) v)) (sym next.moves)
+    (answer-clock i (test_of x) (shows_room x.shown) ascend are h at next.active)
+
+-- after a backed record's last step the clock is the rule's
+pub last-clock : {sc : Scenario} {v : ClockView} (book : BookView) (rec : Record) (steps : List Step) (k : ℕ) → IsAuction sc book → IsBacked sc book rec.order rec → rec.ending ≡ Done → steps ≡ rec.steps → length steps ≤ k → IsClockOf sc (after_steps sc (after_start sc rec.order rec.start) (take k steps)).clock v → IsClockOf sc (clock_rule sc book rec.order (undecided_of rec.steps)) v
+last-clock {sc} {v} book rec steps k a backed done same h are =
+    subst (λ z. IsClockOf sc z v) (ap (λ ys. (after_steps sc (after_start sc rec.order rec.start) ys).clock) (take_all k steps h ∙ same) ∙ backed-clock sc book rec a backed done) are
 
 -- ---- the undecided
 

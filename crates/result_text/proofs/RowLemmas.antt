@@ -1,6 +1,6 @@
 -- The rows of the result, by the standings.
-use Rattle.std.proofs.Common.{◌≡◌, ℕ, zero, suc, ◌+◌, ◌<◌, ◌%◌, ◌^◌, Bool, false, if◌then◌else◌, eqb, inl, inr, List, [], ◌∷◌, ◌++◌, map, take, length, get_or, refl, sym, ap, ◌∙◌, arith, add-one, append_assoc, decimal, ne_eqb}
-use Rattle.std.specs.List.{filter_map, cons_option, flat_map, list_any}
+use Rattle.std.proofs.Common.{◌≡◌, ℕ, zero, suc, ◌+◌, ◌<◌, ◌%◌, ◌^◌, Bool, false, if◌then◌else◌, eqb, inl, inr, List, [], ◌∷◌, ◌++◌, Some, option_map, unwrap_or, map, take, length, get_or, refl, sym, ap, ◌∙◌, arith, add-one, append_assoc, decimal, ne_eqb}
+use Rattle.std.specs.List.{filter_map, cons_option, find, flat_map, list_any}
 use Rattle.std.proofs.lemmas.Bool.{eqb-true}
 use Rattle.std.proofs.lemmas.Fmt.{decimal_by_steps}
 use Rattle.std.proofs.lemmas.List.{append-nil, get_or-map, length-map}
@@ -11,10 +11,12 @@ use Rattle.pack_defs.specs.declared.station.Station.{Station}
 use Rattle.pack_defs.specs.Scenario.{facilities}
 use Rattle.pack_defs.specs.ClockRule.{ClockState, ClockTest, FrozenAt, OnAirSince, is_listed}
 use Rattle.pack_defs.specs.ResultRows.{Frozen, ResultRow, Undecided, on_air_row, row_of, result_rows}
+use Rattle.freeze_ledger.specs.Ledger.{price_of}
 use Rattle.auction_core.specs.declared.clock.Standing.{Standing}
-use Rattle.auction_core.specs.Clock.{AreStandings, standing_of}
+use Rattle.auction_core.specs.Clock.{ClockView, IsClockOf, standing_of}
 use Rattle.auction_core.proofs.Finds.{find_cases}
-use Rattle.result_text.specs.ResultText.{each_frozen_by, frozen_by, header_line, result_text, row_fields, row_line, standing_line, standing_lines}
+use Rattle.result_text.specs.ChannelsText.{channel_line}
+use Rattle.result_text.specs.ResultText.{each_frozen_by, frozen_by, header_line, price_in, result_text, row_fields, row_line, standing_line, standing_lines}
 
 -- ---- a row has no quotes
 
@@ -34,6 +36,10 @@ unfolding fields_text is_blank
 row-plain facility round price word f r p plain =
     rw (decimal-plain facility f, plain, decimal-plain round r, decimal-plain price p) (simp (append-nil, append_assoc))
 
+pub entry-plain : (facility channel : ℕ) → facility < 2 ^ 64 → channel < 2 ^ 64 → row_text default_writer (decimal facility ∷ decimal channel ∷ []) ≡ channel_line (facility, channel)
+unfolding fields_text is_blank
+entry-plain facility channel f c = rw (decimal-plain facility f, decimal-plain channel c) (simp (append-nil, append_assoc))
+
 -- ---- the lines by the standings
 
 -- the row of a frozen station, of this number
@@ -45,54 +51,55 @@ frozen_of tests x s = record {
   price = x.price;
 }
 
--- a station's row is that of its standing, and of whether an undecided test froze it
-row_of-line : (tests : List ClockTest) (st : ClockState) (s : ℕ) (rest : List ResultRow) → flat_map row_line (cons_option (row_of tests st s) rest) ≡ standing_line s (standing_of st s) (frozen_by tests s (standing_of st s)) ++ flat_map row_line rest
+-- a station's row is that of its standing, of whether an undecided test froze it, and of its price, if it is frozen
+row_of-line : (tests : List ClockTest) (st : ClockState) (s price : ℕ) (rest : List ResultRow) → ((x : FrozenAt) → find (λ (y : FrozenAt). eqb y.station s) st.frozen ≡ Some x → price ≡ x.price) → flat_map row_line (cons_option (row_of tests st s) rest) ≡ standing_line s (standing_of st s) (frozen_by tests s (standing_of st s)) price ++ flat_map row_line rest
 unfolding frozen_of
-row_of-line tests st s rest =
+row_of-line tests st s price rest own =
     elim (find_cases (λ (x : FrozenAt). eqb x.station s) st.frozen) [
-      | inr f ↦ rw f.1 (ap (λ i. row_line (frozen_of tests f.0 i) ++ flat_map row_line rest) (eqb-true f.0.station s f.2))
+      | inr f ↦ rw (f.1, own f.0 f.1) (ap (λ i. row_line (frozen_of tests f.0 i) ++ flat_map row_line rest) (eqb-true f.0.station s f.2))
       | inl no_frozen ↦ elim (find_cases (λ (x : OnAirSince). eqb x.station s) st.on_air) [
         | inr o ↦ rw (no_frozen.0, o.1) (ap (λ i. row_line (on_air_row (record { station = i; round = o.0.round })) ++ flat_map row_line rest) (eqb-true o.0.station s o.2))
         | inl no_air ↦ rw (no_frozen.0, no_air.0) refl
       ]
     ]
 
-rows-lines : (tests : List ClockTest) (st : ClockState) (fs : List ℕ) → flat_map row_line (filter_map (row_of tests st) fs) ≡ standing_lines fs (map (standing_of st) fs) (each_frozen_by tests fs (map (standing_of st) fs))
-rows-lines tests st [] = refl
-rows-lines tests st (f ∷ fs) = row_of-line tests st f (filter_map (row_of tests st) fs) ∙ ap (λ ls. standing_line f (standing_of st f) (frozen_by tests f (standing_of st f)) ++ ls) (rows-lines tests st fs)
+rows-lines : (tests : List ClockTest) (st : ClockState) (paid : List (ℕ × ℕ)) (fs : List ℕ) → ((s : ℕ) → price_of s paid ≡ option_map (λ (x : FrozenAt). x.price) (find (λ (x : FrozenAt). eqb x.station s) st.frozen)) → flat_map row_line (filter_map (row_of tests st) fs) ≡ standing_lines paid fs (map (standing_of st) fs) (each_frozen_by tests fs (map (standing_of st) fs))
+rows-lines tests st paid [] each = refl
+rows-lines tests st paid (f ∷ fs) each =
+    row_of-line tests st f (price_in paid f) (filter_map (row_of tests st) fs) (λ x found. ap (λ o. unwrap_or o 0) (each f ∙ ap (option_map (λ (y : FrozenAt). y.price)) found))
+    ∙ ap (λ ls. standing_line f (standing_of st f) (frozen_by tests f (standing_of st f)) (price_in paid f) ++ ls) (rows-lines tests st paid fs each)
 
 -- the result by the standings
-result_text-standings : {sc : Scenario} {st : ClockState} {v : List Standing} (tests : List ClockTest) → AreStandings sc st v → header_line ++ standing_lines (facilities sc) v (each_frozen_by tests (facilities sc) v) ≡ result_text sc st tests
+result_text-standings : {sc : Scenario} {st : ClockState} {v : ClockView} (tests : List ClockTest) → IsClockOf sc st v → header_line ++ standing_lines v.paid (facilities sc) v.standings (each_frozen_by tests (facilities sc) v.standings) ≡ result_text sc st tests
 unfolding result_text result_rows
-result_text-standings {sc} {st} {v} tests are =
-    ap (λ ls. header_line ++ ls) (ap (λ xs. standing_lines (facilities sc) xs (each_frozen_by tests (facilities sc) xs)) are.each ∙ sym (rows-lines tests st (facilities sc)))
+result_text-standings {sc} {st} {v} tests is =
+    ap (λ ls. header_line ++ ls) (ap (λ xs. standing_lines v.paid (facilities sc) xs (each_frozen_by tests (facilities sc) xs)) is.standings.each ∙ sym (rows-lines tests st v.paid (facilities sc) is.paid.each))
 
 -- one line more
-standing_lines_more : (fs : List ℕ) (xs : List Standing) (us : List Bool) (i : ℕ) (d : Standing) (u : Bool) → i < length fs → i < length xs → i < length us → standing_lines (take (i + 1) fs) (take (i + 1) xs) (take (i + 1) us) ≡ standing_lines (take i fs) (take i xs) (take i us) ++ standing_line (get_or fs i 0) (get_or xs i d) (get_or us i u)
-standing_lines_more fs xs us i d u h k m = rw add-one (next fs xs us i h k m)
+standing_lines_more : (paid : List (ℕ × ℕ)) (fs : List ℕ) (xs : List Standing) (us : List Bool) (i : ℕ) (d : Standing) (u : Bool) → i < length fs → i < length xs → i < length us → standing_lines paid (take (i + 1) fs) (take (i + 1) xs) (take (i + 1) us) ≡ standing_lines paid (take i fs) (take i xs) (take i us) ++ standing_line (get_or fs i 0) (get_or xs i d) (get_or us i u) (price_in paid (get_or fs i 0))
+standing_lines_more paid fs xs us i d u h k m = rw add-one (next fs xs us i h k m)
   where
-    next : (fs : List ℕ) (xs : List Standing) (us : List Bool) (i : ℕ) → i < length fs → i < length xs → i < length us → standing_lines (take (suc i) fs) (take (suc i) xs) (take (suc i) us) ≡ standing_lines (take i fs) (take i xs) (take i us) ++ standing_line (get_or fs i 0) (get_or xs i d) (get_or us i u)
+    next : (fs : List ℕ) (xs : List Standing) (us : List Bool) (i : ℕ) → i < length fs → i < length xs → i < length us → standing_lines paid (take (suc i) fs) (take (suc i) xs) (take (suc i) us) ≡ standing_lines paid (take i fs) (take i xs) (take i us) ++ standing_line (get_or fs i 0) (get_or xs i d) (get_or us i u) (price_in paid (get_or fs i 0))
     next [] xs us i h k m = absurd (omega arith)
     next (f ∷ fs) [] us i h k m = absurd (omega arith)
     next (f ∷ fs) (x ∷ xs) [] i h k m = absurd (omega arith)
-    next (f ∷ fs) (x ∷ xs) (w ∷ us) zero h k m = append-nil (standing_line f x w)
+    next (f ∷ fs) (x ∷ xs) (w ∷ us) zero h k m = append-nil (standing_line f x w (price_in paid f))
     next (f ∷ fs) (x ∷ xs) (w ∷ us) (suc i) h k m =
-        ap (λ ls. standing_line f x w ++ ls) (next fs xs us i (omega arith) (omega arith) (omega arith)) ∙ sym (append_assoc (standing_line f x w) (standing_lines (take i fs) (take i xs) (take i us)) (standing_line (get_or fs i 0) (get_or xs i d) (get_or us i u)))
+        ap (λ ls. standing_line f x w (price_in paid f) ++ ls) (next fs xs us i (omega arith) (omega arith) (omega arith)) ∙ sym (append_assoc (standing_line f x w (price_in paid f)) (standing_lines paid (take i fs) (take i xs) (take i us)) (standing_line (get_or fs i 0) (get_or xs i d) (get_or us i u) (price_in paid (get_or fs i 0))))
 
 -- the rows so far, and one more
-pub rows_more : (stations : List Station) (xs : List Standing) (us : List Bool) (i : ℕ) (a : Station) (d : Standing) (u : Bool) → i < length stations → length xs ≡ length stations → length us ≡ length stations →
-    (header_line ++ standing_lines (take i (map (λ x. x.id) stations)) (take i xs) (take i us)) ++ standing_line (get_or stations i a).id (get_or xs i d) (get_or us i u) ≡ header_line ++ standing_lines (take (i + 1) (map (λ x. x.id) stations)) (take (i + 1) xs) (take (i + 1) us)
-rows_more stations xs us i a d u h same also =
+pub rows_more : (paid : List (ℕ × ℕ)) (stations : List Station) (xs : List Standing) (us : List Bool) (i : ℕ) (a : Station) (d : Standing) (u : Bool) → i < length stations → length xs ≡ length stations → length us ≡ length stations →
+    (header_line ++ standing_lines paid (take i (map (λ x. x.id) stations)) (take i xs) (take i us)) ++ standing_line (get_or stations i a).id (get_or xs i d) (get_or us i u) (price_in paid (get_or stations i a).id) ≡ header_line ++ standing_lines paid (take (i + 1) (map (λ x. x.id) stations)) (take (i + 1) xs) (take (i + 1) us)
+rows_more paid stations xs us i a d u h same also =
     let ids : List ℕ = map (λ (x : Station). x.id) stations in
     let n = length-map stations (λ (x : Station). x.id) in
-    append_assoc header_line (standing_lines (take i ids) (take i xs) (take i us)) (standing_line (get_or stations i a).id (get_or xs i d) (get_or us i u))
+    append_assoc header_line (standing_lines paid (take i ids) (take i xs) (take i us)) (standing_line (get_or stations i a).id (get_or xs i d) (get_or us i u) (price_in paid (get_or stations i a).id))
     ∙ ap (λ ls. header_line ++ ls)
-    (ap (λ f. standing_lines (take i ids) (take i xs) (take i us) ++ standing_line f (get_or xs i d) (get_or us i u)) (sym (get_or-map (λ (x : Station). x.id) stations i a 0 h))
-    ∙ sym (standing_lines_more ids xs us i d u (omega (arith, n)) (omega (arith, same)) (omega (arith, also))))
+    (ap (λ f. standing_lines paid (take i ids) (take i xs) (take i us) ++ standing_line f (get_or xs i d) (get_or us i u) (price_in paid f)) (sym (get_or-map (λ (x : Station). x.id) stations i a 0 h))
+    ∙ sym (standing_lines_more paid ids xs us i d u (omega (arith, n)) (omega (arith, same)) (omega (arith, also))))
 
 -- the whole result
-pub rows-text : {sc : Scenario} {st : ClockState} {v : List Standing} (tests : List ClockTest) (stations : List Station) (xs : List Standing) (us : List Bool) → AreStandings sc st v → stations ≡ sc.stations → xs ≡ v → us ≡ each_frozen_by tests (facilities sc) v → header_line ++ standing_lines (map (λ x. x.id) stations) xs us ≡ result_text sc st tests
-rows-text {sc} {st} {v} tests stations xs us are same as_stands marks =
-    ap (λ (ys : List Station). header_line ++ standing_lines (map (λ x. x.id) ys) xs us) same
-    ∙ (ap (λ ys. header_line ++ standing_lines (facilities sc) ys us) as_stands
-    ∙ (ap (λ zs. header_line ++ standing_lines (facilities sc) v zs) marks ∙ result_text-standings tests are))
+pub rows-text : {sc : Scenario} {st : ClockState} {v : ClockView} (tests : List ClockTest) (stations : List Station) (us : List Bool) → IsClockOf sc st v → stations ≡ sc.stations → us ≡ each_frozen_by tests (facilities sc) v.standings → header_line ++ standing_lines v.paid (map (λ x. x.id) stations) v.standings us ≡ result_text sc st tests
+rows-text {sc} {st} {v} tests stations us is same marks =
+    ap (λ (ys : List Station). header_line ++ standing_lines v.paid (map (λ x. x.id) ys) v.standings us) same
+    ∙ (ap (λ zs. header_line ++ standing_lines v.paid (facilities sc) v.standings zs) marks ∙ result_text-standings tests is)

@@ -1,5 +1,5 @@
 -- The texts of the result and of the summary.
-use Rattle.std.specs.Prelude.{ℕ, Bool, false, if◌then◌else◌, List, [], ◌∷◌, ◌++◌, ◌≡◌, Vec, length, sum_by, count_by, codes, decimal}
+use Rattle.std.specs.Prelude.{ℕ, Bool, false, if◌then◌else◌, List, [], ◌∷◌, ◌++◌, ◌≡◌, unwrap_or, Vec, length, sum_by, count_by, codes, decimal}
 use Rattle.std.specs.List.{flat_map}
 use Rattle.std.specs.declared.alloc.Global.{Global}
 use Rattle.csv.specs.Writing.{default_writer, fields_written, has_written, writer_pending, writer_setup, writer_under}
@@ -7,6 +7,7 @@ use Rattle.csv.specs.declared.writer.Writer.{Writer}
 use Rattle.pack_defs.specs.declared.scenario.Scenario.{Scenario}
 use Rattle.pack_defs.specs.ClockRule.{ClockTest, ClockState, is_listed}
 use Rattle.pack_defs.specs.ResultRows.{Outcome, Start, Exit, Frozen, Undecided, ResultRow, on_air_row, result_rows}
+use Rattle.freeze_ledger.specs.Ledger.{price_of}
 use Rattle.auction_core.specs.declared.clock.Standing.{Standing}
 use Rattle.auction_core.specs.declared.clock.Standing.TheVariants as standing
 
@@ -38,7 +39,7 @@ result_text sc state undecided = header_line ++ flat_map row_line (result_rows s
 abbrev pub frozen_by : List ClockTest → ℕ → Standing → Bool
 frozen_by tests f standing.Active = false
 frozen_by tests f (standing.OnAir round) = false
-frozen_by tests f (standing.Frozen round price) = is_listed tests (record { round = round; station = f })
+frozen_by tests f (standing.Frozen round) = is_listed tests (record { round = round; station = f })
 
 -- the same of each of these stations, each beside its standing
 abbrev pub each_frozen_by : List ClockTest → List ℕ → List Standing → List Bool
@@ -46,19 +47,24 @@ each_frozen_by tests [] xs = []
 each_frozen_by tests (f ∷ fs) [] = []
 each_frozen_by tests (f ∷ fs) (x ∷ xs) = frozen_by tests f x ∷ each_frozen_by tests fs xs
 
--- the line of a station that stands so, and whether it is undecided, which a frozen one may be; none while it is active
-abbrev pub standing_line : ℕ → Standing → Bool → List ℕ
-standing_line f standing.Active u = []
-standing_line f (standing.OnAir round) u = row_line (on_air_row (record { station = f; round = round }))
-standing_line f (standing.Frozen round price) u =
+-- what the station is paid by these entries, in cents; 0 where none is its own
+abbrev pub price_in : List (ℕ × ℕ) → ℕ → ℕ
+price_in paid f = unwrap_or (price_of f paid) 0
+
+-- The line of a station that stands so, and whether it is undecided, and at which price, which a frozen one may be; none while
+-- it is active.
+abbrev pub standing_line : ℕ → Standing → Bool → ℕ → List ℕ
+standing_line f standing.Active u price = []
+standing_line f (standing.OnAir round) u price = row_line (on_air_row (record { station = f; round = round }))
+standing_line f (standing.Frozen round) u price =
     row_line (record { facility = f; outcome = if u then Undecided else Frozen; round = round; price = price })
 
--- the lines of these stations, each beside its standing and whether it is undecided
-abbrev pub standing_lines : List ℕ → List Standing → List Bool → List ℕ
-standing_lines [] xs us = []
-standing_lines (f ∷ fs) [] us = []
-standing_lines (f ∷ fs) (x ∷ xs) [] = []
-standing_lines (f ∷ fs) (x ∷ xs) (u ∷ us) = standing_line f x u ++ standing_lines fs xs us
+-- the lines of these stations, each beside its standing and whether it is undecided, and paid by these entries
+abbrev pub standing_lines : List (ℕ × ℕ) → List ℕ → List Standing → List Bool → List ℕ
+standing_lines paid [] xs us = []
+standing_lines paid (f ∷ fs) [] us = []
+standing_lines paid (f ∷ fs) (x ∷ xs) [] = []
+standing_lines paid (f ∷ fs) (x ∷ xs) (u ∷ us) = standing_line f x u (price_in paid f) ++ standing_lines paid fs xs us
 
 -- a line of the summary
 unfoldable pub count_line : List ℕ → ℕ → List ℕ

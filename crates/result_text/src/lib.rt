@@ -1,8 +1,9 @@
-//! The texts of a finished auction's result and of its summary, from its record.
+//! The texts of a finished auction: of its result, its channels and its summary, from its record.
 #![tactic(auto)]
 
 #[cfg(test)]
 mod carried;
+pub mod channels;
 pub mod counts;
 mod replay;
 pub mod rows;

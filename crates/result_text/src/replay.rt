@@ -6,7 +6,7 @@ ghost use Rattle.pack_defs.specs.Lists.{is_in};
 ghost use Rattle.pack_defs.specs.Scenario.{IsWithinLimits, facilities};
 ghost use Rattle.pack_defs.specs.ClockRule.{clock_rule};
 ghost use Rattle.auction_core.specs.Backed.{IsBacked, is_undecided, undecided_of};
-ghost use Rattle.auction_core.specs.Clock.{AreStandings};
+ghost use Rattle.auction_core.specs.Clock.{IsClockOf};
 ghost use Rattle.result_text.specs.ResultText.{each_frozen_by};
 
 use auction_core::clock::{Clock, Standing};
@@ -48,11 +48,11 @@ pub(crate) fn final_outcomes(alloc: Global, rec: &Record, book: &Book) -> Result
     requires backed { IsBacked rec.now.scenario book.now rec.now.order rec.now }
     requires done { rec.now.ending ≡ Ending.Done }
     requires limits { IsWithinLimits rec.now.scenario }
-    ensures standings { IfOk result
+    ensures clock { IfOk result
         (λ o. let tests = undecided_of rec.now.steps in
-        AreStandings rec.now.scenario (clock_rule rec.now.scenario book.now rec.now.order tests) o.clock) }
+        IsClockOf rec.now.scenario (clock_rule rec.now.scenario book.now rec.now.order tests) o.clock) }
     ensures undecided { IfOk result
-        (λ o. o.undecided.items ≡ each_frozen_by (undecided_of rec.now.steps) (facilities rec.now.scenario) o.clock) }
+        (λ o. o.undecided.items ≡ each_frozen_by (undecided_of rec.now.steps) (facilities rec.now.scenario) o.clock.standings) }
 {
     let _stations = book.len();
     let sc = &rec.scenario;

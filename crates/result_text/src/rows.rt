@@ -5,10 +5,10 @@ ghost use Rattle.csv.specs.Writing.{default_writer, needs_quotes};
 ghost use Rattle.pack_defs.specs.Scenario.{IsWithinLimits};
 ghost use Rattle.pack_defs.specs.ClockRule.{clock_rule};
 ghost use Rattle.auction_core.specs.Backed.{IsBacked, undecided_of};
-ghost use Rattle.result_text.specs.ResultText.{IsBetweenRows, header_line, result_text, row_fields, standing_line, standing_lines, text_held};
+ghost use Rattle.result_text.specs.ResultText.{IsBetweenRows, header_line, price_in, result_text, row_fields, standing_line, standing_lines, text_held};
 
 use crate::replay::final_outcomes;
-use auction_core::clock::Standing;
+use auction_core::clock::{Clock, Standing};
 use auction_core::record::{Ending, Record};
 use csv::{Writer, WriterBuilder};
 use itoa::Buffer;
@@ -45,26 +45,35 @@ fn write_row(
     Ok(())
 }
 
-// The row of a station that stands so, and whether it is undecided, by a writer between two rows; an active one has none.
+// What a station is paid, in cents; 0 where it is not frozen.
+fn price_in(clock: &Clock, facility: u32) -> u64
+    ensures { result ≡ price_in clock.now.paid facility }
+{
+    clock.paid(facility).unwrap_or(0)
+}
+
+// The row of a station that stands so, and whether it is undecided, and at which price, in cents, where it is frozen, by a
+// writer between two rows; an active one has none.
 fn write_standing(
     wtr: &mut Writer<Vec<u8>>,
     facility: u32,
     standing: Standing,
     undecided: bool,
+    price: u64,
 ) -> Result<(), NoMemory>
     requires { IsBetweenRows wtr.old }
     ensures idle { OnOk result (IsBetweenRows wtr.new) }
     ensures text { OnOk result
-        (text_held wtr.new ≡ text_held wtr.old ++ standing_line facility standing undecided) }
+        (text_held wtr.new ≡ text_held wtr.old ++ standing_line facility standing undecided price) }
 {
     match standing {
         Standing::Active => Ok(()),
         Standing::OnAir { round: 0 } => write_row(wtr, facility, "start", 0, 0),
         Standing::OnAir { round } => write_row(wtr, facility, "exit", round, 0),
-        Standing::Frozen { round, price } if undecided => {
+        Standing::Frozen { round } if undecided => {
             write_row(wtr, facility, "undecided", round, price)
         }
-        Standing::Frozen { round, price } => write_row(wtr, facility, "frozen", round, price),
+        Standing::Frozen { round } => write_row(wtr, facility, "frozen", round, price),
     }
 }
 
@@ -81,22 +90,30 @@ fn write_header(wtr: &mut Writer<Vec<u8>>) -> Result<(), NoMemory>
     Ok(())
 }
 
-// A header, and a row for each of these stations, which stand so and are undecided or not.
+// A header, and a row for each of these stations, which stand and are paid so by the clock, and are undecided or not.
 fn standings_csv(
     alloc: Global,
     stations: &[Station],
-    standings: &[Standing],
+    clock: &Clock,
     undecided: &[bool],
 ) -> Result<Vec<u8>, NoMemory>
-    requires standings { length standings.now ≡ length stations.now }
+    requires standings { length clock.now.standings ≡ length stations.now }
     requires undecided { length undecided.now ≡ length stations.now }
     ensures { IfOk result (λ v. v.items ≡
-        header_line ++ standing_lines (map (λ x. x.id) stations.now) standings.now undecided.now) }
+        header_line ++ standing_lines clock.now.paid (map (λ x. x.id) stations.now) clock.now.standings undecided.now) }
 {
     let mut wtr = WriterBuilder::new().from_writer(Vec::new(alloc));
     write_header(&mut wtr)?;
     'rows: for i in 0..stations.len() {
-        write_standing(&mut wtr, stations[i].id, standings[i], undecided[i])?;
+        let facility = stations[i].id;
+        let price = price_in(clock, facility);
+        write_standing(
+            &mut wtr,
+            facility,
+            clock.standings()[i],
+            undecided[i],
+            price,
+        )?;
     }
     match wtr.into_inner() {
         Ok(text) => Ok(text),
@@ -120,7 +137,7 @@ pub fn result_csv(alloc: Global, rec: &Record, book: &Book) -> Result<Vec<u8>, N
     standings_csv(
         alloc,
         rec.scenario.stations.as_slice(),
-        outcomes.clock.standings(),
+        &outcomes.clock,
         &outcomes.undecided,
     )
 }

@@ -4,6 +4,7 @@ ghost use Rattle.std.specs.Prelude.{◌≡◌};
 ghost use Rattle.pack_defs.specs.Scenario.{IsWithinLimits};
 ghost use Rattle.auction_core.specs.Backed.{IsBacked};
 
+use crate::channels::channels_csv;
 use crate::counts::summary;
 use crate::rows::result_csv;
 use crate::samples::{record_of_none, record_of_three, refuted, three_stations, undecided};
@@ -59,5 +60,21 @@ fn no_station(rt: HostRuntime) -> Result<(), Fail> {
     let rows = b"facility,outcome,round,price\n";
     let counts = b"stations 0\non-air 0\nfrozen 0\nundecided 0\ntotal 0\n";
     assert!(rt; tells(alloc, &rec, &book, rows, counts)?);
+    Ok(())
+}
+
+// Whether these are the record's channels.
+fn has_channels(alloc: Global, rec: &Record, text: &[u8]) -> Result<bool, NoMemory> {
+    let channels = channels_csv(alloc, rec)?;
+    Ok(channels.as_slice() == text)
+}
+
+#[test]
+fn channels_are_told(rt: HostRuntime) -> Result<(), Fail> {
+    let alloc = rt.alloc();
+    let three = record_of_three(alloc, 1000, refuted(alloc)?)?;
+    assert!(rt; has_channels(alloc, &three, b"facility,channel\n1,15\n2,14\n")?);
+    let none = record_of_none(alloc)?;
+    assert!(rt; has_channels(alloc, &none, b"facility,channel\n")?);
     Ok(())
 }

@@ -28,10 +28,14 @@ pub record IsHeld (rec : Record) : Type 0 where
   pub steps : All (λ x. IsFitAscending x.shown) rec.steps
   pub count : length rec.steps < 2 ^ 64
 
+-- the channels of each station are 14 to 51, as those of a file are
+abbrev pub HasFileChannels : BookView → Type 0
+HasFileChannels book = (s c : ℕ) → is_in (domain_of book s) c ≡ true → IsChannel c
+
 -- The scenario's stations have numbers of 32 bits. The book is in order, its channels are 14 to 51, and a list can
 -- hold its pairs. So is each that is made of files.
 pub record IsNamed (sc : Scenario) (book : BookView) : Type 0 where
   pub numbers : All (λ x. x.id ≤ greatest_u32) sc.stations
   pub in_order : IsInOrder book
-  pub channels : (s c : ℕ) → is_in (domain_of book s) c ≡ true → IsChannel c
+  pub channels : HasFileChannels book
   pub pairs : length book.pairs < 2 ^ 62

@@ -1,19 +1,14 @@
-//! That a record's transcript is read again as itself: what the law on records asks holds of each record, scenario
-//! and book that a program holds, and is gathered here.
+//! What the law that a record's transcript is read again asks of the record, the scenario and the book: it holds of each
+//! that a program holds, which is gathered here.
 
-ghost use Rattle.std.specs.Prelude.{◌≡◌, ◌≤◌, ◌<◌, ◌^◌, ℕ, All, Ok, length, true};
-ghost use Rattle.pack_defs.specs.Book.{IsInOrder, domain_of};
-ghost use Rattle.pack_defs.specs.Lists.{is_in};
-ghost use Rattle.pack_defs.specs.Scenario.{IsWithinLimits};
-ghost use Rattle.auction_core.specs.Backed.{IsBacked};
+ghost use Rattle.std.specs.Prelude.{◌≤◌, ◌<◌, ◌^◌, All, length};
+ghost use Rattle.pack_defs.specs.Book.{IsInOrder};
 ghost use Rattle.transcript_text.specs.Fields.{greatest_u32};
-ghost use Rattle.transcript_text.specs.Named.{IsFitAscending, IsHeld};
-ghost use Rattle.transcript_text.specs.Reading.{transcript_of};
-ghost use Rattle.transcript_text.specs.Spelled.{IsChannel};
-ghost use Rattle.transcript_text.specs.Spelling.{transcript_for, transcript_text};
+ghost use Rattle.transcript_text.specs.Named.{HasFileChannels, IsFitAscending, IsHeld, IsNamed};
 
-use auction_core::record::{Ending, Record, Shown};
+use auction_core::record::{Record, Shown};
 use pack_defs::book::Book;
+use pack_defs::scenario::Scenario;
 use pack_defs::station::Station;
 
 // A station's number is one of 32 bits.
@@ -44,8 +39,8 @@ fn fit_ascends(shown: &Shown)
     }
 }
 
-// The entries of each fit of a record ascend.
-fn is_held(rec: &Record)
+/// The entries of each fit of this record ascend. It passes over the steps once, and takes no memory.
+pub fn is_held(rec: &Record)
     ensures { IsHeld rec.now }
 {
     fit_ascends(&rec.start);
@@ -63,17 +58,11 @@ fn is_kept(book: &Book)
     let _pairs = book.pairs();
 }
 
-/// The text that `write_transcript` gives of this record is read again, by `read_transcript`, as the record's
-/// transcript. Each book whose domains were made of a file has channels from 14 to 51 alone. It passes over the
-/// record's steps once, and takes no memory.
-pub fn is_read_again(rec: &Record, book: &Book)
-    requires backed { IsBacked rec.now.scenario book.now rec.now.order rec.now }
-    requires done { rec.now.ending ≡ Ending.Done }
-    requires limits { IsWithinLimits rec.now.scenario }
-    requires channels { (s c : ℕ) → is_in (domain_of book.now s) c ≡ true → IsChannel c }
-    ensures { transcript_of rec.now.scenario book.now (transcript_text rec.now.scenario book.now rec.now) ≡ Ok (transcript_for rec.now.scenario book.now rec.now) }
+/// The numbers of this scenario and this book are such as a transcript names, where the channels are those of a file. It
+/// passes over the stations once, and takes no memory.
+pub fn is_named(sc: &Scenario, book: &Book)
+    ensures { HasFileChannels book.now → IsNamed sc.now book.now }
 {
-    are_short(rec.scenario.stations.as_slice());
+    are_short(sc.stations.as_slice());
     is_kept(book);
-    is_held(rec);
 }

@@ -45,8 +45,8 @@ fn test_clauses(
 ) -> Result<u64, NoMemory>
     requires ascend { StationsAscend sc.now }
     requires known { IsTrue (is_in (facilities sc.now) station) }
-    requires stations { length clock.now ≡ length sc.now.stations }
-    ensures count { IfOk result (λ n. (st : ClockState) → AreStandings sc.now st clock.now → n ≡ clauses_in book.now (tested_set sc.now book.now st station)) }
+    requires stations { length clock.now.standings ≡ length sc.now.stations }
+    ensures count { IfOk result (λ n. (st : ClockState) → AreStandings sc.now st clock.now.standings → n ≡ clauses_in book.now (tested_set sc.now book.now st station)) }
     ensures few { IfOk result (λ n. n + 1000001 ≤ 2 ^ 63) }
 {
     let on_air = OnAir {
@@ -68,8 +68,8 @@ fn log_clauses(
 ) -> Result<u64, NoMemory>
     requires ascend { StationsAscend sc.now }
     requires known { IsTrue (is_in (facilities sc.now) step.now.station) }
-    requires stations { length clock.now ≡ length sc.now.stations }
-    ensures count { IfOk result (λ n. (st : ClockState) → AreStandings sc.now st clock.now → firsts_of n step.now.shown ≡ firsts_of (clauses_in book.now (tested_set sc.now book.now st step.now.station)) step.now.shown) }
+    requires stations { length clock.now.standings ≡ length sc.now.stations }
+    ensures count { IfOk result (λ n. (st : ClockState) → AreStandings sc.now st clock.now.standings → firsts_of n step.now.shown ≡ firsts_of (clauses_in book.now (tested_set sc.now book.now st step.now.station)) step.now.shown) }
     ensures few { IfOk result (λ n. n + 1000001 ≤ 2 ^ 63) }
 {
     match &step.shown {

@@ -1,8 +1,9 @@
 -- Each step is of an active station of the scenario, in one of its rounds, and moves the clock as the rule does.
 use Rattle.std.proofs.Common.{◌≡◌, ◌∙◌, ap, false, length, replicate, rules}
 use Rattle.auction_core.specs.Backed.{undecided_of}
+use Rattle.auction_core.proofs.ClockLemmas.{length-standings}
 use Rattle.result_text.proofs.StepLemmas.{IsNext, backed-next}
-use Rattle.result_text.proofs.ReplayLemmas.{auction-of, last-standings, next-active, next-frozen, next-standings, next-there, opening-frozen}
+use Rattle.result_text.proofs.ReplayLemmas.{auction-of, last-clock, next-active, next-clock, next-frozen, next-there, next-unpaid, opening-frozen}
 use Rattle.result_text.proofs.replay.final_outcomes.Goals as goal
 use Rattle.result_text.proofs.replay.final_outcomes.Goals.{After-place_of}
 
@@ -13,15 +14,24 @@ pub loop-step-init : goal.loop-step-init
 loop-step-init c =
     let none : c.in_ok-undecided.undecided.items ≡ replicate (length c.as_slice.result.now) false = search rules in
     record {
-      standings = c.in_ok-clock.ensures;
-      undecided = none ∙ opening-frozen (undecided_of c.args.rec.now.steps) (length c.as_slice.result.now) (ap length c.as_slice.ensures) c.in_ok-clock.ensures;
+      clock = c.in_ok-clock.ensures;
+      undecided = none ∙ opening-frozen (undecided_of c.args.rec.now.steps) (length c.as_slice.result.now) (ap length c.as_slice.ensures) c.in_ok-clock.ensures.standings;
     }
+
+pub settle-requires-clause-stations : goal.settle-requires-clause-stations
+settle-requires-clause-stations c = length-standings c.loop-step.invariant.clock.standings
 
 pub settle-requires-clause-active : goal.settle-requires-clause-active
 settle-requires-clause-active c =
     let n = next (goal.at.settle-requires-clause-active c).After-place_of in
     let place = rw c.as_slice-in-loop-step.ensures at c.in-Some.ensures in
-    next-active c.in-Some.i n c.loop-step.invariant.standings place.0 place.1
+    next-active c.in-Some.i n c.loop-step.invariant.clock.standings place.0 place.1
+
+pub settle-requires-clause-unpaid : goal.settle-requires-clause-unpaid
+settle-requires-clause-unpaid c =
+    let n = next (goal.at.settle-requires-clause-unpaid c).After-place_of in
+    let place = rw c.as_slice-in-loop-step.ensures at c.in-Some.ensures in
+    next-unpaid c.in-Some.i n c.loop-step.invariant.clock place.0 place.1
 
 pub settle-requires-clause-begun : goal.settle-requires-clause-begun
 settle-requires-clause-begun c = (next (goal.at.settle-requires-clause-begun c).After-place_of).begun
@@ -38,10 +48,10 @@ loop-step-preserved c =
     let n = next (goal.at.loop-step-preserved c).After-place_of in
     let place = rw c.as_slice-in-loop-step.ensures at c.in-Some.ensures in
     record {
-      standings = rw (c.settle.ensures, c.shows_room.ensures, place.1) (next-standings c.in-Some.i n c.requires.limits.ascend c.loop-step.invariant.standings place.0 place.1);
-      undecided = rw (c.loop-step.invariant.undecided, c.is_undecided.ensures, c.settle.ensures, c.shows_room.ensures, place.1) (next-frozen c.loop-step.clock c.in-Some.i n place.0 place.1);
+      clock = rw (c.settle.ensures, c.shows_room.ensures, place.1) (next-clock c.in-Some.i n c.requires.limits.ascend c.loop-step.invariant.clock place.0 place.1);
+      undecided = rw (c.loop-step.invariant.undecided, c.is_undecided.ensures, c.settle.ensures, c.shows_room.ensures, place.1) (next-frozen c.loop-step.clock.standings c.in-Some.i n place.0 place.1);
     }
 
-pub returns-clause-standings : goal.returns-clause-standings
-returns-clause-standings c =
-    last-standings c.args.book.now c.args.rec.now c.as_slice-step-items.result.now c.loop-step.step-index (auction-of _ _ c.requires.limits c.len-stations.ensures.in_order) c.requires.backed c.requires.done c.as_slice-step-items.ensures c.loop-step-test.false c.loop-step.invariant.standings
+pub returns-clause-clock : goal.returns-clause-clock
+returns-clause-clock c =
+    last-clock c.args.book.now c.args.rec.now c.as_slice-step-items.result.now c.loop-step.step-index (auction-of _ _ c.requires.limits c.len-stations.ensures.in_order) c.requires.backed c.requires.done c.as_slice-step-items.ensures c.loop-step-test.false c.loop-step.invariant.clock

@@ -7,6 +7,6 @@ use Rattle.result_text.proofs.rows.standings_csv.Goals as goal
 pub rows-preserved : goal.rows-preserved
 rows-preserved c = record {
   idle = c.in_ok-write_standing.ensures.idle;
-  text = rw (c.in_ok-write_standing.ensures.text, c.rows.invariant.text)
-      (rows_more c.args.stations.now c.args.standings.now c.args.undecided.now c.rows.i (record { id = 0; volume = 0; value = None }) Active false c.rows-test.true c.requires.standings c.requires.undecided);
+  text = rw (c.in_ok-write_standing.ensures.text, c.rows.invariant.text, c.price_in-price.ensures, c.standings.ensures)
+      (rows_more c.args.clock.now.paid c.args.stations.now c.args.clock.now.standings c.args.undecided.now c.rows.i (record { id = 0; volume = 0; value = None }) Active false c.rows-test.true c.requires.standings c.requires.undecided);
 }

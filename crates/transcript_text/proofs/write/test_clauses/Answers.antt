@@ -22,6 +22,6 @@ component_among-requires c =
 
 pub returns-clause-count : goal.returns-clause-count
 returns-clause-count c =
-    let set : c.in_ok-set.set.items ≡ component c.args.book.now (with_station (on_air_by (facilities c.args.sc.now) c.args.clock.now) c.args.station) c.args.station =
+    let set : c.in_ok-set.set.items ≡ component c.args.book.now (with_station (on_air_by (facilities c.args.sc.now) c.args.clock.now.standings) c.args.station) c.args.station =
     c.in_ok-set.ensures.component ∙ (λ i. component c.args.book.now (with_station (on_air_by (map (λ (x : Station). x.id) (c.as_slice.ensures i)) (c.standings.ensures i)) c.args.station) c.args.station) in
-    λ st are. c.clause_count.ensures.count ∙ found-set c.args.sc.now c.args.book.now c.args.clock.now c.args.station _ c.requires.ascend c.requires.known (c.deref.ensures.value ∙ set) st are
+    λ st are. c.clause_count.ensures.count ∙ found-set c.args.sc.now c.args.book.now c.args.clock.now.standings c.args.station _ c.requires.ascend c.requires.known (c.deref.ensures.value ∙ set) st are

@@ -1,5 +1,5 @@
 -- The course once the start test is settled so, and where it goes on from there.
-use Rattle.std.proofs.Common.{◌≡◌, ◌∙◌, ℕ, ap, sym, subst, true, false}
+use Rattle.std.proofs.Common.{◌≡◌, ◌∙◌, ap, sym, subst, true, false}
 use Rattle.pack_defs.specs.Lists.{is_in}
 use Rattle.auction_core.specs.Course.{CourseView, IsCourse, core_state, is_roomy, left_of}
 use Rattle.auction_core.specs.State.{go_on, shows_room, start_fits, started}

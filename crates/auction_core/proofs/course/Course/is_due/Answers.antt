@@ -12,5 +12,5 @@ returns c =
     let s = c.args.setup.now in
     let now = c.args.self.now in
     let at = c.place.ensures.station ∙ ap (λ (z : CourseView). get_or (turns s.scenario s.order) z.turn 0) c.self.view_is in
-    c.is_active.ensures ∙ (ap (λ (z : CourseView). stands_active (get_or z.standings c.place.result Active)) c.self.view_is
-    ∙ sym (is_active_at c.place.result (next_test s now).station Active c.requires.holds.standings c.place.ensures.within at))
+    c.is_active.ensures ∙ (ap (λ (z : CourseView). stands_active (get_or z.clock.standings c.place.result Active)) c.self.view_is
+    ∙ sym (is_active_at c.place.result (next_test s now).station Active c.requires.holds.clock.standings c.place.ensures.within at))

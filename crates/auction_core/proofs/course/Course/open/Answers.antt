@@ -4,7 +4,7 @@ use Rattle.pack_defs.specs.declared.station.Station.{Station}
 use Rattle.pack_defs.specs.Scenario.{facilities}
 use Rattle.pack_defs.specs.ClockRule.{opening_state}
 use Rattle.auction_core.specs.AirMap.{AirMapView}
-use Rattle.auction_core.specs.Clock.{AreStandings}
+use Rattle.auction_core.specs.Clock.{IsClockOf}
 use Rattle.auction_core.specs.Course.{IsCourse}
 use Rattle.auction_core.specs.Past.{PastView}
 use Rattle.auction_core.proofs.CourseStart.{IsFirstPast, first-holds, first_course}
@@ -26,5 +26,5 @@ returns-clause-holds c =
       steps = ap (λ (z : PastView). z.steps) aired ∙ first.steps;
     } in
     let places : c.in_ok-none.field-0 ≡ record { stations = facilities sc; entries = [] } = c.in_ok-none.ensures ∙ ap (λ xs. (let m : AirMapView = record { stations = map (λ (x : Station). x.id) xs; entries = [] } in m)) stations in
-    let same : c.reserve.new.self ≡ first_course sc c.in_ok-clock.clock past = c.in_ok-reserve.ensures.same ∙ (λ j. record { start = None; standings = c.clock.view_is j; map = places j; past = past; total = 0; round = 1; turn = 0 }) in
-    subst (IsCourse s) (sym same) (first-holds s c.in_ok-clock.clock past c.scenario-sc.ensures.sound (subst (λ z. AreStandings z (opening_state z) c.in_ok-clock.clock) c.scenario-sc.ensures.value c.in_ok-clock.ensures) kept)
+    let same : c.reserve.new.self ≡ first_course sc c.in_ok-clock.clock past = c.in_ok-reserve.ensures.same ∙ (λ j. record { start = None; clock = c.clock.view_is j; map = places j; past = past; round = 1; turn = 0 }) in
+    subst (IsCourse s) (sym same) (first-holds s c.in_ok-clock.clock past c.scenario-sc.ensures.sound (subst (λ z. IsClockOf z (opening_state z) c.in_ok-clock.clock) c.scenario-sc.ensures.value c.in_ok-clock.ensures) kept)

@@ -1,20 +1,22 @@
 -- The new fields are those of the course once its next test is settled so.
-use Rattle.std.proofs.Common.{◌≡◌, ◌∙◌, ℕ, ◌+◌, ◌<◌, List, ◌∷◌, [], ◌++◌, None, arith, ap, sym, subst, get_or, get_or-set_same, set, length, true}
+use Rattle.std.proofs.Common.{◌≡◌, ◌∙◌, ℕ, ◌+◌, ◌<◌, List, ◌∷◌, [], ◌++◌, None, ap, sym, subst, get_or, get_or-set_same, set, length, true}
 use Rattle.pack_defs.specs.declared.station.Station.{Station}
 use Rattle.pack_defs.specs.Lists.{has_station, is_in}
 use Rattle.pack_defs.specs.Scenario.{facilities}
 use Rattle.pack_defs.specs.ClockRule.{turns}
 use Rattle.auction_core.specs.declared.clock.Standing.TheVariants.{Active}
 use Rattle.auction_core.specs.declared.clock.Standing.{Standing}
-use Rattle.auction_core.specs.Clock.{answered_standing, stands_on_air}
-use Rattle.auction_core.specs.Course.{CourseView, core_state, map_after, next_test, paid}
+use Rattle.freeze_ledger.specs.Ledger.{price_of}
+use Rattle.auction_core.specs.Clock.{ClockView, answered_clock, stands_on_air}
+use Rattle.auction_core.specs.Course.{CourseView, core_state, map_after, next_test}
 use Rattle.auction_core.specs.Parts.{PartsView, label_of, labelled, relabelled}
 use Rattle.auction_core.specs.Past.{PastView}
 use Rattle.auction_core.specs.State.{delta_of, last_fit, shows_room}
 use Rattle.auction_core.proofs.ClockLemmas.{active-is, facility_at, is_active_at, length-standings}
-use Rattle.auction_core.proofs.CourseLemmas.{IsAt, next_course, next_standing, total-fits}
+use Rattle.auction_core.proofs.CourseLemmas.{IsAt, next_course, next_standing}
 use Rattle.auction_core.proofs.CourseTests.{is-settled}
 use Rattle.auction_core.proofs.KeptPast.{HasNoted, fit-next, step-within}
+use Rattle.auction_core.proofs.Paid.{active-unpaid}
 use Rattle.auction_core.proofs.Sets.{step_of}
 use Rattle.auction_core.proofs.course.Course.settle.Goals as goal
 
@@ -26,28 +28,17 @@ settle-requires-clause-active c =
     let s = c.args.setup.now in
     let old = c.args.self.now in
     let at : IsAt s old c.place-place.result = record { within = c.place-place.ensures.within; station = c.place-place.ensures.station ∙ ap (λ (z : CourseView). get_or (turns s.scenario s.order) z.turn 0) c.self.view_is } in
-    ap (λ (z : CourseView). get_or z.standings c.place-place.result Active) c.self.view_is
-    ∙ active-is (get_or old.standings c.place-place.result Active) (sym (is_active_at c.place-place.result (next_test s old).station Active c.requires.holds.standings at.within at.station) ∙ c.requires.due.active)
+    ap (λ (z : CourseView). get_or z.clock.standings c.place-place.result Active) c.self.view_is
+    ∙ active-is (get_or old.clock.standings c.place-place.result Active) (sym (is_active_at c.place-place.result (next_test s old).station Active c.requires.holds.clock.standings at.within at.station) ∙ c.requires.due.active)
 
-pub overflow_add-self : goal.overflow_add-self
-overflow_add-self c =
+pub settle-requires-clause-unpaid : goal.settle-requires-clause-unpaid
+settle-requires-clause-unpaid c =
     let s = c.args.setup.now in
     let old = c.args.self.now in
     let i : ℕ = c.place-place.result in
-    let view = c.self.view_is in
-    let at : IsAt s old i = record { within = c.place-place.ensures.within; station = c.place-place.ensures.station ∙ ap (λ (z : CourseView). get_or (turns s.scenario s.order) z.turn 0) view } in
-    let stations = c.as_slice.ensures ∙ ap (λ z. z.stations) c.scenario-sc.ensures.value in
-    let own : (get_or c.as_slice.result.now i none).id ≡ (next_test s old).station = ap (λ xs. (get_or xs i none).id) stations ∙ (sym (facility_at s.scenario i none at.within) ∙ at.station) in
-    let standing : Standing = next_standing s old c.args.shown in
-    let moved : c.settle.new.self ≡ set old.standings i standing = c.settle.ensures
-    ∙ ((λ j. set (view j).standings i (answered_standing (c.scenario-sc.ensures.value j) (record { round = (view j).round; station = get_or (facilities (c.scenario-sc.ensures.value j)) i 0 }) (c.shows_room-fits.ensures j)))
-    ∙ ap (λ f. set old.standings i (answered_standing s.scenario (record { round = old.round; station = f }) (shows_room c.args.shown))) at.station) in
-    let inside : i < length old.standings = rw (length-standings c.requires.holds.standings) at.within in
-    let here : get_or c.standings.result.now i Active ≡ standing = ap (λ xs. get_or xs i Active) (c.standings.ensures ∙ moved) ∙ get_or-set_same old.standings i standing Active inside in
-    let pay : c.paid.result ≡ paid standing = c.paid.ensures ∙ ap paid here in
-    let total : c.self.inside.total ≡ old.total = ap (λ (z : CourseView). z.total) view in
-    let fits_it = total-fits s old (next_test s old) (shows_room c.args.shown) c.requires.holds.sound c.requires.holds in
-    rw (total, pay) (omega (arith, fits_it))
+    let at : IsAt s old i = record { within = c.place-place.ensures.within; station = c.place-place.ensures.station ∙ ap (λ (z : CourseView). get_or (turns s.scenario s.order) z.turn 0) c.self.view_is } in
+    (λ j. price_of (get_or (facilities (c.scenario-sc.ensures.value j)) i 0) (c.self.view_is j).clock.paid)
+    ∙ (ap (λ f. price_of f old.clock.paid) at.station ∙ active-unpaid i (next_test s old).station c.requires.holds.clock at.within at.station c.requires.due.active)
 
 pub take_if-requires-clause-within : goal.take_if-requires-clause-within
 take_if-requires-clause-within c =
@@ -76,12 +67,11 @@ returns-clause-settled c =
     let stations = c.as_slice.ensures ∙ ap (λ z. z.stations) c.scenario-sc.ensures.value in
     let own : (get_or c.as_slice.result.now i none).id ≡ (next_test s old).station = ap (λ xs. (get_or xs i none).id) stations ∙ (sym (facility_at s.scenario i none at.within) ∙ at.station) in
     let standing : Standing = next_standing s old c.args.shown in
-    let moved : c.settle.new.self ≡ set old.standings i standing = c.settle.ensures
-    ∙ ((λ j. set (view j).standings i (answered_standing (c.scenario-sc.ensures.value j) (record { round = (view j).round; station = get_or (facilities (c.scenario-sc.ensures.value j)) i 0 }) (c.shows_room-fits.ensures j)))
-    ∙ ap (λ f. set old.standings i (answered_standing s.scenario (record { round = old.round; station = f }) (shows_room c.args.shown))) at.station) in
-    let inside : i < length old.standings = rw (length-standings c.requires.holds.standings) at.within in
-    let here : get_or c.standings.result.now i Active ≡ standing = ap (λ xs. get_or xs i Active) (c.standings.ensures ∙ moved) ∙ get_or-set_same old.standings i standing Active inside in
-    let pay : c.paid.result ≡ paid standing = c.paid.ensures ∙ ap paid here in
+    let moved : c.settle.new.self ≡ answered_clock s.scenario (next_test s old) i (shows_room c.args.shown) old.clock = c.settle.ensures
+    ∙ ((λ j. answered_clock (c.scenario-sc.ensures.value j) (record { round = (view j).round; station = get_or (facilities (c.scenario-sc.ensures.value j)) i 0 }) i (c.shows_room-fits.ensures j) (view j).clock)
+    ∙ ap (λ f. answered_clock s.scenario (record { round = old.round; station = f }) i (shows_room c.args.shown) old.clock) at.station) in
+    let inside : i < length old.clock.standings = rw (length-standings c.requires.holds.clock.standings) at.within in
+    let here : get_or c.standings.result.now i Active ≡ standing = ap (λ xs. get_or xs i Active) (c.standings.ensures ∙ ap (λ (z : ClockView). z.standings) moved) ∙ get_or-set_same old.clock.standings i standing Active inside in
     let steps : c.note.new.self.steps ≡ old.past.steps ++ step_of (next_test s old) c.args.shown ∷ [] = ap (λ (z : PastView). z.steps) c.note.ensures.same
     ∙ (λ j. (view j).past.steps ++ record { round = (view j).round; station = own j; shown = c.args.shown } ∷ []) in
     let fit : last_fit c.note.new.self.steps (get_or c.as_slice.result.now i none).id [] ≡ delta_of old.past.steps (next_test s old).station c.args.shown = (λ j. last_fit (steps j) (own j) []) ∙ fit-next s old c.args.shown in
@@ -102,13 +92,12 @@ returns-clause-settled c =
     let given : last_fit c.note.new.self.steps (get_or c.note.new.self.parts.stations i 0) [] ≡ delta_of old.past.steps (next_test s old).station c.args.shown = ap (λ f. last_fit c.note.new.self.steps f []) (ap (λ xs. get_or xs i 0) known ∙ (at.station ∙ sym own)) ∙ fit in
     let map_is : c.take_if.new.map ≡ record { stations = old.map.stations; entries = map_after old.map.entries standing (delta_of old.past.steps (next_test s old).station c.args.shown) } = c.take_if.ensures
     ∙ (λ j. record { stations = (view j).map.stations; entries = map_after (view j).map.entries (here j) (given j) }) in
-    let new : CourseView = record { start = c.self.inside.start; standings = c.settle.new.self; map = c.take_if.new.map; past = c.air_if.new.past; total = c.self.inside.total + c.paid.result; round = c.self.inside.round; turn = c.self.inside.turn + 1 } in
+    let new : CourseView = record { start = c.self.inside.start; clock = c.settle.new.self; map = c.take_if.new.map; past = c.air_if.new.past; round = c.self.inside.round; turn = c.self.inside.turn + 1 } in
     let same : new ≡ next_course s old c.args.shown i c.air_if.new.past = λ j. record {
       start = (view j).start;
-      standings = moved j;
+      clock = moved j;
       map = map_is j;
       past = c.air_if.new.past;
-      total = (view j).total + pay j;
       round = (view j).round;
       turn = (view j).turn + 1;
     } in

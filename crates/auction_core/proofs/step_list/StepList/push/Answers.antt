@@ -1,14 +1,14 @@
 -- By the lemmas on one step more, with a verdict of its own or without one.
 use Rattle.std.proofs.Common.{◌∙◌, ◌++◌, ◌∷◌, [], ap}
 use Rattle.auction_core.specs.StepList.{StepListView}
-use Rattle.auction_core.proofs.StepLines.{more-with, plain-with, steps-now, takers-now}
+use Rattle.auction_core.proofs.StepLines.{kept-now, more-with, plain-with, steps-now}
 use Rattle.auction_core.proofs.step_list.StepList.push.Goals as goal
 
 pub invariant_of-self : goal.invariant_of-self
 invariant_of-self c =
     let own = c.self.inside in
     let x = c.args.step in
-    takers-now own.lines.items c.push_reserved.new.self.items own.told.items own.told.items x.round x.station c.way_of-way.result x.shown c.way_of-way.ensures c.push_reserved.ensures.items
+    kept-now own.lines.items c.push_reserved.new.self.items own.told.items own.told.items x.round x.station c.way_of-way.result x.shown c.way_of-way.ensures c.push_reserved.ensures.items
     (plain-with own.told.items x.shown c.way_of-way.result c.takes_verdict.result c.way_of-way.ensures c.takes_verdict.ensures c.if-not-takes_verdict.true) c.self.invariant
 
 pub returns-then-not-takes_verdict-clause-steps : goal.returns-then-not-takes_verdict-clause-steps
@@ -16,14 +16,14 @@ returns-then-not-takes_verdict-clause-steps c =
     let own = c.self.inside in
     let x = c.args.step in
     steps-now own.lines.items c.push_reserved.new.self.items own.told.items own.told.items x.round x.station c.way_of-way.result x.shown c.way_of-way.ensures c.push_reserved.ensures.items
-    (plain-with own.told.items x.shown c.way_of-way.result c.takes_verdict.result c.way_of-way.ensures c.takes_verdict.ensures c.if-not-takes_verdict.true) c.self.invariant c.requires.names
+    (plain-with own.told.items x.shown c.way_of-way.result c.takes_verdict.result c.way_of-way.ensures c.takes_verdict.ensures c.if-not-takes_verdict.true) c.self.invariant.each c.requires.names
     ∙ ap (λ (v : StepListView). v.steps ++ x ∷ []) c.self.view_is
 
 pub invariant_of-self-2 : goal.invariant_of-self-2
 invariant_of-self-2 c =
     let own = c.self.inside in
     let x = c.args.step in
-    takers-now own.lines.items c.push_reserved.new.self.items own.told.items c.push_reserved-2.new.self.items x.round x.station c.way_of-way.result x.shown c.way_of-way.ensures c.push_reserved.ensures.items
+    kept-now own.lines.items c.push_reserved.new.self.items own.told.items c.push_reserved-2.new.self.items x.round x.station c.way_of-way.result x.shown c.way_of-way.ensures c.push_reserved.ensures.items
     (c.push_reserved-2.ensures.items ∙ more-with own.told.items x.shown c.way_of-way.result c.takes_verdict.result c.way_of-way.ensures c.takes_verdict.ensures c.if-not-takes_verdict.false) c.self.invariant
 
 pub returns-clause-steps : goal.returns-clause-steps
@@ -31,5 +31,5 @@ returns-clause-steps c =
     let own = c.self.inside in
     let x = c.args.step in
     steps-now own.lines.items c.push_reserved.new.self.items own.told.items c.push_reserved-2.new.self.items x.round x.station c.way_of-way.result x.shown c.way_of-way.ensures c.push_reserved.ensures.items
-    (c.push_reserved-2.ensures.items ∙ more-with own.told.items x.shown c.way_of-way.result c.takes_verdict.result c.way_of-way.ensures c.takes_verdict.ensures c.if-not-takes_verdict.false) c.self.invariant c.requires.names
+    (c.push_reserved-2.ensures.items ∙ more-with own.told.items x.shown c.way_of-way.result c.takes_verdict.result c.way_of-way.ensures c.takes_verdict.ensures c.if-not-takes_verdict.false) c.self.invariant.each c.requires.names
     ∙ ap (λ (v : StepListView). v.steps ++ x ∷ []) c.self.view_is

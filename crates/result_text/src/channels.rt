@@ -1,0 +1,58 @@
+//! The text of the channels.
+
+ghost use Rattle.std.specs.Prelude.{◌≡◌, ◌++◌, IfOk, OnOk};
+ghost use Rattle.result_text.specs.ChannelsText.{channel_line, channels_header, channels_text};
+ghost use Rattle.result_text.specs.ResultText.{IsBetweenRows, text_held};
+
+use auction_core::record::Record;
+use csv::{Writer, WriterBuilder};
+use itoa::Buffer;
+use std::alloc::{AllocError as NoMemory, Global};
+
+// The row of a station and its channel, by a writer between two rows.
+fn write_entry(wtr: &mut Writer<Vec<u8>>, facility: u32, channel: u8) -> Result<(), NoMemory>
+    requires { IsBetweenRows wtr.old }
+    ensures idle { OnOk result (IsBetweenRows wtr.new) }
+    ensures text { OnOk result (text_held wtr.new ≡ text_held wtr.old ++ channel_line (facility, channel)) }
+{
+    let mut first = Buffer::new();
+    let mut second = Buffer::new();
+    let fields = [
+        first.format(facility).as_bytes(),
+        second.format(channel).as_bytes(),
+    ];
+    if wtr.write_fields(&fields).is_err() {
+        return Err(NoMemory);
+    }
+    Ok(())
+}
+
+// The header, by a writer between two rows.
+fn write_header(wtr: &mut Writer<Vec<u8>>) -> Result<(), NoMemory>
+    requires { IsBetweenRows wtr.old }
+    ensures idle { OnOk result (IsBetweenRows wtr.new) }
+    ensures text { OnOk result (text_held wtr.new ≡ text_held wtr.old ++ channels_header) }
+{
+    let names: [&[u8]; 2] = [b"facility", b"channel"];
+    if wtr.write_fields(&names).is_err() {
+        return Err(NoMemory);
+    }
+    Ok(())
+}
+
+/// The channels of an auction's record: a header, and a row for each station on air, ascending, with its facility and its
+/// channel. One pass over the map. The only error is want of memory.
+#[tactic(auto, unfolding(crate::specs::ChannelsText::channels_text))]
+pub fn channels_csv(alloc: Global, rec: &Record) -> Result<Vec<u8>, NoMemory>
+    ensures { IfOk result (λ v. v.items ≡ channels_text rec.now.map) }
+{
+    let mut wtr = WriterBuilder::new().from_writer(Vec::new(alloc));
+    write_header(&mut wtr)?;
+    for entry in rec.map.entries() {
+        write_entry(&mut wtr, entry.0, entry.1)?;
+    }
+    match wtr.into_inner() {
+        Ok(text) => Ok(text),
+        Err(_) => Err(NoMemory),
+    }
+}
