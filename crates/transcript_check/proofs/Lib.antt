@@ -1,0 +1,11 @@
+pub mod LogLemmas
+pub mod StepLemmas
+pub mod WalkLemmas
+pub mod SoundLemmas
+pub mod ReceiptLemmas
+pub mod QueryLemmas
+pub mod GoOnLemmas
+pub mod NumberLemmas
+pub mod FollowLemmas
+pub mod VerifyLemmas
+pub mod EndLemmas
