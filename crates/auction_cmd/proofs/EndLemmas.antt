@@ -4,9 +4,6 @@ use Rattle.std.specs.Prelude.{Option, Some, None, Ok, Err, Result, IsOk}
 use Rattle.std.specs.List.{cons_option, list_any}
 use Rattle.std.proofs.lemmas.Bool.{cases_lt, false≢true}
 use Rattle.pack_defs.specs.Lists.{is_empty}
-use Rattle.outside_io.specs.Faults.{HasRisen}
-use Rattle.outside_io.specs.Loads.{Stores, Writes}
-use Rattle.outside_io.specs.declared.folder.StoreErr.TheVariants.{Failed as StoreFailed, NoMemory as StoreNoMemory}
 use Rattle.outside_io.specs.declared.sink.Failed.{Failed}
 use Rattle.auction_core.specs.declared.record.Ending.{Ending}
 use Rattle.auction_core.specs.declared.record.Ending.TheVariants.{Done, StartRefuted, StartUndecided}
@@ -18,10 +15,7 @@ use Rattle.auction_core.specs.State.{test_of}
 use Rattle.auction_core.proofs.Done.{done-map}
 use Rattle.auction_core.proofs.StartShown.{done-fits, open-receipts, refuted-unfits}
 use Rattle.auction_cmd.specs.declared.inputs.Inputs.{Inputs}
-use Rattle.auction_cmd.specs.Ends.{Delivers, IsRecordBy, done_status, run_order}
-use Rattle.auction_cmd.specs.Ends.Delivers.{Both, NotStored, NotSaid, OutOfRoom}
-use Rattle.auction_cmd.specs.Outside.{Outside}
-use Rattle.auction_cmd.proofs.SaysLemmas.{rises-before}
+use Rattle.auction_cmd.specs.Records.{IsRecordBy, done_status, run_order}
 
 -- ---- the record
 
@@ -59,21 +53,6 @@ status-by steps b is = ap (λ z. cond {A = ℕ} z 0 1) (none-undecided steps ∙
     turned : (b : Bool) → cond {A = ℕ} (not b) 0 1 ≡ cond {A = ℕ} b 1 0
     turned true = refl
     turned false = refl
-
--- ---- a delivery, seen from before the reading
-
-pub delivers-since : (name text summary : List ℕ) (done : ℕ) (before between after : Outside) (status : ℕ) → between.files ≡ before.files → between.steady ≡ before.steady → before.faults ≤ between.faults →
-    between.held ≡ before.held → between.cuts ≡ before.cuts → between.sure ≡ before.sure → Delivers name text summary done between after status → Delivers name text summary done before after status
-delivers-since name text summary done before between after status files steady faults held cuts sure (Both zero stores writes) =
-    Both zero (subst (λ z. Stores z after.files name text (Ok tt)) files stores) (subst (λ z. Writes z after.held summary (Ok tt)) held writes)
-delivers-since name text summary done before between after status files steady faults held cuts sure (NotStored four stores rises unsteady said) =
-    NotStored four (subst (λ z. Stores z after.files name text (Err StoreFailed)) files stores) (rises-before before.faults between.faults after.faults faults rises) (λ s. unsteady (steady ∙ s))
-    (rw (held, cuts) at said)
-delivers-since name text summary done before between after status files steady faults held cuts sure (NotSaid four stores rises less said) =
-    NotSaid four (subst (λ z. Stores z after.files name text (Ok tt)) files stores) (subst (λ z. HasRisen z after.cuts) cuts rises) (subst (λ z. z < length summary) sure less)
-    (rw (held, cuts) at said)
-delivers-since name text summary done before between after status files steady faults held cuts sure (OutOfRoom eight stores said) =
-    OutOfRoom eight (subst (λ z. Stores z after.files name text (Err StoreNoMemory)) files stores) (rw (held, cuts) at said)
 
 -- ---- the counts
 

@@ -1,7 +1,7 @@
 -- What the words ask for, from the command that they are.
 use Rattle.std.proofs.Common.{◌≡◌, ◌∙◌, ℕ, List, Option, Some, None, refl, sym, ap}
-use Rattle.auction_cmd.specs.Plan.{Plan, no_command, repeats, runs, checks, command_plan, run_plan}
-use Rattle.auction_cmd.specs.Words.{Command, run, check, InputNames, RunNames, repeated_output}
+use Rattle.auction_cmd.specs.Plan.{Plan, no_command, repeats, runs, checks, verifies, command_plan, run_plan}
+use Rattle.auction_cmd.specs.Words.{Command, run, check, verify, InputNames, RunNames, VerifyNames, repeated_output}
 
 pub plan-none : (command : Option Command) → command ≡ None → command_plan command ≡ no_command
 plan-none command is = ap command_plan is
@@ -14,3 +14,6 @@ plan-repeats command names name is twice = ap command_plan is ∙ ap (run_plan n
 
 pub plan-runs : (command : Option Command) (names : RunNames) → command ≡ Some (run names) → None ≡ repeated_output names → command_plan command ≡ runs names
 plan-runs command names is once = ap command_plan is ∙ ap (run_plan names) (sym once)
+
+pub plan-verifies : (command : Option Command) (names : VerifyNames) → command ≡ Some (verify names) → command_plan command ≡ verifies names
+plan-verifies command names is = ap command_plan is

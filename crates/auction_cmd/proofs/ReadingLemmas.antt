@@ -90,7 +90,7 @@ can-read files names i h =
 
 -- ---- accepted inputs
 
-then-ok : {A B : Type 0} (r : Result A Stop) (f : A → Result B Stop) (y : B) → and_then r f ≡ Ok y → (x : A) × (r ≡ Ok x) × (f x ≡ Ok y)
+pub then-ok : {A B : Type 0} (r : Result A Stop) (f : A → Result B Stop) (y : B) → and_then r f ≡ Ok y → (x : A) × (r ≡ Ok x) × (f x ≡ Ok y)
 then-ok (Ok x) f y e = (x, refl, e)
 then-ok (Err why) f y e = cc
 
@@ -106,7 +106,7 @@ from-ok sc pairs (Err (MissingDomain s)) inputs e = cc
 from-ok sc pairs (Err NoSpace) inputs e = cc
 
 -- the scenario of accepted inputs stands in the scenario file
-accepted-scenario : (files : List StoredFile) (names : InputNames) (inputs : Inputs) → inputs_of files names ≡ Ok inputs → (bytes : List ℕ) × (scenario_of bytes ≡ Ok inputs.scenario)
+pub accepted-scenario : (files : List StoredFile) (names : InputNames) (inputs : Inputs) → inputs_of files names ≡ Ok inputs → (bytes : List ℕ) × (scenario_of bytes ≡ Ok inputs.scenario)
 unfolding inputs_of
 accepted-scenario files names inputs e =
     let (domains, domains-read, rest) = then-ok (and_then (file_of files names.domains Domains) (λ bytes. rows_read Domains (domains_of bytes))) _ inputs e in

@@ -1,10 +1,15 @@
 pub mod Counts
+pub mod Delivery
 pub mod Ends
 pub mod Inputs
 pub mod Outside
 pub mod Pieces
 pub mod Plan
 pub mod Promises
+pub mod Records
 pub mod Refusals
 pub mod Says
+pub mod Transcripts
+pub mod Verified
+pub mod VerifyPromises
 pub mod Words

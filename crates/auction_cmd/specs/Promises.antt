@@ -1,13 +1,14 @@
 -- What may be relied on of the program, a clause each: by what the words ask for, what the folder and the sink tell
 -- before and after, the status and the record.
-use Rattle.std.specs.Prelude.{Contains, ◌≡◌, ◌≢◌, ◌⊎◌, ◌<◌, ◌≤◌, ℕ, List, [], ◌∷◌, length, Option, Some, None, Ok, Err, IsFalse, IsSome, IsTrue, MatchOption, true, ⊤}
+use Rattle.std.specs.Prelude.{Contains, ◌≡◌, ◌≢◌, ◌⊎◌, ◌<◌, ◌≤◌, ℕ, Bool, true, false, List, [], ◌∷◌, length, Option, Some, None, Ok, Err, IsFalse, IsSome, IsTrue, MatchOption, ⊤}
 use Rattle.pack_defs.specs.Lists.{is_in}
+use Rattle.pack_defs.specs.declared.order.Order.{Order}
 use Rattle.pack_defs.specs.ClockRule.{ClockTest, FrozenAt, on_air_set}
 use Rattle.pack_defs.specs.Threshold.{IsThresholdPrice}
 use Rattle.pack_defs.specs.Packing.{IsPacking}
 use Rattle.pack_defs.specs.Prices.{start_set}
 use Rattle.outside_io.specs.Faults.{HasRisen}
-use Rattle.outside_io.specs.Files.{OthersStand, Puts, StoredFile, bytes_of}
+use Rattle.outside_io.specs.Files.{StoredFile, bytes_of}
 use Rattle.outside_io.specs.Loads.{Writes}
 use Rattle.auction_cmd.specs.declared.inputs.Inputs.{Inputs}
 use Rattle.auction_cmd.specs.declared.inputs.Stop.TheVariants.{CannotRead, Refused}
@@ -17,21 +18,35 @@ use Rattle.auction_core.specs.declared.record.Record.{Record}
 use Rattle.auction_cmd.specs.declared.refusal.Input.{Input}
 use Rattle.auction_cmd.specs.declared.refusal.Refusal.{Refusal}
 use Rattle.auction_core.specs.Backed.{IsBacked, undecided_of}
+use Rattle.transcript_text.specs.Spelling.{transcript_text}
 use Rattle.auction_cmd.specs.Counts.{counts_text}
-use Rattle.auction_cmd.specs.Ends.{AreHeld, IsOpenRecordOf, IsRecordBy, IsRecordOf, StartFits, StartUnfit, done_status, outcome, result_of, run_order, summary_of}
+use Rattle.auction_cmd.specs.Delivery.{AllOthersStand, AreStored, AreStoredUpTo}
+use Rattle.auction_cmd.specs.Ends.{AreHeld, run_texts}
 use Rattle.auction_cmd.specs.Inputs.{inputs_of}
 use Rattle.auction_cmd.specs.Outside.{Outside, IsSaid}
-use Rattle.auction_cmd.specs.Plan.{Plan, no_command, repeats, runs, checks}
+use Rattle.auction_cmd.specs.Plan.{Plan, no_command, repeats, runs, checks, verifies}
+use Rattle.auction_cmd.specs.Records.{IsOpenRecordOf, IsRecordBy, IsRecordOf, StartFits, StartUnfit, done_status, outcome, result_of, run_order, summary_of}
 use Rattle.auction_cmd.specs.Refusals.{line_of, name_of}
 use Rattle.auction_cmd.specs.Says.{memory_line, open_line, twice_line, unfit_line, unread_line, unwritten_line}
-use Rattle.auction_cmd.specs.Words.{InputNames, RunNames}
+use Rattle.auction_cmd.specs.Verified.{verified}
+use Rattle.auction_cmd.specs.VerifyPromises.{IsOr, VerifyPromises}
+use Rattle.auction_cmd.specs.Words.{InputNames, RunNames, VerifyNames, output_names}
 
--- the inputs that a plan reads, if it reads any
+-- the inputs that a plan reads which reads no other file, if it reads any
 abbrev pub inputs_read : Plan → Option InputNames
 inputs_read no_command = None
 inputs_read (repeats name) = None
 inputs_read (runs names) = Some names.inputs
 inputs_read (checks names) = Some names
+inputs_read (verifies names) = None
+
+-- the plan reads no file
+abbrev pub reads_nothing : Plan → Bool
+reads_nothing no_command = true
+reads_nothing (repeats name) = true
+reads_nothing (runs names) = false
+reads_nothing (checks names) = false
+reads_nothing (verifies names) = false
 
 -- the three input files are there
 pub record AreThere (files : List StoredFile) (names : InputNames) : Type 0 where
@@ -39,18 +54,20 @@ pub record AreThere (files : List StoredFile) (names : InputNames) : Type 0 wher
   pub rows : IsSome (bytes_of files names.rows)
   pub scenario : IsSome (bytes_of files names.scenario)
 
--- The auction of these inputs was carried out: the record is the auction's, RESULT holds the text of the clock rule's result
--- with the tests left open that the record shows undecided, every other file stands, and the sink grew by the summary. The
--- status is 0 exactly where no test was left open.
+-- The auction of these inputs was carried out: the record is the auction's. RESULT holds the text of the clock rule's result
+-- with the tests left open that the record shows undecided, CHANNELS that of the record's map, which violates no row, and
+-- TRANSCRIPT that of the record; every other file stands, and the sink grew by the summary. The status is 0 exactly where no
+-- test was left open. Whoever verifies the transcript beside the same inputs gets the record.
 pub record IsDone (files : List StoredFile) (names : RunNames) (before after : Outside) (status : ℕ) (found : Option Record) : Type 0 where
   pub inputs : Inputs
   pub accepted : inputs_of files names.inputs ≡ Ok inputs
   pub rec : Record
   pub recorded : found ≡ Some rec
   pub auction : IsRecordOf inputs rec
-  pub result : MatchOption after.files ⊥ (λ new. Puts files new names.result (result_of inputs (undecided_of rec.steps)))
+  pub stored : MatchOption after.files ⊥ (λ new. AreStored files new (run_texts names inputs rec))
   pub summary : Writes before.held after.held (summary_of inputs (undecided_of rec.steps)) (Ok tt)
   pub status_is : status ≡ done_status (undecided_of rec.steps)
+  pub verifiable : verified inputs (transcript_text inputs.scenario inputs.book rec) ≡ Ok rec
 
 -- The auction of these inputs was carried out with every test decided: what RESULT holds and what the summary says hang on
 -- the three input files alone, and each station that is bought is paid the greatest admissible value with which it would
@@ -58,12 +75,31 @@ pub record IsDone (files : List StoredFile) (names : RunNames) (before after : O
 pub record IsDecided (files : List StoredFile) (names : RunNames) (before after : Outside) : Type 0 where
   pub inputs : Inputs
   pub accepted : inputs_of files names.inputs ≡ Ok inputs
-  pub result : MatchOption after.files ⊥ (λ new. Puts files new names.result (result_of inputs []))
+  pub result : MatchOption after.files ⊥ (λ new. bytes_of new names.result ≡ Some (result_of run_order inputs []))
   pub summary : Writes before.held after.held (summary_of inputs []) (Ok tt)
-  pub paid : (f : FrozenAt) → Contains (outcome inputs []).frozen f →
+  pub paid : (f : FrozenAt) → Contains (outcome run_order inputs []).frozen f →
       IsThresholdPrice inputs.scenario inputs.book run_order f.station f.price
 
--- What was written of an auction that was carried out, where the summary failed: RESULT holds its text, the sink was not
+-- A store of an auction that was carried out failed, or memory ran out at it: the texts before it stand under their names,
+-- that name may hold anything, and all other files are what they were.
+pub record IsPartStored (files : List StoredFile) (names : RunNames) (after : Outside) (found : Option Record) : Type 0 where
+  pub inputs : Inputs
+  pub accepted : inputs_of files names.inputs ≡ Ok inputs
+  pub rec : Record
+  pub recorded : found ≡ Some rec
+  pub auction : IsRecordOf inputs rec
+  pub new : List StoredFile
+  pub now_told : after.files ≡ Some new
+  pub part : AreStoredUpTo files new (run_texts names inputs rec)
+
+-- the store failed, of a folder that isn't steady, and the line names the file
+pub record IsUnstored (files : List StoredFile) (names : RunNames) (before after : Outside) (found : Option Record) : Type 0 where
+  pub risen : HasRisen before.faults after.faults
+  pub unsteady : before.steady ≢ true
+  pub upto : IsPartStored files names after found
+  pub line : IsSaid before after (unwritten_line upto.part.failed.name)
+
+-- What was written of an auction that was carried out, where the summary failed: the three texts are stored, the sink was not
 -- sure of the summary, and of that some was written, from the first byte on.
 pub record IsCutShort (files : List StoredFile) (names : RunNames) (before after : Outside) (found : Option Record) : Type 0 where
   pub inputs : Inputs
@@ -71,17 +107,15 @@ pub record IsCutShort (files : List StoredFile) (names : RunNames) (before after
   pub rec : Record
   pub recorded : found ≡ Some rec
   pub auction : IsRecordOf inputs rec
-  pub result : MatchOption after.files ⊥ (λ new. Puts files new names.result (result_of inputs (undecided_of rec.steps)))
+  pub stored : MatchOption after.files ⊥ (λ new. AreStored files new (run_texts names inputs rec))
   pub failed : HasRisen before.cuts after.cuts
   pub unsure : before.sure < length (summary_of inputs (undecided_of rec.steps))
   pub summary : IsSaid before after (summary_of inputs (undecided_of rec.steps))
+  pub verifiable : verified inputs (transcript_text inputs.scenario inputs.book rec) ≡ Ok rec
 
--- Something could not be written: the store failed, of a folder that isn't steady, and the line names RESULT; or the summary
--- did.
+-- something could not be written: a text, or the summary
 abbrev pub IsUnwritten : List StoredFile → RunNames → Outside → Outside → Option Record → Type 0
-IsUnwritten files names before after found =
-    (HasRisen before.faults after.faults × (before.steady ≢ true) × IsSaid before after (unwritten_line names.result))
-    ⊎ IsCutShort files names before after found
+IsUnwritten files names before after found = IsUnstored files names before after found ⊎ IsCutShort files names before after found
 
 -- The record is that of the auction of the inputs that the files hold, where the folder tells them, and it ended so.
 pub record IsRecordAt (names : RunNames) (before : Outside) (ending : Ending) (found : Option Record) : Type 0 where
@@ -95,8 +129,8 @@ pub record IsRecordAt (names : RunNames) (before : Outside) (ending : Ending) (f
 -- stations on air at the end.
 pub record IsSomeRecord (rec : Record) : Type 0 where
   pub inputs : Inputs
-  pub backed : IsBacked inputs.scenario inputs.book run_order rec
-  pub packing : rec.ending ≡ Done → IsPacking inputs.book (on_air_set inputs.scenario (outcome inputs (undecided_of rec.steps))) rec.map
+  pub backed : IsBacked inputs.scenario inputs.book rec.order rec
+  pub packing : rec.ending ≡ Done → IsPacking inputs.book (on_air_set inputs.scenario (outcome rec.order inputs (undecided_of rec.steps))) rec.map
 
 -- The test of the start set of these inputs was left open: the record has a receipt of every worker, and the line says so.
 pub record IsLeftOpen (files : List StoredFile) (names : RunNames) (before after : Outside) (found : Option Record) : Type 0 where
@@ -107,12 +141,8 @@ pub record IsLeftOpen (files : List StoredFile) (names : RunNames) (before after
   pub auction : IsOpenRecordOf inputs rec
   pub line : IsSaid before after open_line
 
--- the status is this one; or else memory ran out, or a folder that isn't steady failed to hand out a file
-abbrev pub IsOr : ℕ → Outside → ℕ → Type 0
-IsOr wanted before status = (status ≡ wanted) ⊎ ((status ≡ 8) ⊎ ((status ≡ 3) × (before.steady ≢ true)))
-
 pub record Promises (plan : Plan) (before after : Outside) (status : ℕ) (found : Option Record) : Type 0 where
-  pub statuses : IsTrue (is_in (0 ∷ 1 ∷ 2 ∷ 3 ∷ 4 ∷ 5 ∷ 6 ∷ 7 ∷ 8 ∷ []) status)
+  pub statuses : IsTrue (is_in (0 ∷ 1 ∷ 2 ∷ 3 ∷ 4 ∷ 5 ∷ 6 ∷ 7 ∷ 8 ∷ 9 ∷ []) status)
   -- Status 2 comes exactly where the words are no command, but for want of memory.
   pub usage : plan ≡ no_command → (status ≡ 2) ⊎ (status ≡ 8)
   pub usage_only : status ≡ 2 → plan ≡ no_command
@@ -120,7 +150,7 @@ pub record Promises (plan : Plan) (before after : Outside) (status : ℕ) (found
   -- no call of the folder failed that could have been made: its count of faults stands.
   pub twice : (name : List ℕ) → plan ≡ repeats name →
       ((status ≡ 5) × IsSaid before after (twice_line name)) ⊎ (status ≡ 8)
-  pub asked_nothing : inputs_read plan ≡ None → after.faults ≡ before.faults
+  pub asked_nothing : reads_nothing plan ≡ true → after.faults ≡ before.faults
   -- At status 0 and 1 `run` has carried out the auction of the inputs that the files hold, at 0 with every test decided; at
   -- 0 `check` has counted them.
   pub done : (files : List StoredFile) (names : RunNames) →
@@ -139,12 +169,12 @@ pub record Promises (plan : Plan) (before after : Outside) (status : ℕ) (found
       (inputs : Inputs) × (inputs_of files names ≡ Ok inputs)
       × Writes before.held after.held (counts_text inputs) (Ok tt)
   -- The record: backed, also where the folder tells nothing. `run` has that of its inputs: of an auction that was carried
-  -- through at 0, 1 and 4, of a refuted start at 6 and of one left open at 7. None has one at 2, 3 and 5, nor has `check`.
+  -- through at 0, 1 and 4, of a refuted start at 6 and of one left open at 7. None has one at 2, 3, 5 and 9, nor has `check`.
   pub backed : MatchOption found ⊤ IsSomeRecord
   pub recorded : (names : RunNames) → plan ≡ runs names → IsTrue (is_in (0 ∷ 1 ∷ 4 ∷ []) status) → IsRecordAt names before Done found
   pub refuted_recorded : (names : RunNames) → plan ≡ runs names → status ≡ 6 → IsRecordAt names before StartRefuted found
   pub open_recorded : (names : RunNames) → plan ≡ runs names → status ≡ 7 → IsRecordAt names before StartUndecided found
-  pub unrecorded : IsTrue (is_in (2 ∷ 3 ∷ 5 ∷ []) status) → found ≡ None
+  pub unrecorded : IsTrue (is_in (2 ∷ 3 ∷ 5 ∷ 9 ∷ []) status) → found ≡ None
   pub no_record : (names : InputNames) → plan ≡ checks names → found ≡ None
   -- Status 5, beside a name given twice, comes exactly where an input is too long or refused, and the line names the file
   -- and the cause. Before that memory may run out, and a folder that isn't steady may fail.
@@ -180,13 +210,16 @@ pub record Promises (plan : Plan) (before after : Outside) (status : ℕ) (found
   pub nobody : (files : List StoredFile) (names : RunNames) (inputs : Inputs) →
       before.files ≡ Some files → plan ≡ runs names → inputs_of files names.inputs ≡ Ok inputs →
       start_set inputs.scenario ≡ [] → IsFalse (is_in (6 ∷ 7 ∷ []) status)
-  pub run_only : (names : InputNames) → plan ≡ checks names → IsFalse (is_in (1 ∷ 6 ∷ 7 ∷ []) status)
-  -- Status 4 comes only where a count of faults rose: for `run`, the store failed, or RESULT holds its text and the
+  pub run_only : (names : InputNames) → plan ≡ checks names → IsFalse (is_in (1 ∷ 6 ∷ 7 ∷ 9 ∷ []) status)
+  -- Status 4 comes only where a count of faults rose: for `run`, a store failed, or the three texts are stored and the
   -- summary was written, or some of it from the first byte on; for `check` so were the counts. It never comes over a steady folder
-  -- and a sink that surely takes the summary, whatever is undecided, or the counts.
+  -- and a sink that surely takes the summary, whatever is undecided, or the counts. Where memory runs out at a store, there is
+  -- a record, and the texts before it are stored.
   pub unwritten : status ≡ 4 → HasRisen before.faults after.faults ⊎ HasRisen before.cuts after.cuts
   pub stored : (files : List StoredFile) (names : RunNames) →
       before.files ≡ Some files → plan ≡ runs names → status ≡ 4 → IsUnwritten files names before after found
+  pub part_stored : (files : List StoredFile) (names : RunNames) →
+      before.files ≡ Some files → plan ≡ runs names → status ≡ 8 → IsSome found → IsPartStored files names after found
   pub cut : (files : List StoredFile) (names : InputNames) →
       before.files ≡ Some files → plan ≡ checks names → status ≡ 4 →
       (inputs : Inputs) × (inputs_of files names ≡ Ok inputs)
@@ -198,9 +231,10 @@ pub record Promises (plan : Plan) (before after : Outside) (status : ℕ) (found
   pub surely_counted : (files : List StoredFile) (names : InputNames) →
       before.files ≡ Some files → plan ≡ checks names →
       ((inputs : Inputs) → inputs_of files names ≡ Ok inputs → length (counts_text inputs) ≤ before.sure) → status ≢ 4
-  -- No file is touched but RESULT, and that only where there is a record of an auction that was carried through.
+  -- No file is touched but RESULT, CHANNELS and TRANSCRIPT, and those only where there is a record of an auction that was
+  -- carried through.
   pub others : (files : List StoredFile) (names : RunNames) →
-      before.files ≡ Some files → plan ≡ runs names → MatchOption after.files ⊥ (λ new. OthersStand files new names.result)
+      before.files ≡ Some files → plan ≡ runs names → MatchOption after.files ⊥ (λ new. AllOthersStand files new (output_names names))
   pub untouched : found ≡ None → after.files ≡ before.files
   pub unfit_untouched : IsTrue (is_in (6 ∷ 7 ∷ []) status) → after.files ≡ before.files
   -- Accepted inputs are carried through, where the start set fits and its test isn't left open, and counted, but for want of
@@ -211,5 +245,9 @@ pub record Promises (plan : Plan) (before after : Outside) (status : ℕ) (found
   pub counts : (files : List StoredFile) (names : InputNames) (inputs : Inputs) →
       before.files ≡ Some files → plan ≡ checks names → inputs_of files names ≡ Ok inputs →
       IsOr 0 before status ⊎ (status ≡ 4)
+  -- What may be relied on of `verify`.
+  pub verify : (names : VerifyNames) → plan ≡ verifies names → VerifyPromises names before after status found
+  -- Status 9 is of `verify` alone.
+  pub verify_only : status ≡ 9 → (names : VerifyNames) × (plan ≡ verifies names)
   -- At status 8 the line says that memory ran out.
   pub memory : status ≡ 8 → IsSaid before after memory_line

@@ -23,6 +23,10 @@ unwritten_line name = codes "cannot write " ++ name ++ codes "\n"
 abbrev pub twice_line : List ℕ → List ℕ
 twice_line name = name ++ codes ": given twice\n"
 
+-- the line of a file that is too long
+abbrev pub long_line : List ℕ → List ℕ
+long_line name = name ++ codes ": too long\n"
+
 -- the line of a start set that doesn't fit
 abbrev pub unfit_line : List ℕ
 unfit_line = codes "the start set does not fit\n"

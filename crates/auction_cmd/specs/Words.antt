@@ -6,8 +6,9 @@ use Rattle.clap.specs.Simple.{on_top}
 use Rattle.clap.specs.Walk.{is_empty}
 use Rattle.auction_cmd.specs.declared.words.InputArgs.{InputArgs}
 use Rattle.auction_cmd.specs.declared.words.RunArgs.{RunArgs}
+use Rattle.auction_cmd.specs.declared.words.VerifyArgs.{VerifyArgs}
 use Rattle.auction_cmd.specs.declared.words.Order.{Order}
-use Rattle.auction_cmd.specs.declared.words.Order.TheVariants.{Run, Check}
+use Rattle.auction_cmd.specs.declared.words.Order.TheVariants.{Run, Check, Verify}
 use Rattle.auction_cmd.specs.declared.words.WordsFault.{WordsFault}
 use Rattle.auction_cmd.specs.declared.words.WordsFault.TheVariants.{NoMemory, Refused}
 
@@ -24,10 +25,16 @@ pub record RunNames : Type 0 where
   pub channels : List ℕ
   pub transcript : List ℕ
 
+-- the names of the files of `verify`
+pub record VerifyNames : Type 0 where
+  pub inputs : InputNames
+  pub transcript : List ℕ
+
 -- a command with its arguments
 pub data Command : Type 0 where
   run : RunNames → Command
   check : InputNames → Command
+  verify : VerifyNames → Command
 
 -- ---- what `clap` is asked to read
 
@@ -54,12 +61,15 @@ output_ids = codes "RESULT" ∷ codes "CHANNELS" ∷ codes "TRANSCRIPT" ∷ []
 abbrev pub run_app : App
 run_app = with_required (new_app (codes "run")) (input_ids ++ output_ids)
 
+abbrev pub verify_app : App
+verify_app = with_required (new_app (codes "verify")) (input_ids ++ codes "TRANSCRIPT" ∷ [])
+
 -- the program without its commands: it has a version, and a command is required
 abbrev pub bare_app : App
 bare_app = on_top (λ s. record s { has_version = true; subcommand_required = true }) (new_app (codes "repack"))
 
 abbrev pub program_app : App
-program_app = with_subcommand (with_subcommand bare_app run_app.top) check_app.top
+program_app = with_subcommand (with_subcommand (with_subcommand bare_app run_app.top) check_app.top) verify_app.top
 
 -- ---- what was read
 
@@ -85,11 +95,19 @@ run_names rows =
     Some (record { inputs = inputs; result = result; channels = channels; transcript = transcript })))))
     (input_names rows)
 
+-- the names of the files of `verify`, where each is there
+abbrev pub verify_names : List Row → Option VerifyNames
+verify_names rows =
+    option_and_then (λ inputs.
+    with_value rows (codes "TRANSCRIPT") (λ transcript. Some (record { inputs = inputs; transcript = transcript })))
+    (input_names rows)
+
 -- the command of this name, where each of its arguments is there
 abbrev pub named_command : Text × List Row → Option Command
 named_command found =
     if bytes_eq found.0 (codes "run") then option_map run (run_names found.1)
-    else (if bytes_eq found.0 (codes "check") then option_map check (input_names found.1) else None)
+    else (if bytes_eq found.0 (codes "check") then option_map check (input_names found.1)
+    else (if bytes_eq found.0 (codes "verify") then option_map verify (verify_names found.1) else None))
 
 -- The command that the words are, the first of which is the program's name; none where `clap` has a fault for them, or an
 -- argument has no value.
@@ -132,9 +150,13 @@ names_seen args = record {
   transcript = args.transcript.now;
 }
 
+abbrev pub verify_seen : VerifyArgs → VerifyNames
+verify_seen args = record { inputs = inputs_seen args.inputs; transcript = args.transcript.now }
+
 abbrev pub order_seen : Order → Command
 order_seen (Run args) = run (names_seen args)
 order_seen (Check args) = check (inputs_seen args)
+order_seen (Verify args) = verify (verify_seen args)
 
 -- the words have a fault
 abbrev pub IsRefused : WordsFault → Type 0

@@ -12,6 +12,7 @@ use crate::explain::starve;
 use crate::finish::Finish;
 use crate::run::run;
 use crate::says::say;
+use crate::verify::verify;
 use crate::words::{Order, WordsFault, read_words};
 use outside_io::folder::Folder;
 use outside_io::sink::Sink;
@@ -38,6 +39,7 @@ fn carry_out<F: Folder, K: Sink>(
             None => run(alloc, &files, folder, out),
         },
         Ok(Order::Check(files)) => check(alloc, &files, folder, out),
+        Ok(Order::Verify(files)) => verify(alloc, &files, folder, out),
         Err(WordsFault::Refused(text)) => {
             say(out, &[text.as_str()]);
             Finish::without_record(2)
@@ -49,15 +51,18 @@ fn carry_out<F: Folder, K: Sink>(
 /// Runs the program on these words, the first of which is its name.
 ///
 /// - `run DOMAINS ROWS SCENARIO RESULT CHANNELS TRANSCRIPT` reads the three inputs, carries the auction out by the clock
-///   rule, each of its queries answered by the solvers of the scenario's workers, stores the result under RESULT and writes
-///   the summary.
+///   rule, each of its queries answered by the solvers of the scenario's workers, stores the result, the channels of the
+///   stations on air and the transcript, in this order, and writes the summary.
 /// - `check DOMAINS ROWS SCENARIO` reads the three inputs and writes how many stations and pairs they have.
+/// - `verify DOMAINS ROWS SCENARIO TRANSCRIPT` reads the three inputs and a transcript, checks each of its steps and writes
+///   the result that it shows.
 ///
 /// The status is 0 where all is done and every test was decided; 1 where all is done and some test was not; 2 where the
-/// words are no command, help and version included; 3 where an input can't be read; 4 where the result, the summary or the
-/// counts can't be written; 5 where an output name is given twice, or an input is too long or refused; 6 where the start
-/// set doesn't fit; 7 where no worker decides whether it does; 8 for want of memory. At each but 0 and 1 a line says so;
-/// where the sink fails at the summary or the counts there is none.
+/// words are no command, help and version included; 3 where a file can't be read; 4 where a file can't be stored, or the
+/// summary, the counts or the result can't be written; 5 where an output name is given twice, or a file is too long or an
+/// input refused; 6 where the start set doesn't fit; 7 where no worker decides whether it does; 8 for want of memory; 9 where
+/// the transcript's text is refused or a step of it isn't shown. At each but 0 and 1 a line says so; where the sink fails at
+/// the summary, the counts or the result there is none.
 pub fn auction_main<F: Folder, K: Sink>(
     alloc: Global,
     words: &[String],

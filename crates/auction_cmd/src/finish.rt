@@ -10,7 +10,7 @@ pub struct Finish {
     /// The exit status.
     pub status: u8,
     /// The record of the auction, where it comes back: of `run` at the statuses 0, 1, 4, 6 and 7, and at 8 where memory ran
-    /// out at the store.
+    /// out at a store; of `verify` at 0, 1 and 4.
     pub result: Option<Record>,
 }
 

@@ -5,6 +5,7 @@ pub mod auction;
 mod check;
 mod constraints;
 mod explain;
+pub mod fault;
 pub mod finish;
 pub mod inputs;
 pub mod refusal;
@@ -12,4 +13,5 @@ mod run;
 mod says;
 #[cfg(test)]
 mod tests;
+mod verify;
 pub mod words;

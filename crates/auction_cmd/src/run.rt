@@ -1,12 +1,16 @@
 //! The command `run`: the auction from files to result.
 
-ghost use Rattle.std.specs.Prelude.{◌≡◌, IfOk};
+ghost use Rattle.std.specs.Prelude.{◌≡◌, IfErr, IfOk, OnOk};
 ghost use Rattle.std.specs.List.{list_any};
 ghost use Rattle.pack_defs.specs.Scenario.{IsWithinLimits};
 ghost use Rattle.auction_core.specs.Backed.{is_undecided, undecided_of};
 ghost use Rattle.auction_core.specs.Setup.{IsOfAuction};
-ghost use Rattle.auction_cmd.specs.Ends.{Delivers, IsRecordBy, IsRecordOf, RunEnds, done_status, result_of, summary_of};
+ghost use Rattle.result_text.specs.ChannelsText.{channels_text};
+ghost use Rattle.transcript_text.specs.Spelling.{transcript_text};
+ghost use Rattle.auction_cmd.specs.Delivery.{Delivers, IsNotStored, IsStored, named};
+ghost use Rattle.auction_cmd.specs.Ends.{RunEnds, output_texts};
 ghost use Rattle.auction_cmd.specs.Outside.{outside};
+ghost use Rattle.auction_cmd.specs.Records.{IsRecordBy, IsRecordOf, done_status, result_of, run_order, summary_of};
 ghost use Rattle.auction_cmd.specs.Words.{names_seen};
 
 use crate::explain::{explain, say_memory, starve};
@@ -18,14 +22,19 @@ use auction_core::record::{Ending, Record, Shown, Step};
 use outside_io::folder::{Folder, StoreErr};
 use outside_io::sink::Sink;
 use race_wave::run::run_auction;
+use result_text::channels::channels_csv;
 use result_text::counts::summary;
 use result_text::rows::result_csv;
 use std::alloc::{AllocError as NoMemory, Global};
+use transcript_text::again::{is_held, is_named};
+use transcript_text::write::write_transcript;
 
 // The texts of a finished auction.
 #[derive(Drop)]
 struct Texts {
     result: Vec<u8>,
+    channels: Vec<u8>,
+    transcript: Vec<u8>,
     summary: Vec<u8>,
 }
 
@@ -55,7 +64,7 @@ fn any_undecided(steps: &[Step]) -> bool
 }
 
 // The status of an auction that was carried through: 0 where no test was left open, else 1.
-fn done_status(rec: &Record) -> u8
+pub fn done_status(rec: &Record) -> u8
     ensures { result ≡ done_status (undecided_of rec.now.steps) }
 {
     if any_undecided(rec.steps.as_slice()) {
@@ -68,48 +77,78 @@ fn done_status(rec: &Record) -> u8
 fn texts_of(alloc: Global, inputs: &Inputs, rec: &Record) -> Result<Texts, NoMemory>
     requires limits { IsWithinLimits inputs.now.scenario }
     requires of { IsRecordOf inputs.now rec.now }
-    ensures result { IfOk result (λ texts. texts.result.items ≡ result_of inputs.now (undecided_of rec.now.steps)) }
+    ensures result { IfOk result (λ texts. texts.result.items ≡ result_of run_order inputs.now (undecided_of rec.now.steps)) }
+    ensures channels { IfOk result (λ texts. texts.channels.items ≡ channels_text rec.now.map) }
+    ensures transcript { IfOk result (λ texts. texts.transcript.items ≡ transcript_text inputs.now.scenario inputs.now.book rec.now) }
     ensures summary { IfOk result (λ texts. texts.summary.items ≡ summary_of inputs.now (undecided_of rec.now.steps)) }
 {
     let result = result_csv(alloc, rec, &inputs.book)?;
+    let channels = channels_csv(alloc, rec)?;
+    let transcript = write_transcript(alloc, rec, &inputs.book)?;
     let summary = summary(alloc, rec, &inputs.book)?;
-    Ok(Texts { result, summary })
+    Ok(Texts {
+        result,
+        channels,
+        transcript,
+        summary,
+    })
 }
 
-// Stores the result under this name, and writes the summary. It gives the status, which is `done` where both are done.
+// Stores a text under this name. Where it can't, a line says so, and the error is the status.
+fn store<F: Folder, K: Sink>(folder: &mut F, out: &mut K, name: &str, text: &[u8]) -> Result<(), u8>
+    ensures stored { OnOk result (IsStored (named name.now text.now)
+        (outside (F.files folder.old) (F.faults folder.old) (F.steady folder.old) (K.held out.old) (K.faults out.old) (K.sure out.old))
+        (outside (F.files folder.new) (F.faults folder.new) (F.steady folder.new) (K.held out.new) (K.faults out.new) (K.sure out.new))) }
+    ensures not_stored { IfErr result (IsNotStored (named name.now text.now)
+        (outside (F.files folder.old) (F.faults folder.old) (F.steady folder.old) (K.held out.old) (K.faults out.old) (K.sure out.old))
+        (outside (F.files folder.new) (F.faults folder.new) (F.steady folder.new) (K.held out.new) (K.faults out.new) (K.sure out.new))) }
+{
+    match folder.store(name, text) {
+        Ok(()) => Ok(()),
+        Err(StoreErr::Failed) => {
+            say(out, &["cannot write ", name, "\n"]);
+            Err(4)
+        }
+        Err(StoreErr::NoMemory) => {
+            say_memory(out);
+            Err(8)
+        }
+    }
+}
+
+// Stores the texts under their names, in order, and writes the summary. It gives the status, which is `done` where all is
+// done.
 fn deliver<F: Folder, K: Sink>(
     folder: &mut F,
     out: &mut K,
-    name: &str,
-    text: &[u8],
-    summary: &[u8],
+    names: &RunArgs<'_>,
+    texts: &Texts,
     done: u8,
 ) -> u8
-    ensures { Delivers name.now text.now summary.now done
+    ensures { Delivers (output_texts (names_seen names.now) texts.now.result.items texts.now.channels.items texts.now.transcript.items)
+        texts.now.summary.items done
         (outside (F.files folder.old) (F.faults folder.old) (F.steady folder.old) (K.held out.old) (K.faults out.old) (K.sure out.old))
         (outside (F.files folder.new) (F.faults folder.new) (F.steady folder.new) (K.held out.new) (K.faults out.new) (K.sure out.new))
         result }
 {
-    match folder.store(name, text) {
-        Ok(()) => {}
-        Err(StoreErr::Failed) => {
-            say(out, &["cannot write ", name, "\n"]);
-            return 4;
-        }
-        Err(StoreErr::NoMemory) => {
-            say_memory(out);
-            return 8;
-        }
+    if let Err(status) = store(folder, out, names.result, &texts.result) {
+        return status;
     }
-    match out.write(summary) {
+    if let Err(status) = store(folder, out, names.channels, &texts.channels) {
+        return status;
+    }
+    if let Err(status) = store(folder, out, names.transcript, &texts.transcript) {
+        return status;
+    }
+    match out.write(&texts.summary) {
         Ok(()) => done,
         Err(_) => 4,
     }
 }
 
 /// Reads the inputs, carries the auction out, each query of it tried by the solvers of the scenario's workers, stores the
-/// result and writes the summary. Where the start set doesn't fit, or no worker decides whether it does, there is no auction,
-/// and nothing is stored.
+/// result, the channels and the transcript, and writes the summary. Where the start set doesn't fit, or no worker decides
+/// whether it does, there is no auction, and nothing is stored.
 pub fn run<F: Folder, K: Sink>(
     alloc: Global,
     files: &RunArgs<'_>,
@@ -142,14 +181,9 @@ pub fn run<F: Folder, K: Sink>(
     let Ok(texts) = texts_of(alloc, &inputs, &record) else {
         return starve(out);
     };
+    is_named(&inputs.scenario, &inputs.book);
+    is_held(&record);
     let done = done_status(&record);
-    let status = deliver(
-        folder,
-        out,
-        files.result,
-        &texts.result,
-        &texts.summary,
-        done,
-    );
+    let status = deliver(folder, out, files, &texts, done);
     Finish::with_record(status, record)
 }

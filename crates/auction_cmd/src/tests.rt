@@ -10,11 +10,15 @@ mod starts;
 mod stopped;
 mod told;
 mod undecided;
+mod unshown;
+mod verified;
 mod words;
 
 const COMMAND: &str = "repack run d.csv r.csv s.json out.csv chan.csv tr.txt";
 
 const CHECK: &str = "repack check d.csv r.csv s.json";
+
+const VERIFY: &str = "repack verify d.csv r.csv s.json tr.txt";
 
 // Three stations on two channels, of which no two may share one.
 const DOMAINS: &str = "DOMAIN,1,14,15\nDOMAIN,2,14,15\nDOMAIN,3,14,15\n";
@@ -28,6 +32,15 @@ const THREE: &str =
     "{\"id\":1,\"volume\":1,\"value\":50},{\"id\":2,\"volume\":1,\"value\":70},{\"id\":3,\"volume\":1,\"value\":10}";
 
 const MANY_LINES: &str = "{\"kind\":\"cdcl\",\"budget\":1000}";
+
+const ONE_LINE: &str = "{\"kind\":\"cdcl\",\"budget\":1}";
+
+// The transcript of the three stations.
+const TRANSCRIPT: &str =
+    "transcript 1\nstart empty\nfit 1 1 1\nat 1 14\nfit 1 2 1\nat 2 14\nfit 1 3 1\nat 3 15\nfit 2 1 1\nat 1 15\nlog 2 3 0 2\non 1 2 3\n13 -1 0 7 2 8 3 12 0\n14 0 13 1 9 2 10 3 11 0\nend 5\n";
+
+// Its last step.
+const LAST_STEP: &str = "log 2 3 0 2\non 1 2 3\n13 -1 0 7 2 8 3 12 0\n14 0 13 1 9 2 10 3 11 0\n";
 
 // Two and three stations without values, which start on air.
 const TWO_PLAIN: &str = "{\"id\":1,\"volume\":1},{\"id\":2,\"volume\":1}";

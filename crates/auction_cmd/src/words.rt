@@ -5,7 +5,7 @@ ghost use Rattle.std.specs.Str.{bytes_eq};
 ghost use Rattle.clap.specs.Words.{app_of, first_of, found_of, kind_of, new_app, rows_of, rule_of, subcommand_rows_of};
 ghost use Rattle.clap.specs.declared.builder.command.Command.TheViews.{out-Command};
 ghost use Rattle.auction_cmd.specs.Refusals.{name_of};
-ghost use Rattle.auction_cmd.specs.Words.{IsRefused, bare_app, check_app, command_of, input_ids, input_names, inputs_seen, is_repeated_in, named_command, names_seen, order_seen, program_app, repeated_output, required_rule, run_app, run_names, with_required};
+ghost use Rattle.auction_cmd.specs.Words.{IsRefused, bare_app, check_app, command_of, input_ids, input_names, inputs_seen, is_repeated_in, named_command, names_seen, order_seen, program_app, repeated_output, required_rule, run_app, run_names, verify_app, verify_names, verify_seen, with_required};
 
 use crate::refusal::Input;
 use clap::error::ErrorKind;
@@ -30,9 +30,18 @@ pub struct RunArgs<'a> {
     pub inputs: InputArgs<'a>,
     /// The file for the result.
     pub result: &'a str,
-    /// The file for the channel map. It is not written yet.
+    /// The file for the channel map.
     pub channels: &'a str,
-    /// The file for the transcript. It is not written yet.
+    /// The file for the transcript.
+    pub transcript: &'a str,
+}
+
+/// The names of the files of `verify`, as they are given.
+#[derive(Clone, Copy, Debug, PartialEq, Eq)]
+pub struct VerifyArgs<'a> {
+    /// The input files of the auction.
+    pub inputs: InputArgs<'a>,
+    /// The transcript file.
     pub transcript: &'a str,
 }
 
@@ -43,6 +52,8 @@ pub enum Order<'a> {
     Run(RunArgs<'a>),
     /// Check the input files.
     Check(InputArgs<'a>),
+    /// Verify a transcript.
+    Verify(VerifyArgs<'a>),
 }
 
 /// Why words are not read as a command. `Refused`: they are none. It has the text that `clap` gives for the user, which is
@@ -148,7 +159,7 @@ fn run_command<'a>(alloc: Global) -> Result<Command<'a>, AllocError>
     ensures app { IfOk result (λ c. app_of c ≡ run_app) }
     ensures local { IfOk result (λ c. (out-Command c).has_globals ≡ false) }
 {
-    let about = "Runs the auction, stores its result and prints the summary";
+    let about = "Runs the auction, stores its three outputs and prints the summary";
     input_command(alloc, "run", about)?
         .arg(required(
             alloc,
@@ -158,12 +169,12 @@ fn run_command<'a>(alloc: Global) -> Result<Command<'a>, AllocError>
         .arg(required(
             alloc,
             "CHANNELS",
-            "Where to store the channel map (not written yet)",
+            "Where to store the channel of each station on air",
         ))?
         .arg(required(
             alloc,
             "TRANSCRIPT",
-            "Where to store the transcript (not written yet)",
+            "Where to store the transcript, which shows the result",
         ))
 }
 
@@ -173,6 +184,18 @@ fn check_command<'a>(alloc: Global) -> Result<Command<'a>, AllocError>
 {
     let about = "Checks the input files and prints their counts; stores nothing";
     input_command(alloc, "check", about)
+}
+
+fn verify_command<'a>(alloc: Global) -> Result<Command<'a>, AllocError>
+    ensures app { IfOk result (λ c. app_of c ≡ verify_app) }
+    ensures local { IfOk result (λ c. (out-Command c).has_globals ≡ false) }
+{
+    let about = "Checks a transcript and prints the result it shows; stores nothing";
+    input_command(alloc, "verify", about)?.arg(required(
+        alloc,
+        "TRANSCRIPT",
+        "The transcript of an auction of these inputs",
+    ))
 }
 
 // The program without its commands. Its name in the texts is its own, however it was called.
@@ -193,7 +216,8 @@ fn program<'a>(alloc: Global) -> Result<Command<'a>, AllocError>
 {
     bare_program(alloc)?
         .subcommand(run_command(alloc)?)?
-        .subcommand(check_command(alloc)?)
+        .subcommand(check_command(alloc)?)?
+        .subcommand(verify_command(alloc)?)
 }
 
 // The first value of an argument.
@@ -231,6 +255,14 @@ fn run_args<'a>(matches: &ArgMatches<'a>) -> Option<RunArgs<'a>>
     })
 }
 
+fn verify_args<'a>(matches: &ArgMatches<'a>) -> Option<VerifyArgs<'a>>
+    ensures { option_map verify_seen result ≡ verify_names (rows_of (found_of matches.now)) }
+{
+    let inputs = input_args(matches)?;
+    let transcript = value_of(matches, "TRANSCRIPT")?;
+    Some(VerifyArgs { inputs, transcript })
+}
+
 // The command that `clap` found, with its arguments.
 fn order_of<'a>(matches: &ArgMatches<'a>) -> Option<Order<'a>>
     ensures { option_map order_seen result ≡ option_and_then named_command (subcommand_rows_of matches.now) }
@@ -240,6 +272,8 @@ fn order_of<'a>(matches: &ArgMatches<'a>) -> Option<Order<'a>>
         Some(Order::Run(run_args(inner)?))
     } else if name == "check" {
         Some(Order::Check(input_args(inner)?))
+    } else if name == "verify" {
+        Some(Order::Verify(verify_args(inner)?))
     } else {
         None
     }
@@ -264,8 +298,8 @@ fn fault_from(alloc: Global, error: &Error) -> WordsFault
 }
 
 /// The command that the words are, of which the first is the program's name: `run DOMAINS ROWS SCENARIO RESULT CHANNELS
-/// TRANSCRIPT` or `check DOMAINS ROWS SCENARIO`. A name that begins with `-` stands after `--`, but for a lone `-`. Help
-/// and the version are no command: their texts come with `Refused`.
+/// TRANSCRIPT`, `check DOMAINS ROWS SCENARIO` or `verify DOMAINS ROWS SCENARIO TRANSCRIPT`. A name that begins with `-`
+/// stands after `--`, but for a lone `-`. Help and the version are no command: their texts come with `Refused`.
 #[tactic(auto, unfolding(crate::specs::Words::command_of))]
 pub fn read_words<'a>(alloc: Global, words: &'a [String]) -> Result<Order<'a>, WordsFault>
     ensures order { IfOk result (λ o. command_of (map string_bytes words.entry.now) ≡ Some (order_seen o)) }

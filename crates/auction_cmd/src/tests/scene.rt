@@ -1,7 +1,7 @@
 //! What a run is given, and the run.
 
 use super::told::{faults_text, told};
-use super::{CLOCK, COMMAND, DOMAINS, MANY_LINES, ROWS, THREE};
+use super::{CLOCK, COMMAND, DOMAINS, MANY_LINES, ROWS, THREE, VERIFY};
 use crate::auction::auction_main;
 use outside_io::memory_folder::{MemoryFile, MemoryFolder};
 use outside_io::memory_sink::MemorySink;
@@ -32,8 +32,8 @@ pub enum Change<'a> {
     Write(u64),
 }
 
-// What a run is given: the words with a blank between each two, the texts of two inputs, the parts of the third, and a
-// change.
+// What a run is given: the words with a blank between each two, the texts of two inputs, the parts of the third, a
+// transcript, if there is one, and a change.
 #[derive(Clone, Copy)]
 pub struct Scene<'a> {
     pub command: &'a str,
@@ -42,6 +42,7 @@ pub struct Scene<'a> {
     pub clock: &'a str,
     pub stations: &'a str,
     pub workers: &'a str,
+    pub transcript: Option<&'a str>,
     pub change: Change<'a>,
 }
 
@@ -53,11 +54,12 @@ pub const RUN: Scene<'static> = Scene {
     clock: CLOCK,
     stations: THREE,
     workers: MANY_LINES,
+    transcript: None,
     change: Change::Nothing,
 };
 
 // The text with one part of it changed. Where there is no such part it's one of which no test speaks.
-fn replaced(alloc: Global, text: &str, part: &str, other: &str) -> Result<String, NoMemory> {
+pub fn replaced(alloc: Global, text: &str, part: &str, other: &str) -> Result<String, NoMemory> {
     match text.split_once(part) {
         Some((before, after)) => format!(in alloc; "{before}{other}{after}"),
         None => String::from_str(alloc, "{}"),
@@ -114,6 +116,9 @@ fn inputs_of(alloc: Global, scene: &Scene<'_>) -> Result<Vec<MemoryFile>, NoMemo
     add(&mut files, scene.change, "d.csv", scene.domains)?;
     add(&mut files, scene.change, "r.csv", scene.rows)?;
     add(&mut files, scene.change, "s.json", &scenario)?;
+    if let Some(text) = scene.transcript {
+        add(&mut files, scene.change, "tr.txt", text)?;
+    }
     Ok(files)
 }
 
@@ -154,13 +159,22 @@ fn is_kept(folder: &MemoryFolder, change: Change<'_>, name: &str, text: &str) ->
     }
 }
 
+// Whether the transcript is as it was, where there was one.
+fn is_transcript_kept(folder: &MemoryFolder, scene: &Scene<'_>) -> bool {
+    match scene.transcript {
+        Some(text) => is_kept(folder, scene.change, "tr.txt", text),
+        None => true,
+    }
+}
+
 // Whether the inputs are as they were.
 fn are_kept(alloc: Global, scene: &Scene<'_>, folder: &MemoryFolder) -> Result<bool, NoMemory> {
     let scenario = scenario_of(alloc, scene)?;
     Ok(
         is_kept(folder, scene.change, "d.csv", scene.domains)
             && is_kept(folder, scene.change, "r.csv", scene.rows)
-            && is_kept(folder, scene.change, "s.json", &scenario),
+            && is_kept(folder, scene.change, "s.json", &scenario)
+            && is_transcript_kept(folder, scene),
     )
 }
 
@@ -215,6 +229,16 @@ fn run(alloc: Global, scene: &Scene<'_>) -> Result<String, NoMemory> {
     run_words(alloc, &words, scene)
 }
 
+// Runs the auction of a scene, and then verifies the transcript that it stored, in the same folder. It tells the facts of
+// what is left.
+fn run_and_verify(alloc: Global, scene: &Scene<'_>) -> Result<String, NoMemory> {
+    let first = words_of(alloc, COMMAND)?;
+    let second = words_of(alloc, VERIFY)?;
+    let mut folder = folder_of(alloc, scene)?;
+    let _ = left_in(alloc, &first, scene, &mut folder)?;
+    left_in(alloc, &second, scene, &mut folder)
+}
+
 // Whether each of these facts is among those told.
 fn are_among(facts: &str, told: &str) -> bool {
     facts
@@ -225,6 +249,12 @@ fn are_among(facts: &str, told: &str) -> bool {
 // Whether the run of a scene leaves what these facts say.
 pub fn leaves(alloc: Global, scene: &Scene<'_>, facts: &str) -> Result<bool, NoMemory> {
     let told = run(alloc, scene)?;
+    Ok(are_among(facts, &told))
+}
+
+// Whether the verification of a scene's own run leaves what these facts say.
+pub fn verifies(alloc: Global, scene: &Scene<'_>, facts: &str) -> Result<bool, NoMemory> {
+    let told = run_and_verify(alloc, scene)?;
     Ok(are_among(facts, &told))
 }
 

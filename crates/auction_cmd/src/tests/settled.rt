@@ -41,11 +41,11 @@ fn first_untrue_part<'a>(
 #[test]
 fn three_stations_are_settled(rt: HostRuntime) -> Result<(), Fail> {
     let table = [
-        // One output alone is stored.
+        // The three outputs are stored. Which channels, and which proof, is the solver's.
         (
             "",
             "",
-            "status 0; said: stations 3\non-air 2\nfrozen 1\nundecided 0\ntotal 60\n; out.csv: facility,outcome,round,price\n1,exit,2,0\n2,exit,1,0\n3,frozen,2,60\n; no chan.csv; no tr.txt; inputs kept",
+            "status 0; said: stations 3\non-air 2\nfrozen 1\nundecided 0\ntotal 60\n; out.csv: facility,outcome,round,price\n1,exit,2,0\n2,exit,1,0\n3,frozen,2,60\n; channels of the map; tr.txt begins: transcript 2, start empty; tr.txt ends: end 5; inputs kept",
         ),
         // The record has each test.
         (
@@ -79,13 +79,13 @@ fn three_stations_are_settled(rt: HostRuntime) -> Result<(), Fail> {
         (
             "1,\"top\":15,\"opening\":100,\"decrements\":[40,40],\"stations\":[{\"id\":1,\"volume\":1,\"value\":50}",
             "2,\"top\":15,\"opening\":100,\"rate\":400,\"floor\":200,\"stations\":[{\"id\":1,\"volume\":1,\"value\":30}",
-            "status 0; said: stations 3\non-air 2\nfrozen 1\nundecided 0\ntotal 36\n; out.csv: facility,outcome,round,price\n1,exit,3,0\n2,exit,1,0\n3,frozen,3,36\n; tests: 1.1 fits, 1.2 fits, 1.3 fits, 2.1 fits, 2.3 as before, 3.1 as before, 3.3 refuted by 0",
+            "status 0; said: stations 3\non-air 2\nfrozen 1\nundecided 0\ntotal 36\n; out.csv: facility,outcome,round,price\n1,exit,3,0\n2,exit,1,0\n3,frozen,3,36\n; tests: 1.1 fits, 1.2 fits, 1.3 fits, 2.1 fits, 2.3 as before, 3.1 as before, 3.3 refuted by 0; channels of the map; tr.txt ends: end 7",
         ),
         // A station that starts on air goes on air in round 0.
         (
             "\"value\":70",
             "\"value\":101",
-            "status 0; said: stations 3\non-air 2\nfrozen 1\nundecided 0\ntotal 60\n; out.csv: facility,outcome,round,price\n1,exit,2,0\n2,start,0,0\n3,frozen,2,60\n; start: fits; tests: 1.1 fits, 1.3 fits, 2.1 as before, 2.3 refuted by 0",
+            "status 0; said: stations 3\non-air 2\nfrozen 1\nundecided 0\ntotal 60\n; out.csv: facility,outcome,round,price\n1,exit,2,0\n2,start,0,0\n3,frozen,2,60\n; start: fits; tests: 1.1 fits, 1.3 fits, 2.1 as before, 2.3 refuted by 0; channels of the map; tr.txt begins: transcript 2, start fit 1; tr.txt ends: end 4",
         ),
     ];
     assert_eq!(rt; first_untrue_part(rt.alloc(), &table)?, None);
@@ -110,16 +110,16 @@ fn other_stations_are_settled(rt: HostRuntime) -> Result<(), Fail> {
     let table = [
         (
             nobody,
-            "status 0; said: stations 0\non-air 0\nfrozen 0\nundecided 0\ntotal 0\n; out.csv: facility,outcome,round,price\n",
+            "status 0; said: stations 0\non-air 0\nfrozen 0\nundecided 0\ntotal 0\n; out.csv: facility,outcome,round,price\n; chan.csv: facility,channel\n; tr.txt: transcript 2\nstart empty\nend 0\n",
         ),
         // No channel is left below the top.
         (
             ONE,
-            "status 0; said: stations 1\non-air 0\nfrozen 1\nundecided 0\ntotal 100\n; out.csv: facility,outcome,round,price\n1,frozen,1,100\n",
+            "status 0; said: stations 1\non-air 0\nfrozen 1\nundecided 0\ntotal 100\n; out.csv: facility,outcome,round,price\n1,frozen,1,100\n; chan.csv: facility,channel\n; tr.txt: transcript 2\nstart empty\nnone 1 1\nend 1\n",
         ),
         (
             below,
-            "status 0; said: stations 1\non-air 1\nfrozen 0\nundecided 0\ntotal 0\n; out.csv: facility,outcome,round,price\n1,exit,1,0\n",
+            "status 0; said: stations 1\non-air 1\nfrozen 0\nundecided 0\ntotal 0\n; out.csv: facility,outcome,round,price\n1,exit,1,0\n; chan.csv: facility,channel\n1,14\n; tr.txt: transcript 2\nstart empty\nfit 1 1 1\nat 1 14\nend 1\n",
         ),
         (
             GREATEST,
@@ -127,7 +127,7 @@ fn other_stations_are_settled(rt: HostRuntime) -> Result<(), Fail> {
         ),
         (
             start_fits,
-            "status 0; said: stations 2\non-air 2\nfrozen 0\nundecided 0\ntotal 0\n; out.csv: facility,outcome,round,price\n1,start,0,0\n2,start,0,0\n; ending: done; map: 1 on 15, 2 on 14",
+            "status 0; said: stations 2\non-air 2\nfrozen 0\nundecided 0\ntotal 0\n; out.csv: facility,outcome,round,price\n1,start,0,0\n2,start,0,0\n; chan.csv: facility,channel\n1,15\n2,14\n; tr.txt: transcript 2\nstart fit 2\nat 1 15\nat 2 14\nend 0\n; ending: done; map: 1 on 15, 2 on 14",
         ),
     ];
     assert_eq!(rt; first_untrue(rt.alloc(), &table)?, None);

@@ -47,10 +47,26 @@ fn the_folder_or_the_sink_fails(rt: HostRuntime) -> Result<(), Fail> {
             Change::Call(7),
             "status 3; said: cannot read s.json\n; nothing stored; no record; faults: 1",
         ),
+        // Then each output is one store. The first that fails ends it.
         (
             COMMAND,
             Change::Call(8),
             "status 4; said: cannot write out.csv\n; nothing stored; a record; faults: 1",
+        ),
+        (
+            COMMAND,
+            Change::Call(9),
+            "status 4; said: cannot write chan.csv\n; out.csv: facility,outcome,round,price\n1,exit,2,0\n2,exit,1,0\n3,frozen,2,60\n; no chan.csv; no tr.txt; inputs kept; a record; faults: 1",
+        ),
+        (
+            COMMAND,
+            Change::Call(10),
+            "status 4; said: cannot write tr.txt\n; out.csv: facility,outcome,round,price\n1,exit,2,0\n2,exit,1,0\n3,frozen,2,60\n; channels of the map; no tr.txt; inputs kept; a record; faults: 1",
+        ),
+        (
+            COMMAND,
+            Change::Call(11),
+            "status 0; tr.txt ends: end 5; faults: 0",
         ),
         // Behind a line that is refused nothing is read.
         (
@@ -63,11 +79,11 @@ fn the_folder_or_the_sink_fails(rt: HostRuntime) -> Result<(), Fail> {
             Change::Missing("r.csv"),
             "status 3; said: cannot read r.csv\n; nothing stored",
         ),
-        // The result is stored before the summary is written.
+        // The outputs are stored before the summary is written.
         (
             COMMAND,
             Change::Write(1),
-            "status 4; nothing said; out.csv: facility,outcome,round,price\n1,exit,2,0\n2,exit,1,0\n3,frozen,2,60\n",
+            "status 4; nothing said; out.csv: facility,outcome,round,price\n1,exit,2,0\n2,exit,1,0\n3,frozen,2,60\n; channels of the map; tr.txt begins: transcript 2, start empty; tr.txt ends: end 5; a record",
         ),
         // The summary is one write, so a second one is never made.
         (
@@ -129,7 +145,7 @@ fn the_words_are_no_command(rt: HostRuntime) -> Result<(), Fail> {
         "repack run d.csv r.csv s.json out.csv chan.csv",
         "repack check d.csv r.csv s.json out.csv chan.csv tr.txt",
         "repack run d.csv r.csv s.json out.csv chan.csv tr.txt more",
-        "repack verify d.csv r.csv s.json tr.txt",
+        "repack verify d.csv r.csv s.json",
         "repack --help",
         "repack --version",
         "repack help check",

@@ -172,7 +172,47 @@ fn outputs_text(alloc: Global, folder: &MemoryFolder) -> Result<String, NoMemory
     let result = file_text(alloc, folder, "out.csv")?;
     let channels = file_text(alloc, folder, "chan.csv")?;
     let transcript = file_text(alloc, folder, "tr.txt")?;
-    format!(in alloc; "{result}; {channels}; {transcript}")
+    let ends = ends_text(alloc, folder.bytes("tr.txt").unwrap_or(b""))?;
+    format!(in alloc; "{result}; {channels}; {transcript}; {ends}")
+}
+
+// The first two lines of a transcript, and its last one. The lines between are the solvers' own.
+fn ends_text(alloc: Global, bytes: &[u8]) -> Result<String, NoMemory> {
+    let text = std::str::from_utf8(bytes).unwrap_or("");
+    let mut lines = text.lines();
+    let version = lines.next().unwrap_or("none");
+    let start = lines.next().unwrap_or("none");
+    let last = lines.last().unwrap_or("none");
+    format!(in alloc; "tr.txt begins: {version}, {start}; tr.txt ends: {last}")
+}
+
+// The text that the channels of a map should have.
+fn channels_of(alloc: Global, map: &[(u32, u8)]) -> Result<String, NoMemory> {
+    let mut text = String::from_str(alloc, "facility,channel\n")?;
+    for &(station, channel) in map {
+        let line = format!(in alloc; "{station},{channel}\n")?;
+        text.push_str(&line)?;
+    }
+    Ok(text)
+}
+
+// Whether the channels are those of the record's map.
+fn channels_fact(
+    alloc: Global,
+    folder: &MemoryFolder,
+    found: &Option<Record>,
+) -> Result<&'static str, NoMemory> {
+    let Some(bytes) = folder.bytes("chan.csv") else {
+        return Ok("no channels");
+    };
+    let Some(record) = found else {
+        return Ok("no record");
+    };
+    let text = channels_of(alloc, record.map.entries())?;
+    if bytes == text.as_bytes() {
+        return Ok("channels of the map");
+    }
+    Ok("other channels")
 }
 
 // What was said.
@@ -204,8 +244,9 @@ pub fn told(
 ) -> Result<String, NoMemory> {
     let status = finish.status;
     let outside = outside_text(alloc, folder, sink)?;
+    let channels = channels_fact(alloc, folder, &finish.result)?;
     let found = found_text(alloc, &finish.result)?;
-    format!(in alloc; "status {status}; {outside}; {found}")
+    format!(in alloc; "status {status}; {outside}; {channels}; {found}")
 }
 
 /// How many faults the folder has counted.

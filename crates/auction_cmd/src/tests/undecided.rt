@@ -23,7 +23,7 @@ fn workers_are_asked_in_turn(rt: HostRuntime) -> Result<(), Fail> {
     let table = [
         (
             "{\"kind\":\"cdcl\",\"budget\":1}",
-            "status 1; said: stations 3\non-air 2\nfrozen 1\nundecided 1\ntotal 60\n; out.csv: facility,outcome,round,price\n1,exit,2,0\n2,exit,1,0\n3,undecided,2,60\n; tests: 1.1 fits, 1.2 fits, 1.3 fits, 2.1 fits, 2.3 open after 1 line",
+            "status 1; said: stations 3\non-air 2\nfrozen 1\nundecided 1\ntotal 60\n; out.csv: facility,outcome,round,price\n1,exit,2,0\n2,exit,1,0\n3,undecided,2,60\n; channels of the map; tr.txt ends: end 5; tests: 1.1 fits, 1.2 fits, 1.3 fits, 2.1 fits, 2.3 open after 1 line",
         ),
         (
             "{\"kind\":\"cdcl\",\"budget\":1},{\"kind\":\"cdcl\",\"budget\":1}",

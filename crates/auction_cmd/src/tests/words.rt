@@ -45,6 +45,16 @@ fn order_text(alloc: Global, order: Order<'_>) -> Result<String, NoMemory> {
             let names = [files.domains, files.rows, files.scenario];
             joined(alloc, "order check", &names)
         }
+        Order::Verify(files) => {
+            let inputs = files.inputs;
+            let names = [
+                inputs.domains,
+                inputs.rows,
+                inputs.scenario,
+                files.transcript,
+            ];
+            joined(alloc, "order verify", &names)
+        }
     }
 }
 

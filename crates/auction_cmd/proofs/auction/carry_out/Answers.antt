@@ -1,8 +1,8 @@
 -- The plan that the words are, and how it ends.
-use Rattle.std.proofs.Common.{◌≡◌, refl}
-use Rattle.auction_cmd.specs.Ends.Ends.{Usage, Repeated, Ran, Checked}
-use Rattle.auction_cmd.specs.Words.{inputs_seen, names_seen}
-use Rattle.auction_cmd.proofs.PlanLemmas.{plan-none, plan-checks, plan-repeats, plan-runs}
+use Rattle.std.proofs.Common.{◌≡◌, refl, sym}
+use Rattle.auction_cmd.specs.Ends.Ends.{Usage, Repeated, Ran, Checked, Verified}
+use Rattle.auction_cmd.specs.Words.{inputs_seen, names_seen, verify_seen}
+use Rattle.auction_cmd.proofs.PlanLemmas.{plan-none, plan-checks, plan-repeats, plan-runs, plan-verifies}
 use Rattle.auction_cmd.proofs.auction.carry_out.Goals as goal
 
 pub returns-in-Some : goal.returns-in-Some
@@ -12,11 +12,15 @@ returns-in-Some g c =
 
 pub returns-in-None : goal.returns-in-None
 returns-in-None g c =
-    Ran (names_seen c.in-Ok-Run.files) (plan-runs _ (names_seen c.in-Ok-Run.files) (rw c.in-Ok-Run.field-0-is at c.in-Ok-Run.ensures.order) c.in-None.ensures) c.run.ensures
+    Ran (names_seen c.in-Ok-Run.files) (plan-runs _ (names_seen c.in-Ok-Run.files) (rw c.in-Ok-Run.field-0-is at c.in-Ok-Run.ensures.order) c.in-None.ensures) (sym c.in-None.ensures) c.run.ensures
 
 pub returns-in-Ok-Check : goal.returns-in-Ok-Check
 returns-in-Ok-Check g c =
     Checked (inputs_seen c.in-Ok-Check.files) (plan-checks _ (inputs_seen c.in-Ok-Check.files) (rw c.in-Ok-Check.field-0-is at c.in-Ok-Check.ensures.order)) c.check.ensures
+
+pub returns-in-Ok-Verify : goal.returns-in-Ok-Verify
+returns-in-Ok-Verify g c =
+    Verified (verify_seen c.in-Ok-Verify.files) (plan-verifies _ (verify_seen c.in-Ok-Verify.files) (rw c.in-Ok-Verify.field-0-is at c.in-Ok-Verify.ensures.order)) c.verify.ensures
 
 pub returns-in-Err-Refused : goal.returns-in-Err-Refused
 returns-in-Err-Refused g c =

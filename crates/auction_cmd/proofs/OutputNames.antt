@@ -1,0 +1,55 @@
+-- Where no output name is given twice, the three texts of a run have names of their own.
+use Rattle.std.proofs.Common.{◌≡◌, ◌≢◌, ◌<◌, ◌≤◌, ◌+◌, ◌∙◌, ℕ, Bool, true, false, cond, inl, inr, List, [], ◌∷◌, ◌++◌, count_by, refl, sym, ap, arith, Option, Some, None, subst}
+use Rattle.std.specs.Prelude.{Contains, find}
+use Rattle.std.specs.Str.{bytes_eq}
+use Rattle.std.proofs.lemmas.Bool.{cond-true, false≢true, lt-ltb}
+use Rattle.std.proofs.lemmas.List.Elements.{All-cons, All-nil}
+use Rattle.std.proofs.lemmas.List.Sums.{sum_by-append, sum_by-cons}
+use Rattle.std.proofs.lemmas.Slice.Eq.{bytes_eq-Decides}
+use Rattle.auction_core.proofs.Finds.{find_cases}
+use Rattle.pack_defs.proofs.Members.{Contains-here, Contains-there, list_any-from}
+use Rattle.auction_cmd.specs.Words.{RunNames, is_repeated_in, names_given, output_names, repeated_output}
+use Rattle.auction_cmd.specs.Ends.{output_texts}
+use Rattle.auction_cmd.proofs.DeliveryLemmas.{AreApart}
+
+-- what a search doesn't find doesn't pass
+not-found : (p : List ℕ → Bool) (xs : List (List ℕ)) (x : List ℕ) → find p xs ≡ None → Contains xs x → p x ≡ true → ⊥
+not-found p xs x none here passes = elim (find_cases p xs) [
+  | inl absent ↦ false≢true (sym absent.1 ∙ list_any-from p xs x here passes)
+  | inr found ↦ cc (sym none ∙ found.1)
+]
+
+-- two that pass are counted
+two-pass : (p : List ℕ → Bool) (xs ys zs : List (List ℕ)) (a b : List ℕ) → p a ≡ true → p b ≡ true → 1 < count_by p (xs ++ a ∷ (ys ++ b ∷ zs))
+two-pass p xs ys zs a b first second =
+    let f : List ℕ → ℕ = λ x. cond (p x) 1 0 in
+    let one : f a ≡ 1 = cond-true (p a) 1 0 first in
+    let other : f b ≡ 1 = cond-true (p b) 1 0 second in
+    omega (arith, sum_by-append f xs (a ∷ (ys ++ b ∷ zs)), sum_by-cons f a (ys ++ b ∷ zs), sum_by-append f ys (b ∷ zs), sum_by-cons f b zs, one, other)
+
+own : (name : List ℕ) → bytes_eq name name ≡ true
+own name = (bytes_eq-Decides name name).1 refl
+
+-- a name that stands at two places is given twice
+given-twice : (names : RunNames) (xs ys zs : List (List ℕ)) (a b : List ℕ) → xs ++ a ∷ (ys ++ b ∷ zs) ≡ names_given names → a ≡ b → is_repeated_in a names ≡ true
+given-twice names xs ys zs a b whole same =
+    lt-ltb 1 (count_by (bytes_eq a) (names_given names))
+    (subst (λ given. 1 < count_by (bytes_eq a) given) whole (two-pass (bytes_eq a) xs ys zs a b (own a) ((bytes_eq-Decides a b).1 same)))
+
+pub own-names : (names : RunNames) (result channels transcript : List ℕ) → repeated_output names ≡ None → AreApart (output_texts names result channels transcript)
+unfolding repeated_output
+own-names names result channels transcript once =
+    let twice : List ℕ → Bool = λ name. is_repeated_in name names in
+    let inputs = names.inputs in
+    let first : names.result ≢ names.channels = λ same. not-found twice (output_names names) names.result once (Contains-here names.result (names.channels ∷ names.transcript ∷ []))
+    (given-twice names (inputs.domains ∷ inputs.rows ∷ inputs.scenario ∷ []) [] (names.transcript ∷ []) names.result names.channels refl same) in
+    let last : names.result ≢ names.transcript = λ same. not-found twice (output_names names) names.result once (Contains-here names.result (names.channels ∷ names.transcript ∷ []))
+    (given-twice names (inputs.domains ∷ inputs.rows ∷ inputs.scenario ∷ []) (names.channels ∷ []) [] names.result names.transcript refl same) in
+    let behind : names.channels ≢ names.transcript = λ same. not-found twice (output_names names) names.channels once (Contains-there names.result names.channels (names.channels ∷ names.transcript ∷ []) (Contains-here names.channels (names.transcript ∷ [])))
+    (given-twice names (inputs.domains ∷ inputs.rows ∷ inputs.scenario ∷ names.result ∷ []) [] [] names.channels names.transcript refl same) in (
+      All-cons (λ name. names.result ≢ name) names.channels (names.transcript ∷ []) first (All-cons (λ name. names.result ≢ name) names.transcript [] last (All-nil (λ name. names.result ≢ name))),
+      (
+        All-cons (λ name. names.channels ≢ name) names.transcript [] behind (All-nil (λ name. names.channels ≢ name)),
+        (All-nil (λ name. names.transcript ≢ name), tt),
+      ),
+    )

@@ -1,0 +1,56 @@
+-- What the steps of `verify` answer: the loading of the transcript, and its check.
+use Rattle.std.specs.Prelude.{◌≡◌, ◌<◌, ◌≤◌, ℕ, Bool, true, List, length, Option, Some, None, Result, Ok, Err, ⊤}
+use Rattle.outside_io.specs.Faults.{HasRisen}
+use Rattle.outside_io.specs.Files.{StoredFile, bytes_of}
+use Rattle.outside_io.specs.declared.folder.LoadErr.{LoadErr}
+use Rattle.outside_io.specs.declared.folder.LoadErr.TheVariants.{Failed, TooLong, NoMemory as NoLoad}
+use Rattle.auction_core.specs.declared.record.Record.{Record}
+use Rattle.transcript_text.specs.declared.error.TextErr.{TextErr}
+use Rattle.transcript_text.specs.declared.error.TextErr.TheVariants.{Version, BadLine, Truncated, NoMemory as NoRoom}
+use Rattle.auction_cmd.specs.declared.fault.TranscriptFault.{TranscriptFault}
+use Rattle.auction_cmd.specs.declared.fault.TranscriptFault.TheVariants.{Unread}
+use Rattle.auction_cmd.specs.declared.inputs.Inputs.{Inputs}
+use Rattle.auction_cmd.specs.declared.verify.Denied.{Denied}
+use Rattle.auction_cmd.specs.declared.verify.Denied.TheVariants.{Fault, NoMemory}
+use Rattle.auction_cmd.specs.Inputs.{file_limit}
+use Rattle.auction_cmd.specs.Records.{IsRecordIn}
+use Rattle.auction_cmd.specs.Says.{Says, long_line, memory_line, unread_line}
+use Rattle.auction_cmd.specs.Verified.{fault_line}
+
+-- The bytes of this name's file, seen so, are those that the folder tells, and no more than a file may have; or the file
+-- can't be read, which for a steady folder says that it isn't there; or it is too long. Memory may run out.
+abbrev pub IsLoaded : {A : Type 0} → (A → List ℕ) → Option (List StoredFile) → Bool → ℕ → ℕ → List ℕ → Result A LoadErr → Type 0
+IsLoaded seen told steady before now name (Ok x) =
+    (files : List StoredFile) → told ≡ Some files → (bytes_of files name ≡ Some (seen x)) × (length (seen x) ≤ file_limit)
+IsLoaded seen told steady before now name (Err Failed) =
+    HasRisen before now × ((files : List StoredFile) → told ≡ Some files → steady ≡ true → bytes_of files name ≡ None)
+IsLoaded seen told steady before now name (Err TooLong) =
+    (files : List StoredFile) → told ≡ Some files →
+    (bytes : List ℕ) × (bytes_of files name ≡ Some bytes) × (file_limit < length bytes)
+IsLoaded seen told steady before now name (Err NoLoad) = ⊤
+
+-- the status and the line of a transcript that was not loaded
+abbrev pub ExplainsLoad : List ℕ → LoadErr → Option (List ℕ) → Option (List ℕ) → ℕ → ℕ → ℕ → Type 0
+ExplainsLoad name Failed held held' cuts cuts' status = (status ≡ 3) × Says held held' cuts cuts' (unread_line name)
+ExplainsLoad name TooLong held held' cuts cuts' status = (status ≡ 5) × Says held held' cuts cuts' (long_line name)
+ExplainsLoad name NoLoad held held' cuts cuts' status = (status ≡ 8) × Says held held' cuts cuts' memory_line
+
+-- why there is no record of a text that was not read so
+abbrev pub not_read : TextErr → Denied
+not_read Version = Fault (Unread Version)
+not_read (BadLine n) = Fault (Unread (BadLine n))
+not_read Truncated = Fault (Unread Truncated)
+not_read NoRoom = NoMemory
+
+-- the status and the line of a transcript of which there is no record
+abbrev pub ExplainsDenied : List ℕ → Denied → Option (List ℕ) → Option (List ℕ) → ℕ → ℕ → ℕ → Type 0
+ExplainsDenied name (Fault fault) held held' cuts cuts' status =
+    (status ≡ 9) × Says held held' cuts cuts' (fault_line name fault)
+ExplainsDenied name NoMemory held held' cuts cuts' status = (status ≡ 8) × Says held held' cuts cuts' memory_line
+
+-- The answer is what the definitions make of the transcript: the record that it shows, which is that of the auction of the
+-- inputs; or its first fault. Memory may run out.
+abbrev pub IsVerdict : Inputs → Result Record TranscriptFault → Result Record Denied → Type 0
+IsVerdict inputs wanted (Ok rec) = (wanted ≡ Ok rec) × IsRecordIn rec.order inputs rec
+IsVerdict inputs wanted (Err (Fault fault)) = wanted ≡ Err fault
+IsVerdict inputs wanted (Err NoMemory) = ⊤

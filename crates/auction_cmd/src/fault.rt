@@ -1,0 +1,68 @@
+//! Why a transcript is refused, and the line that says so.
+
+ghost use Rattle.std.specs.Prelude.{◌≡◌, ◌≤◌, ◌++◌, decimal};
+ghost use Rattle.auction_cmd.specs.Says.{Says};
+ghost use Rattle.auction_cmd.specs.Verified.{fault_line, unread_text, why_text};
+
+use crate::says::say;
+use itoa::Buffer;
+use outside_io::sink::Sink;
+use transcript_check::ShownWhy;
+use transcript_text::TextErr;
+
+/// Why a transcript is refused.
+#[derive(Clone, Copy, Debug, PartialEq, Eq)]
+pub enum TranscriptFault {
+    /// Its text is none of a transcript.
+    Unread(TextErr),
+    /// A step of it is not shown: the first one, where the start is step 0.
+    Unshown { step: u64, why: ShownWhy },
+}
+
+// Says of the file of this name what is wrong with it at this place.
+fn say_at<'p, K: Sink>(out: &mut K, name: &'p str, what: &'p str, at: u64, why: &'p str)
+    ensures says { Says (K.held out.old) (K.held out.new) (K.faults out.old) (K.faults out.new)
+        (name.now ++ (what.now ++ (decimal at ++ why.now))) }
+    ensures counted { K.faults out.old ≤ K.faults out.new }
+{
+    let mut place = Buffer::new();
+    say(out, &[name, what, place.format(at), why]);
+}
+
+// Why a step is not shown, and the line's end.
+#[tactic(auto, unfolding(crate::specs::Verified::why_text))]
+fn why_text(why: ShownWhy) -> &'static str
+    ensures { result.now ≡ why_text why }
+{
+    match why {
+        ShownWhy::Order => ": order\n",
+        ShownWhy::NotValid(_) => ": not valid\n",
+    }
+}
+
+// Says why the text of this name is none of a transcript.
+#[tactic(auto, unfolding(crate::specs::Verified::unread_text))]
+fn say_unread<K: Sink>(out: &mut K, name: &str, why: TextErr)
+    ensures says { Says (K.held out.old) (K.held out.new) (K.faults out.old) (K.faults out.new)
+        (name.now ++ unread_text why) }
+    ensures counted { K.faults out.old ≤ K.faults out.new }
+{
+    match why {
+        TextErr::Version => say(out, &[name, ": version\n"]),
+        TextErr::BadLine { n } => say_at(out, name, ": line ", n, ": bad line\n"),
+        TextErr::Truncated => say(out, &[name, ": truncated\n"]),
+        TextErr::NoMemory => say(out, &[name, ": out of memory\n"]),
+    }
+}
+
+/// Says why the transcript of this name is refused. It takes no memory.
+#[tactic(auto, unfolding(crate::specs::Verified::fault_text))]
+pub fn say_fault<K: Sink>(out: &mut K, name: &str, fault: TranscriptFault)
+    ensures says { Says (K.held out.old) (K.held out.new) (K.faults out.old) (K.faults out.new) (fault_line name.now fault) }
+    ensures counted { K.faults out.old ≤ K.faults out.new }
+{
+    match fault {
+        TranscriptFault::Unread(why) => say_unread(out, name, why),
+        TranscriptFault::Unshown { step, why } => say_at(out, name, ": step ", step, why_text(why)),
+    }
+}

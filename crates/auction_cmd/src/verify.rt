@@ -1,0 +1,186 @@
+//! The command `verify`: a transcript is checked step by step, and the result that it shows is printed.
+
+ghost use Rattle.std.specs.Prelude.{◌≡◌, ◌≤◌, IfOk, Ok};
+ghost use Rattle.pack_defs.specs.Scenario.{IsWithinLimits};
+ghost use Rattle.auction_core.specs.Backed.{undecided_of};
+ghost use Rattle.auction_core.specs.Setup.{IsOfAuction};
+ghost use Rattle.transcript_text.specs.Reading.{transcript_of};
+ghost use Rattle.transcript_text.specs.Steps.{Gives};
+ghost use Rattle.auction_cmd.specs.Ends.{VerifyEnds};
+ghost use Rattle.auction_cmd.specs.Outside.{outside};
+ghost use Rattle.auction_cmd.specs.Records.{IsRecordIn, result_of};
+ghost use Rattle.auction_cmd.specs.Transcripts.{ExplainsDenied, ExplainsLoad, IsLoaded, IsVerdict, not_read};
+ghost use Rattle.auction_cmd.specs.Verified.{record_by, verified};
+ghost use Rattle.auction_cmd.specs.Words.{verify_seen};
+
+use crate::explain::{explain, say_memory, starve};
+use crate::fault::{TranscriptFault, say_fault};
+use crate::finish::Finish;
+use crate::inputs::{FILE_LIMIT, Inputs, read_inputs};
+use crate::run::done_status;
+use crate::says::say;
+use crate::words::VerifyArgs;
+use auction_core::record::Record;
+use outside_io::folder::{Folder, LoadErr};
+use outside_io::sink::Sink;
+use result_text::rows::result_csv;
+use std::alloc::{AllocError as NoMemory, Global};
+use transcript_check::VerifyErr;
+use transcript_check::verify::verify as check_transcript;
+use transcript_text::TextErr;
+use transcript_text::again::is_named;
+use transcript_text::read::read_transcript;
+use transcript_text::transcript::Transcript;
+
+// Why there is no record of a transcript.
+pub enum Denied {
+    // The transcript is at fault.
+    Fault(TranscriptFault),
+    // Memory ran out.
+    NoMemory,
+}
+
+// The bytes of the transcript of this name.
+fn load_text<F: Folder>(alloc: Global, folder: &mut F, name: &str) -> Result<Vec<u8>, LoadErr>
+    ensures loaded { IsLoaded (λ v. v.items) (F.files folder.old) (F.steady folder.old) (F.faults folder.old) (F.faults folder.new) name.now result }
+    ensures files { F.files folder.new ≡ F.files folder.old }
+    ensures counted { F.faults folder.old ≤ F.faults folder.new }
+{
+    let mut bytes = Vec::new(alloc);
+    match folder.load(name, FILE_LIMIT, &mut bytes) {
+        Ok(()) => Ok(bytes),
+        Err(why) => Err(why),
+    }
+}
+
+// Says why the transcript of this name was not loaded. It gives the status.
+fn say_unloaded<K: Sink>(out: &mut K, name: &str, why: LoadErr) -> u8
+    ensures { ExplainsLoad name.now why (K.held out.old) (K.held out.new) (K.faults out.old) (K.faults out.new) result }
+{
+    match why {
+        LoadErr::Failed => {
+            say(out, &["cannot read ", name, "\n"]);
+            3
+        }
+        LoadErr::TooLong => {
+            say(out, &[name, ": too long\n"]);
+            5
+        }
+        LoadErr::NoMemory => {
+            say_memory(out);
+            8
+        }
+    }
+}
+
+// The transcript that these bytes are. They go with the call.
+fn transcript_from(alloc: Global, inputs: &Inputs, text: Vec<u8>) -> Result<Transcript, TextErr>
+    requires { IsWithinLimits inputs.now.scenario }
+    ensures { Gives (λ t. t) (transcript_of inputs.now.scenario inputs.now.book text.items) result }
+{
+    match read_transcript(alloc, &text, &inputs.scenario, &inputs.book) {
+        Ok(transcript) => Ok(transcript),
+        Err(why) => Err(why),
+    }
+}
+
+// The record that a transcript shows.
+fn record_from(alloc: Global, inputs: &Inputs, transcript: Transcript) -> Result<Record, Denied>
+    requires { IsOfAuction inputs.now.scenario inputs.now.book }
+    ensures { IsVerdict inputs.now (record_by inputs.now (Ok transcript)) result }
+{
+    // With its length a book says that it is in order.
+    let _stations = inputs.book.len();
+    match check_transcript(alloc, &inputs.book, &inputs.scenario, transcript) {
+        Ok(record) => Ok(record),
+        Err(VerifyErr::NotShown { step, why }) => {
+            Err(Denied::Fault(TranscriptFault::Unshown { step, why }))
+        }
+        Err(VerifyErr::NoMemory) => Err(Denied::NoMemory),
+    }
+}
+
+// Why there is no record of a text that was not read so.
+fn not_read(why: TextErr) -> Denied
+    ensures { result ≡ not_read why }
+{
+    match why {
+        TextErr::Version => Denied::Fault(TranscriptFault::Unread(TextErr::Version)),
+        TextErr::BadLine { n } => Denied::Fault(TranscriptFault::Unread(TextErr::BadLine { n })),
+        TextErr::Truncated => Denied::Fault(TranscriptFault::Unread(TextErr::Truncated)),
+        TextErr::NoMemory => Denied::NoMemory,
+    }
+}
+
+// The record that the text of a transcript shows. It touches nothing outside.
+fn record_of(alloc: Global, inputs: &Inputs, text: Vec<u8>) -> Result<Record, Denied>
+    requires { IsOfAuction inputs.now.scenario inputs.now.book }
+    ensures { IsVerdict inputs.now (verified inputs.now text.items) result }
+{
+    match transcript_from(alloc, inputs, text) {
+        Ok(transcript) => record_from(alloc, inputs, transcript),
+        Err(why) => Err(not_read(why)),
+    }
+}
+
+// Says why there is no record of the transcript of this name. It gives the status.
+fn say_denied<K: Sink>(out: &mut K, name: &str, why: Denied) -> u8
+    ensures { ExplainsDenied name.now why (K.held out.old) (K.held out.new) (K.faults out.old) (K.faults out.new) result }
+{
+    match why {
+        Denied::Fault(fault) => {
+            say_fault(out, name, fault);
+            9
+        }
+        Denied::NoMemory => {
+            say_memory(out);
+            8
+        }
+    }
+}
+
+// The text of the record's result.
+fn result_text(alloc: Global, inputs: &Inputs, rec: &Record) -> Result<Vec<u8>, NoMemory>
+    requires limits { IsWithinLimits inputs.now.scenario }
+    requires of { IsRecordIn rec.now.order inputs.now rec.now }
+    ensures { IfOk result (λ text. text.items ≡ result_of rec.now.order inputs.now (undecided_of rec.now.steps)) }
+{
+    let text = result_csv(alloc, rec, &inputs.book)?;
+    Ok(text)
+}
+
+/// Reads the inputs and the transcript, checks each step of it, and prints the result of the record that it shows. It stores
+/// nothing.
+pub fn verify<F: Folder, K: Sink>(
+    alloc: Global,
+    files: &VerifyArgs<'_>,
+    folder: &mut F,
+    out: &mut K,
+) -> Finish
+    ensures { VerifyEnds (verify_seen files.now)
+        (outside (F.files folder.old) (F.faults folder.old) (F.steady folder.old) (K.held out.old) (K.faults out.old) (K.sure out.old))
+        (outside (F.files folder.new) (F.faults folder.new) (F.steady folder.new) (K.held out.new) (K.faults out.new) (K.sure out.new))
+        result.status result.result }
+{
+    let inputs = match read_inputs(alloc, folder, &files.inputs) {
+        Ok(inputs) => inputs,
+        Err(stop) => return Finish::without_record(explain(out, &files.inputs, stop)),
+    };
+    let text = match load_text(alloc, folder, files.transcript) {
+        Ok(text) => text,
+        Err(why) => return Finish::without_record(say_unloaded(out, files.transcript, why)),
+    };
+    is_named(&inputs.scenario, &inputs.book);
+    let record = match record_of(alloc, &inputs, text) {
+        Ok(record) => record,
+        Err(why) => return Finish::without_record(say_denied(out, files.transcript, why)),
+    };
+    let Ok(result) = result_text(alloc, &inputs, &record) else {
+        return starve(out);
+    };
+    let done = done_status(&record);
+    match out.write(&result) {
+        Ok(()) => Finish::with_record(done, record),
+        Err(_) => Finish::with_record(4, record),
+    }
+}
