@@ -1,6 +1,6 @@
 //! What `verify` tells of a transcript a step of which is at fault, and of tests that were left open.
 
-use super::scene::{Scene, first_untrue, replaced};
+use super::scene::{Scene, leaves, replaced};
 use super::verified::{CHECKED, first_untrue_text};
 use super::{LAST_STEP, ONE_LINE, TRANSCRIPT};
 use std::alloc::{AllocError as NoMemory, Global};
@@ -83,15 +83,26 @@ fn the_step_at_fault_is_named(rt: HostRuntime) -> Result<(), Fail> {
     Ok(())
 }
 
+// Whether the check of this transcript, by these workers, leaves what these facts say.
+fn leaves_by<'a>(
+    alloc: Global,
+    scene: &Scene<'a>,
+    workers: &'a str,
+    text: &'a str,
+    facts: &str,
+) -> Result<bool, NoMemory> {
+    let changed = Scene {
+        workers,
+        transcript: Some(text),
+        ..*scene
+    };
+    leaves(alloc, &changed, facts)
+}
+
 // Whether the check of the transcript with another last step, by these workers, leaves what these facts say.
 fn leaves_last(alloc: Global, workers: &str, last: &str, facts: &str) -> Result<bool, NoMemory> {
     let text = replaced(alloc, TRANSCRIPT, LAST_STEP, last)?;
-    let scene = Scene {
-        workers,
-        transcript: Some(&text),
-        ..CHECKED
-    };
-    Ok(first_untrue(alloc, &[(scene, facts)])?.is_none())
+    leaves_by(alloc, &CHECKED, workers, &text, facts)
 }
 
 // The last step of the first row whose facts aren't so.
