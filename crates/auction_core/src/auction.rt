@@ -1,5 +1,6 @@
 //! An auction: what each posting of a worker does, whoever posts it and when.
 
+ghost use Rattle.std.specs.Arc.{arc_value};
 ghost use Rattle.std.specs.Prelude.{◌≡◌, ◌≤◌, ◌+◌, ◌++◌, ◌∷◌, [], IfOk, MatchOption, OnOk, Some, ⊤, length, option_and_then, option_map, true};
 ghost use Rattle.cert_types.specs.Certificate.{IsTaskOf};
 ghost use Rattle.cert_types.specs.Query.{IsQuery};
@@ -29,6 +30,7 @@ use pack_defs::worker::Worker;
 use std::alloc::{AllocError as NoMemory, Global};
 use std::marker::Model;
 use std::snapshot::Snapshot;
+use std::sync::Arc;
 
 /// An auction between two postings. It keeps what each posting was told, and keeps the clock rule whatever is posted.
 #[derive(Drop)]
@@ -105,6 +107,13 @@ impl Auction {
         ensures { result.now ≡ self.now.book }
     {
         self.clockwork.book()
+    }
+
+    /// The book, with one owner more. No copy is made of it. The only error is that it has too many owners.
+    pub fn shared_book(&self) -> Result<Arc<Book>, NoMemory>
+        ensures { IfOk result (λ book. arc_value book ≡ self.now.book) }
+    {
+        self.clockwork.shared_book()
     }
 
     /// The workers of the scenario: one to sixteen.

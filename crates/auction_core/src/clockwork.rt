@@ -1,5 +1,6 @@
 //! An auction between two queries, whoever answers them.
 
+ghost use Rattle.std.specs.Arc.{arc_value};
 ghost use Rattle.std.specs.Prelude.{◌≡◌, ◌≢◌, ℕ, None, Some, IfOk, OnOk, false, true};
 ghost use Rattle.auction_core.specs.Backed.{IsBacked, record_of};
 ghost use Rattle.auction_core.specs.Course.{IsAtRest, IsCourse, core_state};
@@ -21,6 +22,7 @@ use pack_defs::scenario::Scenario;
 use pack_defs::worker::Worker;
 use std::alloc::{AllocError as NoMemory, Global};
 use std::marker::Model;
+use std::sync::Arc;
 
 /// An auction between two queries. It keeps the clock rule, whatever settles its queries.
 #[derive(Debug, Drop)]
@@ -74,6 +76,13 @@ impl Clockwork {
         ensures { result.now ≡ self.now.book }
     {
         self.setup.book()
+    }
+
+    /// The book, with one owner more. No copy is made of it. The only error is that it has too many owners.
+    pub fn shared_book(&self) -> Result<Arc<Book>, NoMemory>
+        ensures { IfOk result (λ book. arc_value book ≡ self.now.book) }
+    {
+        self.setup.shared_book()
     }
 
     /// The workers of the scenario.

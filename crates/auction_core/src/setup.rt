@@ -1,5 +1,6 @@
 //! What stands while an auction runs.
 
+ghost use Rattle.std.specs.Arc.{arc_value};
 ghost use Rattle.std.specs.Prelude.{◌≡◌, ◌<◌, ◌≤◌, IfOk, length, slice_index};
 ghost use Rattle.pack_defs.specs.ClockRule.{turns};
 ghost use Rattle.pack_defs.specs.Prices.{last_round, prices};
@@ -13,12 +14,14 @@ use pack_defs::order::Order;
 use pack_defs::scenario::Scenario;
 use std::alloc::{AllocError as NoMemory, Global};
 use std::marker::Model;
+use std::sync::Arc;
 
 /// The scenario and the book of an auction, its prices, and the order in which a round tests the stations.
 #[derive(Debug, Drop)]
 pub struct Setup {
     scenario: Scenario,
-    book: Book,
+    // Shared, so that an answer can be judged by the book while another thread has the auction.
+    book: Arc<Book>,
     order: Order,
     // The price of each round, in cents, from round 0 on.
     schedule: Vec<u32>,
@@ -27,13 +30,14 @@ pub struct Setup {
 }
 
 impl Model for Setup {
+    ghost use Rattle.std.specs.Arc.{arc_value};
     ghost use Rattle.auction_core.specs.Setup.{IsSetup, SetupView};
 
     ghost Value = { SetupView };
 
-    ghost view = { λ s. record { scenario = s.scenario; book = s.book; order = s.order } };
+    ghost view = { λ s. record { scenario = s.scenario; book = arc_value s.book; order = s.order } };
 
-    ghost invariant = { λ s. IsSetup (record { scenario = s.scenario; book = s.book; order = s.order }) s.schedule.items s.places.items };
+    ghost invariant = { λ s. IsSetup (record { scenario = s.scenario; book = arc_value s.book; order = s.order }) s.schedule.items s.places.items };
 }
 
 impl Setup {
@@ -45,7 +49,7 @@ impl Setup {
     {
         Ok(Setup {
             scenario: sc.copy(alloc)?,
-            book: book.copy(alloc)?,
+            book: Arc::new(alloc, book.copy(alloc)?)?,
             order,
             schedule: schedule(alloc, sc)?,
             places: places(alloc, sc, order)?,
@@ -65,6 +69,13 @@ impl Setup {
         ensures { result.now ≡ self.now.book }
     {
         &self.book
+    }
+
+    /// The book, with one owner more. No copy is made of it. The only error is that it has too many owners.
+    pub fn shared_book(&self) -> Result<Arc<Book>, NoMemory>
+        ensures { IfOk result (λ book. arc_value book ≡ self.now.book) }
+    {
+        Arc::try_clone(&self.book)
     }
 
     /// The order in which a round tests the stations.
