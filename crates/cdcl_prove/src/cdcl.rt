@@ -12,6 +12,7 @@ use crate::guide::Guide;
 use crate::part::around;
 use crate::search::Search;
 use crate::solve::{Outcome, solve};
+use crate::ties::Ties;
 use cert_types::poll::{Attempt, Poll};
 use cert_types::task::Task;
 use cnf_encode::encode::encode;
@@ -40,7 +41,8 @@ impl Model for Cdcl {
 }
 
 impl Cdcl {
-    /// The solver of a worker that learns, which spends the worker's budget in lines. The only error is want of memory.
+    /// The solver of a worker that learns, which spends the worker's budget in lines, and by the worker's seed breaks the ties
+    /// of the order in which variables are decided. The only error is want of memory.
     pub fn new(_alloc: Global, worker: &Worker) -> Result<Cdcl, NoMemory>
         requires { worker.now.kind ≡ Kind.Cdcl }
         ensures { IfOk result (λ solver. solver ≡ worker.now) }
@@ -50,8 +52,14 @@ impl Cdcl {
 
     /// Tries to answer a query. What it says is valid for the book, the query and its worker: the channels that make the
     /// last map one of the set; a proof that the set does not fit, of at most the worker's budget of lines; or, where so
-    /// many lines are learnt, a receipt of them. Where the poll answers that another query stands, it stops. Each attempt
-    /// begins anew, so that it can be called again whatever it answered.
+    /// many lines are learnt, a receipt of them. Where the poll answers that another query stands, it stops. It searches at
+    /// most twice, and in each search the poll is asked before the first line, and then after each 16. Each attempt begins
+    /// anew, so that it can be called again whatever it answered.
+    ///
+    /// The seed decides which of two variables comes first that are equally active. With seed 0 nothing is left to chance:
+    /// that is their places in a heap, which begins in the variables' order. Any other seed gives each variable an activity
+    /// by chance, in the stream of the query's number, that is below what a preference or a conflict adds. So an attempt at
+    /// the same query learns the same lines each time.
     ///
     /// # Errors
     ///
@@ -110,7 +118,7 @@ fn attempt_within<P: Poll>(
     ensures said { IfOk result (λ r. IfSome r (λ attempt. AttemptIs book.now task.now worker (P.last poll.new) attempt)) }
     ensures goes { P.goes poll.old poll.new }
 {
-    let mut search = begin(alloc, book, task, part)?;
+    let mut search = begin(alloc, book, task, part, worker.seed)?;
     let outcome = solve(alloc, &mut search, worker.budget / 100, task.number, poll)?;
     match outcome {
         Outcome::Model | Outcome::Spent => Ok(None),
@@ -135,7 +143,7 @@ fn attempt_whole<P: Poll>(
     ensures said { IfOk result (λ attempt. AttemptIs book.now task.now worker (P.last poll.new) attempt) }
     ensures goes { P.goes poll.old poll.new }
 {
-    let mut search = begin(alloc, book, task, task.set.as_slice())?;
+    let mut search = begin(alloc, book, task, task.set.as_slice(), worker.seed)?;
     let outcome = solve(alloc, &mut search, worker.budget, task.number, poll)?;
     match outcome {
         Outcome::Model => {
@@ -152,14 +160,21 @@ fn attempt_whole<P: Poll>(
     }
 }
 
-// A search over the packing formula of a set, guided by the query's last map.
-fn begin(alloc: Global, book: &Book, task: &Task, set: &[u32]) -> Result<Search, NoMemory>
+// A search over the packing formula of a set, guided by the query's last map and this seed.
+fn begin(
+    alloc: Global,
+    book: &Book,
+    task: &Task,
+    set: &[u32],
+    seed: u64,
+) -> Result<Search, NoMemory>
     requires { IsTrue (is_ascending set.now) }
     ensures formula { IfOk result (λ search. IsFormulaOf book.now set.now search.derivation.formula) }
     ensures empty { IfOk result (λ search. length search.derivation.lines ≡ 0) }
 {
     let formula = encode(alloc, book, set)?;
-    let guide = guide_by(alloc, book, task, set, formula.vars())?;
+    let ties = Ties::new(seed, task.number);
+    let guide = guide_by(alloc, book, task, set, formula.vars(), ties)?;
     Search::new(alloc, formula, guide)
 }
 
@@ -170,8 +185,9 @@ fn guide_by(
     task: &Task,
     set: &[u32],
     vars: u32,
+    ties: Ties,
 ) -> Result<Guide, NoMemory> {
-    let mut guide = Guide::new(alloc, vars)?;
+    let mut guide = Guide::new(alloc, vars, ties)?;
     let mut var: u32 = 0;
     for s in set {
         let last = task.last.get(*s);

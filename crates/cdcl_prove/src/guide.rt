@@ -5,6 +5,7 @@ ghost use Rattle.trail_prop.specs.Entries.{lits_of};
 ghost use Rattle.cdcl_prove.specs.Picks.{IsOpenVariable, PickIs, VariableIs};
 
 use crate::order::Order;
+use crate::ties::Ties;
 use clause_db::lit::Lit;
 use std::alloc::{AllocError as NoMemory, Global};
 use trail_prop::entry::Entry;
@@ -23,14 +24,14 @@ pub(crate) struct Guide {
 }
 
 impl Guide {
-    /// No variable is preferred, and each is tried as false.
-    pub(crate) fn new(alloc: Global, vars: u32) -> Result<Guide, NoMemory> {
+    /// No variable is preferred, so that the ties alone order them, and each is tried as false.
+    pub(crate) fn new(alloc: Global, vars: u32, ties: Ties) -> Result<Guide, NoMemory> {
         let mut phases = Vec::new(alloc);
         phases.resize(vars as usize + 1, false)?;
         let mut levels = Vec::new(alloc);
         levels.resize(vars as usize + 1, 0)?;
         Ok(Guide {
-            order: Order::new(alloc, vars)?,
+            order: Order::new(alloc, vars, ties)?,
             phases,
             levels,
             noted: 0,

@@ -21,28 +21,35 @@ use pack_defs::items::Items;
 use pack_defs::worker::{Kind, Worker};
 use std::alloc::{AllocError as NoMemory, Global};
 
-// A poll that always answers this number.
+// A poll that answers 5, the number of the queries, so many times, and then 6.
 #[derive(Drop)]
-pub(crate) struct Steady {
-    pub(crate) now: u64,
+struct Turning {
+    now: u64,
+    left: u32,
 }
 
-impl Poll for Steady {
-    ghost use Rattle.std.specs.Prelude.{◌≡◌, refl};
-    ghost use Rattle.std.proofs.Common.{◌∙◌};
+impl Poll for Turning {
+    ghost use Rattle.std.specs.Prelude.{⊤};
 
     ghost last = { λ poll. poll.now };
 
-    ghost goes = { λ poll other. other.now ≡ poll.now };
+    ghost goes = { λ poll other. ⊤ };
 
-    ghost goes_nowhere = { λ poll. refl };
+    ghost goes_nowhere = { λ poll. tt };
 
-    ghost goes_on = { λ one two three e f. f ∙ e };
+    ghost goes_on = { λ one two three e f. tt };
 
     fn current(&mut self) -> u64 {
+        if self.left == 0 {
+            self.now = 6;
+        }
+        self.left = self.left.saturating_sub(1);
         self.now
     }
 }
+
+// As often as any test asks.
+pub(crate) const ALWAYS: u32 = u32::MAX;
 
 // What an attempt came to, with the number of lines. `Wrong`: its answer was not let through or is one of a walk, the task
 // is no query, or memory ran out.
@@ -55,19 +62,23 @@ pub(crate) enum Said {
     Wrong,
 }
 
-// What the solver says of a query, checked by `certify`, which asks no code of the solver.
+// What the solver says of a query whose poll answers so many times that it stands, checked by `certify`, which asks no code
+// of the solver.
 pub(crate) fn attempted(
     alloc: Global,
     solver: &mut Cdcl,
     worker: &Worker,
     book: &Book,
     task: &Task,
-    now: u64,
+    stands: u32,
 ) -> Said {
     if !is_query(book, task) {
         return Said::Wrong;
     }
-    let mut poll = Steady { now };
+    let mut poll = Turning {
+        now: 5,
+        left: stands,
+    };
     match solver.attempt(alloc, book, task, &mut poll) {
         Ok(Attempt::Said(answer)) => judged(alloc, worker, book, task, answer),
         Ok(Attempt::Moved { now }) => Said::Moved(now),
@@ -95,13 +106,13 @@ fn kind_of(answer: &Answer) -> Said {
     }
 }
 
-pub(crate) fn learner(budget: u32) -> Worker
+pub(crate) fn learner(budget: u32, seed: u64) -> Worker
     ensures { result.kind ≡ Kind.Cdcl }
 {
     Worker {
         kind: Kind::Cdcl,
         budget,
-        seed: 0,
+        seed,
     }
 }
 

@@ -8,6 +8,10 @@ use cert_types::poll::Poll;
 use rup_check::line::Line;
 use std::alloc::{AllocError as NoMemory, Global};
 
+// The poll is asked before the first line and then after so many. Asking takes a turn of a lock that other threads share, and
+// where another query stands, so many lines are soon learnt in vain.
+const BETWEEN: usize = 16;
+
 /// How a search ended.
 #[derive(Debug, Drop)]
 pub(crate) enum Outcome {
@@ -22,7 +26,7 @@ pub(crate) enum Outcome {
 }
 
 /// Searches until there is a model or a refutation, or so many lines are learnt, or the poll answers another number than
-/// this one. The poll is asked before each line.
+/// this one. The poll is asked before the first line, and then after each 16.
 pub(crate) fn solve<P: Poll>(
     alloc: Global,
     search: &mut Search,
@@ -36,7 +40,7 @@ pub(crate) fn solve<P: Poll>(
     ensures goes { P.goes poll.old poll.new }
 {
     'lines: while search.derivation.len() < budget as usize {
-        if let Some(now) = moved(poll, number) {
+        if let Some(now) = moved(poll, number, search.derivation.len()) {
             return Ok(Outcome::Moved { now });
         }
         match search.step(alloc)? {
@@ -48,11 +52,14 @@ pub(crate) fn solve<P: Poll>(
     Ok(Outcome::Spent)
 }
 
-// The number that the poll answers, where it is another one.
-fn moved<P: Poll>(poll: &mut P, number: u64) -> Option<u64>
+// The number that the poll answers, where it is asked after so many lines and that is another one.
+fn moved<P: Poll>(poll: &mut P, number: u64, lines: usize) -> Option<u64>
     ensures moved { IfSome result (λ now. (P.last poll.new ≡ now) × (now ≢ number)) }
     ensures goes { P.goes poll.old poll.new }
 {
+    if lines % BETWEEN != 0 {
+        return None;
+    }
     let now = poll.current();
     if now == number {
         return None;

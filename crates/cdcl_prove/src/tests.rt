@@ -1,8 +1,11 @@
 //! The solver's tests, each answer of which the check of answers lets through first.
 
+ghost use Rattle.std.specs.Prelude.{◌≡◌};
+
 use crate::cdcl::Cdcl;
-use crate::samples::{Said, attempted, book, learner, packing, task};
+use crate::samples::{ALWAYS, Said, attempted, book, learner, packing, task};
 use pack_defs::book::Book;
+use pack_defs::worker::{Kind, Worker};
 use plain_pack::search::fits;
 use std::alloc::Global;
 use std::test::Fail;
@@ -15,7 +18,7 @@ const APART: &str = "CO,14,14,1,2,3\nCO,14,14,2,3\nCO,15,15,1,2,3\nCO,15,15,2,3\
 // third pair, each in turn.
 fn of_three_stations(alloc: Global, budget: u32) -> Option<[Said; 6]> {
     let book = book(alloc, THREE, APART)?;
-    let worker = learner(budget);
+    let worker = learner(budget, 0);
     let mut solver = Cdcl::new(alloc, &worker).ok()?;
     let tasks = [
         task(alloc, &[1], &[]).ok()?,
@@ -27,7 +30,7 @@ fn of_three_stations(alloc: Global, budget: u32) -> Option<[Said; 6]> {
     ];
     let mut all = [Said::Wrong; 6];
     for (i, task) in tasks.iter().enumerate() {
-        all[i] = attempted(alloc, &mut solver, &worker, &book, task, 5);
+        all[i] = attempted(alloc, &mut solver, &worker, &book, task, ALWAYS);
     }
     Some(all)
 }
@@ -54,24 +57,14 @@ fn a_budget_of_one_line_is_spent_where_there_is_a_conflict(rt: HostRuntime) -> R
     Ok(())
 }
 
-#[test]
-fn a_poll_that_moved_stops_the_attempt(rt: HostRuntime) -> Result<(), Fail> {
-    let alloc = rt.alloc();
-    let book = book(alloc, THREE, APART).ok_or("no book")?;
-    let worker = learner(1000);
-    let mut solver = Cdcl::new(alloc, &worker)?;
-    let task = task(alloc, &[1, 2, 3], &[])?;
-    let moved = attempted(alloc, &mut solver, &worker, &book, &task, 6);
-    assert_eq!(rt; moved, Said::Moved(6));
-    Ok(())
-}
-
-// What a solver with this budget says of these stations of a book, none of which has a channel yet.
-fn of_all(alloc: Global, book: &Book, budget: u32, set: &[u32]) -> Option<Said> {
-    let worker = learner(budget);
-    let mut solver = Cdcl::new(alloc, &worker).ok()?;
+// What a solver for this worker says of these stations of a book, none of which has a channel yet, where the poll answers
+// so many times that the query stands.
+fn of_all(alloc: Global, book: &Book, worker: &Worker, set: &[u32], stands: u32) -> Option<Said>
+    requires { worker.now.kind ≡ Kind.Cdcl }
+{
+    let mut solver = Cdcl::new(alloc, worker).ok()?;
     let task = task(alloc, set, &[]).ok()?;
-    Some(attempted(alloc, &mut solver, &worker, book, &task, 5))
+    Some(attempted(alloc, &mut solver, worker, book, &task, stands))
 }
 
 const STATIONS: [u32; 10] = [0, 1, 2, 3, 4, 5, 6, 7, 8, 9];
@@ -83,7 +76,13 @@ fn is_refuted(alloc: Global, channels: u8) -> Option<bool> {
         return None;
     }
     let book = packing(alloc, count as u32, channels, |_, _, _| true)?;
-    let all = of_all(alloc, &book, 100_000, &STATIONS[..count])?;
+    let all = of_all(
+        alloc,
+        &book,
+        &learner(100_000, 0),
+        &STATIONS[..count],
+        ALWAYS,
+    )?;
     Some(matches!(all, Said::Refuted(_)))
 }
 
@@ -96,6 +95,51 @@ fn more_stations_than_channels_are_refuted(rt: HostRuntime) -> Result<(), Fail> 
     Ok(())
 }
 
+// What a solver with this budget and seed says of six stations on five channels, no two of which may share one, where the
+// poll answers so many times that the query stands.
+fn of_six(alloc: Global, budget: u32, seed: u64, stands: u32) -> Option<Said> {
+    let book = packing(alloc, 6, 5, |_, _, _| true)?;
+    of_all(alloc, &book, &learner(budget, seed), &STATIONS[..6], stands)
+}
+
+#[test]
+fn the_poll_is_asked_before_the_first_line_and_then_after_each_16(
+    rt: HostRuntime,
+) -> Result<(), Fail> {
+    let said = [
+        (0, 1, Said::Moved(6)),
+        (1, 16, Said::Spent(16)),
+        (1, 17, Said::Moved(6)),
+        (2, 32, Said::Spent(32)),
+        (2, 33, Said::Moved(6)),
+    ];
+    for (stands, budget, said) in said {
+        let of_six = of_six(rt.alloc(), budget, 0, stands);
+        assert_eq!(rt; of_six, Some(said), "{stands} answers, {budget} lines");
+    }
+    Ok(())
+}
+
+// How many lines refute the six stations by this seed.
+fn lines_by(alloc: Global, seed: u64) -> Option<usize> {
+    match of_six(alloc, 100_000, seed, ALWAYS)? {
+        Said::Refuted(lines) => Some(lines),
+        _ => None,
+    }
+}
+
+#[test]
+fn another_seed_searches_differently(rt: HostRuntime) -> Result<(), Fail> {
+    // Seed 0 takes as many as the search without a seed did.
+    assert_eq!(rt; lines_by(rt.alloc(), 0), Some(134));
+    let lines = lines_by(rt.alloc(), 7).ok_or("not refuted")?;
+    assert_eq!(rt; lines_by(rt.alloc(), 7), Some(lines));
+    for other in [0, 8] {
+        assert_ne!(rt; lines_by(rt.alloc(), other), Some(lines), "at {other}");
+    }
+    Ok(())
+}
+
 // Whether two stations may not share a channel, as chance has it: of sixteen about nine may not.
 fn by_chance(seed: u64, s: u32, t: u32, c: u8) -> bool {
     let key = ((seed << 8 ^ s as u64) << 8 ^ t as u64) << 8 ^ c as u64;
@@ -104,11 +148,12 @@ fn by_chance(seed: u64, s: u32, t: u32, c: u8) -> bool {
     (twice ^ twice >> 31) % 16 < 9
 }
 
-// Whether ten stations on three channels are said to fit exactly where the plain search finds a map, and whether they fit.
+// Whether ten stations on three channels are said to fit exactly where the plain search finds a map, and whether they fit. The
+// solver's seed is that of the book.
 fn agrees(alloc: Global, seed: u64) -> Option<(bool, bool)> {
     let book = packing(alloc, 10, 3, |s, t, c| by_chance(seed, s, t, c))?;
     let fit = fits(alloc, &book, &STATIONS).ok()?.is_some();
-    let said = of_all(alloc, &book, 100_000, &STATIONS)?;
+    let said = of_all(alloc, &book, &learner(100_000, seed), &STATIONS, ALWAYS)?;
     let agrees = match said {
         Said::Fit => fit,
         Said::Refuted(_) => !fit,

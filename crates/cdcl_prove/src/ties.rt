@@ -1,0 +1,42 @@
+//! Which of two variables comes first that are equally active.
+
+use rand_core::utils::NextWord;
+use rand_pcg::Lcg64Xsh32;
+
+// What chance gives to a variable is below this. A preference or a conflict counts for 1.0 or more on the same scale, so that
+// chance decides where they leave a tie, and hardly anywhere else.
+const BELOW: f64 = 0.001;
+
+// Chance draws one of so many words.
+const WORDS: f64 = 4_294_967_296.0;
+
+/// What breaks the ties of the order in which variables are decided. The same seed and stream break them in the same way.
+/// Nothing that the solver says rests on it.
+#[derive(Drop)]
+pub(crate) enum Ties {
+    /// The places of the variables in the heap, which begins in their order.
+    ByPlace,
+    /// A small activity that each variable begins with.
+    ByChance(Lcg64Xsh32),
+}
+
+impl Ties {
+    /// By place for seed 0, and for any other by what chance gives of the seed in this stream.
+    pub(crate) fn new(seed: u64, stream: u64) -> Ties {
+        if seed == 0 {
+            return Ties::ByPlace;
+        }
+        Ties::ByChance(Lcg64Xsh32::new(seed, stream))
+    }
+
+    /// Draws the activity that the next variable begins with.
+    pub(crate) fn draw(&mut self) -> f64 {
+        match self {
+            Ties::ByPlace => 0.0,
+            Ties::ByChance(words) => {
+                let word: u32 = words.next_word();
+                f64::from(word) / WORDS * BELOW
+            }
+        }
+    }
+}
