@@ -1,0 +1,5 @@
+pub mod Crosses
+pub mod Faultless
+pub mod PassLemmas
+pub mod PostLemmas
+pub mod StandLemmas

@@ -1,0 +1,90 @@
+use Rattle.std.proofs.Common.{◌≡◌, ◌∙◌, ◌++◌, ◌∷◌, [], Some, ap, sym, subst, append_assoc}
+use Rattle.std.specs.Prelude.{slice_get}
+use Rattle.cert_types.specs.declared.answer.Answer.TheVariants.{Fit}
+use Rattle.cert_types.specs.Certificate.{IsTaskOf}
+use Rattle.auction_core.specs.Replay.{EntryView, entry_of}
+use Rattle.auction_core.specs.Setup.{SetupView}
+use Rattle.auction_core.specs.State.{task_of}
+use Rattle.auction_core.specs.Take.{PostingView}
+use Rattle.turn_lock.specs.Passes.{known_of, number_of, seen_of}
+use Rattle.answer_board.specs.Boards.{raised, setup_of}
+use Rattle.answer_board.specs.Entries.{numbered}
+use Rattle.answer_board.specs.Posts.{HasMet, IsPosted, IsTaken}
+use Rattle.answer_board.proofs.PostLemmas.{numbered-more, posted, seen-replays}
+use Rattle.answer_board.proofs.StandLemmas.{starts-itself}
+use Rattle.answer_board.proofs.board.Board.meets.Goals as goal
+
+pub commit-requires-clause-entry : goal.commit-requires-clause-entry
+commit-requires-clause-entry g c =
+    let value = c.enter-turn.result.value.auction in
+    let told = subst (HasMet value c.meets.new.auction c.number-worker.result c.args.number) c.in-Ok-Told.field-0-is c.in-Ok-Told.ensures.met in
+    let posting : PostingView = record { worker = c.number-worker.result; number = c.args.number; answer = Fit [] } in
+    let e : EntryView = entry_of posting c.in-Ok-Told.reply in
+    let taken : IsTaken value c.meets.new.auction posting c.in-Ok-Told.reply = told (Fit []) in
+    let whole = ap numbered taken.history ∙ (numbered-more value.history e ∙ ap (λ l. l ++ (c.number-worker.result, e) ∷ []) c.enter-turn.ensures.value) in
+    ((c.number-worker.result, e), whole, c.number-worker.ensures ∙ sym (ap (λ s. s.number) c.enter-turn.ensures.standing))
+
+pub commit-requires-clause-base : goal.commit-requires-clause-base
+commit-requires-clause-base g c =
+    let value = c.enter-turn.result.value.auction in
+    let told = subst (HasMet value c.meets.new.auction c.number-worker.result c.args.number) c.in-Ok-Told.field-0-is c.in-Ok-Told.ensures.met in
+    let posting : PostingView = record { worker = c.number-worker.result; number = c.args.number; answer = Fit [] } in
+    let taken : IsTaken value c.meets.new.auction posting c.in-Ok-Told.reply = told (Fit []) in
+    taken.setup ∙ c.enter-turn.ensures.base
+
+pub leave-requires-clause-base : goal.leave-requires-clause-base
+leave-requires-clause-base g c =
+    let value = c.enter-turn.result.value.auction in
+    let told = subst (HasMet value c.meets.new.auction c.number-worker.result c.args.number) c.in-Ok-Told.field-0-is c.in-Ok-Told.ensures.met in
+    let posting : PostingView = record { worker = c.number-worker.result; number = c.args.number; answer = Fit [] } in
+    let taken : IsTaken value c.meets.new.auction posting c.in-Ok-Told.reply = told (Fit []) in
+    ap (λ t. setup_of t.value.auction) c.commit.ensures.value ∙ (taken.setup ∙ c.enter-turn.ensures.base)
+
+pub returns-in-Ok-Told-clause-seen : goal.returns-in-Ok-Told-clause-seen
+returns-in-Ok-Told-clause-seen g c =
+    let value = c.enter-turn.result.value.auction in
+    let told = subst (HasMet value c.meets.new.auction c.number-worker.result c.args.number) c.in-Ok-Told.field-0-is c.in-Ok-Told.ensures.met in
+    let posting : PostingView = record { worker = c.number-worker.result; number = c.args.number; answer = Fit [] } in
+    let e : EntryView = entry_of posting c.in-Ok-Told.reply in
+    let taken : IsTaken value c.meets.new.auction posting c.in-Ok-Told.reply = told (Fit []) in
+    let whole = ap numbered taken.history ∙ (numbered-more value.history e ∙ ap (λ l. l ++ (c.number-worker.result, e) ∷ []) c.enter-turn.ensures.value) in
+    let last = ap (λ k. k.seen) c.leave.ensures.known ∙ c.commit.ensures.seen in
+    let begins = c.enter-turn.ensures.seen in
+    (begins.0 ++ (c.number-worker.result, e) ∷ [], last ∙ (whole ∙ (ap (λ l. l ++ (c.number-worker.result, e) ∷ []) begins.1 ∙ append_assoc (seen_of c.args.pass.now) begins.0 ((c.number-worker.result, e) ∷ []))))
+
+pub returns-in-Ok-Told-clause-met : goal.returns-in-Ok-Told-clause-met
+returns-in-Ok-Told-clause-met g c answer =
+    let value = c.enter-turn.result.value.auction in
+    let told = subst (HasMet value c.meets.new.auction c.number-worker.result c.args.number) c.in-Ok-Told.field-0-is c.in-Ok-Told.ensures.met in
+    let posting : PostingView = record { worker = c.number-worker.result; number = c.args.number; answer = answer } in
+    let e : EntryView = entry_of posting c.in-Ok-Told.reply in
+    let taken : IsTaken value c.meets.new.auction posting c.in-Ok-Told.reply = told answer in
+    let whole = ap numbered taken.history ∙ (numbered-more value.history e ∙ ap (λ l. l ++ (c.number-worker.result, e) ∷ []) c.enter-turn.ensures.value) in
+    subst (λ w. IsPosted (raised c.args.self.now) (record { worker = w; number = c.args.number; answer = answer }) (known_of c.args.pass.now) (known_of c.leave.new.pass) c.in-Ok-Told.reply) c.number-worker.ensures
+    (posted (raised c.args.self.now) value c.meets.new.auction posting c.in-Ok-Told.reply (known_of c.args.pass.now) (known_of c.enter-turn.new.pass) (known_of c.leave.new.pass)
+    c.enter-turn.ensures.base c.enter-turn.ensures.value c.posted.ensures.replays c.posted-in-Ok-Told.ensures.replays
+    taken c.enter-turn.ensures.seen c.enter-turn.ensures.mine
+    (ap (λ k. k.seen) c.leave.ensures.known ∙ c.commit.ensures.seen)
+    (ap (λ k. k.mine) c.leave.ensures.known ∙ c.commit.ensures.mine (c.number-worker.result, e) whole))
+
+pub returns-in-Ok-Asked-clause-met : goal.returns-in-Ok-Asked-clause-met
+returns-in-Ok-Asked-clause-met g c =
+    let value = c.enter-turn.result.value.auction in
+    let made = raised c.args.self.now in
+    let met = subst (HasMet value c.meets.new.auction c.number-worker.result c.args.number) c.in-Ok-Asked.field-0-is c.in-Ok-Asked.ensures.met in
+    let asked = met.1 in
+    let base = c.enter-turn.ensures.base in
+    let left = c.leave-in-Ok-Asked.ensures.known in
+    record {
+      mine = ap (λ k. k.mine) left ∙ c.enter-turn.ensures.mine;
+      stood = record {
+        before = seen_of c.leave-in-Ok-Asked.new.pass;
+        begins = starts-itself (seen_of c.leave-in-Ok-Asked.new.pass);
+        state = value.state;
+        replays = seen-replays made value _ base (c.enter-turn.ensures.value ∙ sym (ap (λ k. k.seen) left)) c.posted.ensures.replays;
+        stands = subst (λ (s : SetupView). task_of s.scenario s.book value.state ≡ Some c.in-Ok-Asked.task) base asked.stands;
+      };
+      checked = subst (λ (s : SetupView). IsTaskOf s.book c.in-Ok-Asked.task) base asked.checked;
+      worker = subst (λ (s : SetupView). slice_get s.scenario.workers (number_of c.args.pass.now) ≡ Some c.in-Ok-Asked.worker) base (subst (λ w. slice_get value.scenario.workers w ≡ Some c.in-Ok-Asked.worker) c.number-worker.ensures asked.worker);
+      number = asked.number;
+    }

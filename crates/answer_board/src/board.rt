@@ -1,0 +1,27 @@
+//! The board, and the passes to it.
+
+ghost use Rattle.std.specs.Arc.{arc_value};
+ghost use Rattle.std.specs.Prelude.{◌≡◌};
+ghost use Rattle.turn_lock.specs.Passes.{made_over};
+
+use crate::kept::Kept;
+use pack_defs::book::Book;
+use pack_defs::worker::Worker;
+use std::sync::Arc;
+use turn_lock::lock::TurnLock;
+
+/// The right to look at a board and to post on it. Pass `i` posts as worker `i`.
+pub type Pass = turn_lock::lock::Pass<Kept>;
+
+/// An auction under a lock that serves its passes in the order in which they come. Beside the lock it keeps the
+/// book and the workers that answers are judged by, so that nobody has the turn while one is.
+///
+/// It can't be dropped: `close` takes the auction off it.
+pub struct Board {
+    pub(crate) lock: TurnLock<Kept>,
+    // The auction's own book, with one owner more.
+    pub(crate) book: Arc<Book>,
+    pub(crate) workers: Vec<Worker>,
+    ghost book_is: { arc_value book ≡ (made_over lock).auction.book },
+    ghost workers_are: { workers.items ≡ (made_over lock).auction.scenario.workers },
+}

@@ -1,0 +1,28 @@
+//! What lies under a board's lock.
+
+ghost use Rattle.answer_board.specs.Entries.{numbered};
+
+use auction_core::auction::Auction;
+use auction_core::posting::Entry;
+use auction_core::setup::Setup;
+use turn_lock::chronicle::Chronicle;
+
+/// An auction that is on a board. Its history is that of its postings, each with the number of its worker.
+#[derive(Drop)]
+pub struct Kept {
+    pub(crate) auction: Auction,
+}
+
+impl Chronicle for Kept {
+    type Base = Setup;
+
+    type Entry = Entry;
+
+    ghost base = { λ kept. record { scenario = kept.auction.scenario; book = kept.auction.book; order = kept.auction.state.order } };
+
+    ghost entries = { λ kept. numbered kept.auction.history };
+
+    fn count(&self) -> u64 {
+        self.auction.posted()
+    }
+}

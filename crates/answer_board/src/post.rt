@@ -1,0 +1,122 @@
+//! What a posting does in a turn.
+
+ghost use Rattle.std.specs.Prelude.{◌≡◌, IfErr, IfOk, None, Some, is_some, length, slice_get, true, ◌<◌};
+ghost use Rattle.cert_types.specs.declared.answer.Answer.{Answer};
+ghost use Rattle.auction_core.specs.Said.{MayBeTaken, StandsFor};
+ghost use Rattle.auction_core.specs.Take.{turned_away};
+ghost use Rattle.answer_board.specs.Posts.{HasMet, IsTaken, StaysAs};
+
+use auction_core::auction::Auction;
+use auction_core::posting::{Posting, Reply, Said};
+use cert_types::answer::{Answer, Place};
+use cert_types::task::Task;
+use pack_defs::worker::Worker;
+use std::alloc::{AllocError as NoMemory, Global};
+
+/// An answer that was not posted for want of memory. It comes back whole.
+#[derive(Debug, Drop)]
+pub struct Unposted {
+    pub answer: Answer,
+}
+
+/// What a posting comes to before its answer is looked at.
+#[derive(Drop)]
+pub(crate) enum Met {
+    /// It was turned away, and was told this.
+    Told(Reply),
+    /// This query stands, and the posting is of this worker.
+    Asked { task: Task, worker: Worker },
+}
+
+/// Posts where the posting is turned away, whatever its answer; else nothing is done, and the answer is to be looked at. The
+/// only error is want of memory, and nothing else has changed.
+pub(crate) fn meets(
+    alloc: Global,
+    auction: &mut Auction,
+    worker: u32,
+    number: u64,
+) -> Result<Met, NoMemory>
+    ensures met { IfOk result (HasMet auction.old auction.new worker number) }
+    ensures stays { IfErr result (λ fault. StaysAs auction.old auction.new) }
+{
+    if is_turned_away(auction, worker, number) {
+        return turns_away(auction, worker, number);
+    }
+    asks(alloc, auction, worker, number)
+}
+
+// Posts a posting that is turned away.
+fn turns_away(auction: &mut Auction, worker: u32, number: u64) -> Result<Met, NoMemory>
+    requires { is_some (turned_away auction.old.scenario auction.old.state worker number) ≡ true }
+    ensures met { IfOk result (HasMet auction.old auction.new worker number) }
+    ensures stays { IfErr result (λ fault. StaysAs auction.old auction.new) }
+{
+    // Its answer isn't looked at, so any place would do.
+    let Ok(reply) = tells(auction, worker, number, Said::Bad(Place::Kind)) else {
+        return Err(NoMemory);
+    };
+    Ok(Met::Told(reply))
+}
+
+// What a posting is to be looked at for that isn't turned away.
+fn asks(alloc: Global, auction: &Auction, worker: u32, number: u64) -> Result<Met, NoMemory>
+    requires { turned_away auction.now.scenario auction.now.state worker number ≡ None }
+    ensures { IfOk result (HasMet auction.now auction.now worker number) }
+{
+    let task = match auction.task(alloc) {
+        Ok(Some(task)) => task,
+        Ok(None) => unreachable!(),
+        Err(_) => return Err(NoMemory),
+    };
+    Ok(Met::Asked {
+        task,
+        worker: *worker_at(auction, worker),
+    })
+}
+
+// The worker of a number.
+fn worker_at(auction: &Auction, worker: u32) -> &Worker
+    requires { worker < length auction.now.scenario.workers }
+    ensures { slice_get auction.now.scenario.workers worker ≡ Some result.now }
+{
+    &auction.workers()[worker as usize]
+}
+
+// Whether the posting is turned away, whatever its answer: the auction has ended, another query stands, or there is no such
+// worker.
+fn is_turned_away(auction: &Auction, worker: u32, number: u64) -> bool
+    ensures { result ≡ is_some (turned_away auction.now.scenario auction.now.state worker number) }
+{
+    if auction.ended() {
+        return true;
+    }
+    if number != auction.number() {
+        return true;
+    }
+    auction.workers().len() <= worker as usize
+}
+
+/// Posts what is said of a worker's answer for the query of a number, and answers what it is told. The only error is want of
+/// memory: what was said comes back, and nothing else has changed.
+pub(crate) fn tells(
+    auction: &mut Auction,
+    worker: u32,
+    number: u64,
+    said: Said,
+) -> Result<Reply, Said>
+    requires said { MayBeTaken auction.old.scenario auction.old.book auction.old.state (record { worker = worker; number = number; said = said }) }
+    ensures taken { IfOk result (λ reply. (answer : Answer) → StandsFor auction.old.scenario auction.old.book auction.old.state (record { worker = worker; number = number; said = said }) answer →
+        IsTaken auction.old auction.new (record { worker = worker; number = number; answer = answer }) reply) }
+    ensures back { IfErr result (λ back. back ≡ said) }
+    ensures stays { IfErr result (λ back. StaysAs auction.old auction.new) }
+{
+    if auction.reserve().is_err() {
+        return Err(said);
+    }
+    let told = auction.take(Posting {
+        worker,
+        number,
+        said,
+    });
+    Ok(told)
+}

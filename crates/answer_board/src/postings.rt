@@ -1,0 +1,238 @@
+//! How an answer is posted on a board: nobody has the turn while an answer is looked at.
+
+ghost use Rattle.std.specs.Prelude.{◌≡◌, IfErr, IfOk, Some, slice_get, true};
+ghost use Rattle.cert_types.specs.Certificate.{IsTaskOf};
+ghost use Rattle.cert_types.specs.Valid.{answer_fault};
+ghost use Rattle.turn_lock.specs.Passes.{IsIdle, IsLegal, known_of, mine_of, number_of, seen_of, standing};
+ghost use Rattle.turn_lock.specs.Turns.{StartsWith};
+ghost use Rattle.answer_board.specs.Boards.{IsPassOn, raised};
+ghost use Rattle.answer_board.specs.Posts.{HasMetOn, HasStood, IsPosted, StandsOn, is_faultless};
+
+use crate::board::{Board, Pass};
+use crate::post::{Met, Unposted, meets, tells};
+use auction_core::posting::{Reply, Said};
+use cert_types::answer::{Answer, CertifyWhy, Place};
+use cert_types::certified::Certified;
+use cert_types::certify::certify;
+use cert_types::task::Task;
+use pack_defs::worker::Worker;
+use std::alloc::{AllocError as NoMemory, Global};
+use std::snapshot::Snapshot;
+use std::sync::Wait;
+
+impl Board {
+    /// Posts an answer for the query of a number, and answers what it is told. Unless the posting is turned away, the answer
+    /// is looked at for the query that stands, outside any turn, and posted in a second one. It waits for its turns. The only
+    /// error is want of memory: the answer comes back, the pass's own postings stand, and the same may be posted again.
+    pub fn post<R: Wait>(
+        &self,
+        rt: &R,
+        alloc: Global,
+        pass: &mut Pass,
+        number: u64,
+        answer: Answer,
+    ) -> Result<Reply, Unposted>
+        requires own { IsPassOn self.now pass.old }
+        requires idle { IsIdle pass.old }
+        ensures own { IsPassOn self.now pass.new }
+        ensures idle { IsIdle pass.new }
+        ensures standing { standing pass.new ≡ standing pass.old }
+        ensures seen { StartsWith (seen_of pass.new) (seen_of pass.old) }
+        ensures legal { IsLegal pass.new }
+        ensures posted { IfOk result (IsPosted (raised self.now) (record { worker = number_of pass.old; number = number; answer = answer }) (known_of pass.old) (known_of pass.new)) }
+        ensures back { IfErr result (λ unposted. unposted.answer ≡ answer) }
+        ensures mine { IfErr result (λ unposted. mine_of pass.new ≡ mine_of pass.old) }
+    {
+        match self.meets(rt, alloc, pass, number) {
+            Ok(Met::Told(reply)) => Ok(reply),
+            Ok(Met::Asked { task, worker }) => {
+                self.judges(rt, alloc, pass, &task, &worker, answer)
+            }
+            Err(_) => Err(Unposted { answer }),
+        }
+    }
+
+    /// Posts an answer that was let through, and answers what it is told: nothing of it is looked at again. The pass has seen
+    /// the query that it was let through for stand, whose number is given beside it, and it was let through for the pass's
+    /// worker: so it may come too late, but it is never told that it is a stranger's or at fault. It waits for its turn. The
+    /// only error is want of memory: the answer comes back, the pass's own postings stand, and the same may be posted again.
+    pub fn post_certified<R: Wait>(
+        &self,
+        rt: &R,
+        pass: &mut Pass,
+        number: u64,
+        certified: Certified,
+    ) -> Result<Reply, Unposted>
+        requires own { IsPassOn self.now pass.old }
+        requires idle { IsIdle pass.old }
+        requires book { certified.book ≡ (raised self.now).book }
+        requires worker { slice_get (raised self.now).scenario.workers (number_of pass.old) ≡ Some certified.worker }
+        requires stood { HasStood (raised self.now) (seen_of pass.old) certified.task }
+        requires number { number ≡ certified.task.number }
+        ensures own { IsPassOn self.now pass.new }
+        ensures idle { IsIdle pass.new }
+        ensures standing { standing pass.new ≡ standing pass.old }
+        ensures seen { StartsWith (seen_of pass.new) (seen_of pass.old) }
+        ensures legal { IsLegal pass.new }
+        ensures posted { IfOk result (IsPosted (raised self.now) (record { worker = number_of pass.old; number = number; answer = certified.answer }) (known_of pass.old) (known_of pass.new)) }
+        ensures faultless { IfOk result (λ reply. is_faultless reply ≡ true) }
+        ensures back { IfErr result (λ unposted. unposted.answer ≡ certified.answer) }
+        ensures mine { IfErr result (λ unposted. mine_of pass.new ≡ mine_of pass.old) }
+    {
+        let answer = Snapshot::of(certified.answer());
+        match self.tells(rt, pass, number, Said::Good(certified), &answer) {
+            Ok(reply) => Ok(reply),
+            Err(Said::Good(certified)) => Err(Unposted {
+                answer: certified.into_answer(),
+            }),
+            Err(Said::Bad(_)) => unreachable!(),
+        }
+    }
+
+    // Posts an answer that is at fault at this place.
+    fn post_rejected<R: Wait>(
+        &self,
+        rt: &R,
+        pass: &mut Pass,
+        number: u64,
+        place: Place,
+        answer: Answer,
+    ) -> Result<Reply, Unposted>
+        requires own { IsPassOn self.now pass.old }
+        requires idle { IsIdle pass.old }
+        requires stands { StandsOn (raised self.now) (seen_of pass.old) (record { worker = number_of pass.old; number = number; said = Said.Bad place }) answer }
+        ensures own { IsPassOn self.now pass.new }
+        ensures idle { IsIdle pass.new }
+        ensures standing { standing pass.new ≡ standing pass.old }
+        ensures seen { StartsWith (seen_of pass.new) (seen_of pass.old) }
+        ensures legal { IsLegal pass.new }
+        ensures posted { IfOk result (IsPosted (raised self.now) (record { worker = number_of pass.old; number = number; answer = answer }) (known_of pass.old) (known_of pass.new)) }
+        ensures back { IfErr result (λ unposted. unposted.answer ≡ answer) }
+        ensures mine { IfErr result (λ unposted. mine_of pass.new ≡ mine_of pass.old) }
+    {
+        let kept = Snapshot::of(&answer);
+        match self.tells(rt, pass, number, Said::Bad(place), &kept) {
+            Ok(reply) => Ok(reply),
+            Err(_) => Err(Unposted { answer }),
+        }
+    }
+
+    // Looks at an answer, and posts it.
+    fn judges<R: Wait>(
+        &self,
+        rt: &R,
+        alloc: Global,
+        pass: &mut Pass,
+        task: &Task,
+        worker: &Worker,
+        answer: Answer,
+    ) -> Result<Reply, Unposted>
+        requires own { IsPassOn self.now pass.old }
+        requires idle { IsIdle pass.old }
+        requires legal { IsLegal pass.old }
+        requires checked { IsTaskOf (raised self.now).book task.now }
+        requires worker { slice_get (raised self.now).scenario.workers (number_of pass.old) ≡ Some worker.now }
+        requires stood { HasStood (raised self.now) (seen_of pass.old) task.now }
+        ensures own { IsPassOn self.now pass.new }
+        ensures idle { IsIdle pass.new }
+        ensures standing { standing pass.new ≡ standing pass.old }
+        ensures seen { StartsWith (seen_of pass.new) (seen_of pass.old) }
+        ensures legal { IsLegal pass.new }
+        ensures posted { IfOk result (IsPosted (raised self.now) (record { worker = number_of pass.old; number = task.now.number; answer = answer }) (known_of pass.old) (known_of pass.new)) }
+        ensures back { IfErr result (λ unposted. unposted.answer ≡ answer) }
+        ensures mine { IfErr result (λ unposted. mine_of pass.new ≡ mine_of pass.old) }
+    {
+        match certify(alloc, &self.book, task, worker, answer) {
+            Ok(certified) => self.post_certified(rt, pass, task.number, certified),
+            Err(fault) => match fault.why {
+                CertifyWhy::Rejected(place) => {
+                    self.post_rejected(rt, pass, task.number, place, fault.answer)
+                }
+                CertifyWhy::NoMemory => Err(Unposted {
+                    answer: fault.answer,
+                }),
+            },
+        }
+    }
+
+    // The first turn of a posting whose answer nobody has looked at.
+    fn meets<R: Wait>(
+        &self,
+        rt: &R,
+        alloc: Global,
+        pass: &mut Pass,
+        number: u64,
+    ) -> Result<Met, NoMemory>
+        requires own { IsPassOn self.now pass.old }
+        requires idle { IsIdle pass.old }
+        ensures own { IsPassOn self.now pass.new }
+        ensures idle { IsIdle pass.new }
+        ensures standing { standing pass.new ≡ standing pass.old }
+        ensures seen { StartsWith (seen_of pass.new) (seen_of pass.old) }
+        ensures legal { IsLegal pass.new }
+        ensures met { IfOk result (HasMetOn (raised self.now) (number_of pass.old) number (known_of pass.old) (known_of pass.new)) }
+        ensures mine { IfErr result (λ fault. mine_of pass.new ≡ mine_of pass.old) }
+    {
+        let worker = pass.number();
+        let mut turn = self.lock.enter(rt, pass);
+        // For its clause alone: what the history replays to.
+        let _ = turn.value.auction.posted();
+        match meets(alloc, &mut turn.value.auction, worker, number) {
+            Ok(Met::Told(reply)) => {
+                let _ = turn.value.auction.posted();
+                self.lock.commit(pass, &mut turn);
+                self.lock.leave(pass, turn);
+                Ok(Met::Told(reply))
+            }
+            Ok(Met::Asked { task, worker }) => {
+                self.lock.leave(pass, turn);
+                Ok(Met::Asked { task, worker })
+            }
+            Err(fault) => {
+                self.lock.leave(pass, turn);
+                Err(fault)
+            }
+        }
+    }
+
+    // A turn in which what was said of an answer is posted.
+    fn tells<R: Wait>(
+        &self,
+        rt: &R,
+        pass: &mut Pass,
+        number: u64,
+        said: Said,
+        answer: &Snapshot<Answer>,
+    ) -> Result<Reply, Said>
+        requires own { IsPassOn self.now pass.old }
+        requires idle { IsIdle pass.old }
+        requires stands { StandsOn (raised self.now) (seen_of pass.old) (record { worker = number_of pass.old; number = number; said = said }) answer.now.value }
+        ensures own { IsPassOn self.now pass.new }
+        ensures idle { IsIdle pass.new }
+        ensures standing { standing pass.new ≡ standing pass.old }
+        ensures seen { StartsWith (seen_of pass.new) (seen_of pass.old) }
+        ensures legal { IsLegal pass.new }
+        ensures posted { IfOk result (IsPosted (raised self.now) (record { worker = number_of pass.old; number = number; answer = answer.now.value }) (known_of pass.old) (known_of pass.new)) }
+        ensures back { IfErr result (λ back. back ≡ said) }
+        ensures mine { IfErr result (λ back. mine_of pass.new ≡ mine_of pass.old) }
+    {
+        // It stands in the contract alone: the answer itself is in `said`, or with the caller.
+        let _ = answer;
+        let worker = pass.number();
+        let mut turn = self.lock.enter(rt, pass);
+        // For its clause alone: what the history replays to.
+        let _ = turn.value.auction.posted();
+        match tells(&mut turn.value.auction, worker, number, said) {
+            Ok(reply) => {
+                let _ = turn.value.auction.posted();
+                self.lock.commit(pass, &mut turn);
+                self.lock.leave(pass, turn);
+                Ok(reply)
+            }
+            Err(said) => {
+                self.lock.leave(pass, turn);
+                Err(said)
+            }
+        }
+    }
+}

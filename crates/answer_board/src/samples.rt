@@ -1,0 +1,151 @@
+//! Answers and auctions that the tests of the board are made of.
+
+ghost use Rattle.std.specs.Prelude.{◌≡◌, ◌≤◌, ◌∷◌, [], All, IfOk, IsTrue, length};
+ghost use Rattle.std.specs.List.{list_all, list_any};
+ghost use Rattle.pack_defs.specs.Book.{AreInOrder, is_of_two, pairs_ascend, stations_of};
+ghost use Rattle.pack_defs.specs.Lists.{is_ascending};
+ghost use Rattle.pack_defs.specs.Scenario.{IsWithinLimits, IsWorkerWithinLimits, facilities, is_prover};
+
+use cert_types::answer::{Answer, Receipt};
+use clause_db::lit::Lit;
+use pack_defs::book::Book;
+use pack_defs::channel_map::ChannelMap;
+use pack_defs::domain::Domain;
+use pack_defs::fall::Fall;
+use pack_defs::items::Items;
+use pack_defs::pair::Pair;
+use pack_defs::scenario::Scenario;
+use pack_defs::station::Station;
+use pack_defs::worker::{Kind, Worker};
+use rup_check::line::{Line, Log};
+use std::alloc::{AllocError as NoMemory, Global};
+
+// What a worker answers.
+#[derive(Clone, Copy)]
+pub(crate) enum Given {
+    // A channel for a station.
+    Fit(u32, u8),
+    // One line was derived.
+    Spent,
+}
+
+// 13 -1 0 7 2 8 3 12 0
+fn not_one(alloc: Global) -> Result<Line, NoMemory> {
+    let lit = Lit {
+        var: 1,
+        positive: false,
+    };
+    Ok(Line {
+        lits: Items::from_vec(vec![in alloc; lit]?),
+        hints: Items::from_vec(Vec::from_slice(alloc, &[7, 2, 8, 3, 12])?),
+    })
+}
+
+fn one_line(alloc: Global) -> Result<Log, NoMemory> {
+    let line = not_one(alloc)?;
+    Ok(Log {
+        lines: Items::from_vec(vec![in alloc; line]?),
+    })
+}
+
+pub(crate) fn answer(alloc: Global, given: Given) -> Result<Answer, NoMemory> {
+    match given {
+        Given::Fit(station, channel) => {
+            Ok(Answer::Fit(ChannelMap::of(alloc, &[(station, channel)])?))
+        }
+        Given::Spent => Ok(Answer::Spent(Receipt::Lines(one_line(alloc)?))),
+    }
+}
+
+// A station that may use these channels.
+fn on(alloc: Global, station: u32, channels: &[u8]) -> Result<Domain, NoMemory>
+    ensures { IfOk result (λ d. d ≡ record { station = station; channels = channels.now }) }
+{
+    let channels = Items::from_vec(Vec::from_slice(alloc, channels)?);
+    Ok(Domain { station, channels })
+}
+
+fn on_one(f: u32, g: u32, c: u8) -> Pair
+    ensures { result ≡ record { f = f; a = c; g = g; b = c } }
+{
+    Pair { f, a: c, g, b: c }
+}
+
+// The book of these stations, up to channel 15.
+fn book(alloc: Global, ids: &[u32], domains: &[Domain], pairs: &[Pair]) -> Result<Book, NoMemory>
+    requires ids { IsTrue (is_ascending ids.now) }
+    requires few { length ids.now ≤ 8192 }
+    requires domains { AreInOrder domains.now }
+    requires pairs { IsTrue (pairs_ascend pairs.now) }
+    requires of_two { IsTrue (list_all is_of_two pairs.now) }
+    ensures { IfOk result (λ book. stations_of book ≡ ids.now) }
+{
+    Book::build(alloc, 15, ids, domains, pairs)
+}
+
+// Three stations on two channels, of which no two may share one.
+pub(crate) fn three_stations(alloc: Global) -> Result<Book, NoMemory>
+    ensures { IfOk result (λ book. stations_of book ≡ 1 ∷ 2 ∷ 3 ∷ []) }
+{
+    let domains = [
+        on(alloc, 1, &[14, 15])?,
+        on(alloc, 2, &[14, 15])?,
+        on(alloc, 3, &[14, 15])?,
+    ];
+    let pairs = [
+        on_one(1, 2, 14),
+        on_one(1, 3, 14),
+        on_one(1, 2, 15),
+        on_one(1, 3, 15),
+        on_one(2, 3, 14),
+        on_one(2, 3, 15),
+    ];
+    book(alloc, &[1, 2, 3], &domains, &pairs)
+}
+
+fn bid(id: u32, volume: u32, value: Option<u64>) -> Station
+    ensures { result ≡ record { id = id; volume = volume; value = value } }
+{
+    Station { id, volume, value }
+}
+
+pub(crate) fn learner(budget: u32) -> Worker
+    ensures { result ≡ record { kind = Kind.Cdcl; budget = budget; seed = 0 } }
+{
+    Worker {
+        kind: Kind::Cdcl,
+        budget,
+        seed: 0,
+    }
+}
+
+// Stations 1 to 3 with values of 50, 70 and 10 cents, the third of this volume, asked in two rounds below 100 cents.
+pub(crate) fn three_bids(
+    alloc: Global,
+    workers: Vec<Worker>,
+    volume: u32,
+) -> Result<Scenario, NoMemory>
+    requires some_volume { 1 ≤ volume }
+    requires volume { volume ≤ 1000 }
+    requires some { 1 ≤ length workers.items }
+    requires few { length workers.items ≤ 16 }
+    requires limits { All IsWorkerWithinLimits workers.items }
+    requires prover { IsTrue (list_any is_prover workers.items) }
+    ensures limits { IfOk result IsWithinLimits }
+    ensures stations { IfOk result (λ sc. facilities sc ≡ 1 ∷ 2 ∷ 3 ∷ []) }
+{
+    let (first, second, third) = (
+        bid(1, 1, Some(50)),
+        bid(2, 1, Some(70)),
+        bid(3, volume, Some(10)),
+    );
+    Ok(Scenario {
+        version: 1,
+        top: 15,
+        opening: 100,
+        fall: Fall::Listed(Items::from_vec(vec![in alloc; 40, 40]?)),
+        stations: Items::from_vec(vec![in alloc; first, second, third]?),
+        workers: Items::from_vec(workers),
+        owners: None,
+    })
+}
