@@ -1,22 +1,35 @@
-//! A whole auction on one thread.
+//! A whole auction.
 
-ghost use Rattle.std.specs.Prelude.{◌≡◌, IfOk, map};
+ghost use Rattle.std.specs.Prelude.{◌≡◌, ◌≤◌, IfOk, length, map};
 ghost use Rattle.solver_gate.specs.Racers.{worker_of};
 ghost use Rattle.auction_core.specs.Backed.{IsBacked};
 ghost use Rattle.auction_core.specs.Setup.{IsOfAuction};
+ghost use Rattle.turn_lock.specs.Passes.{IsIdle, known_of, standing};
+ghost use Rattle.turn_lock.specs.Turns.{AllOf, each_new};
+ghost use Rattle.answer_board.specs.Boards.{AreAllOn, raised, setup_of};
+ghost use Rattle.answer_board.specs.Entries.{numbered};
+ghost use Rattle.race_wave.specs.Rooms.{IsRoomFor};
+ghost use Rattle.race_wave.specs.Turns.{GoesOn};
 
+use crate::muster::mustered;
+use crate::parting::{Room, parted, room_for};
 use crate::serial::serial_turn;
+use crate::wave::wave;
+use answer_board::board::{Board, Pass};
 use auction_core::auction::Auction;
 use auction_core::record::Record;
 use pack_defs::book::Book;
 use pack_defs::order::Order;
 use pack_defs::scenario::Scenario;
 use pack_defs::worker::Worker;
+use solver_gate::gate::Gate;
 use solver_gate::racer::RacerKind;
 use std::alloc::{AllocError as NoMemory, Global};
+use std::sync::Wait;
+use std::thread::Threads;
 
 // A racer for each worker, in order.
-fn racers_of(alloc: Global, workers: &[Worker]) -> Result<Vec<RacerKind>, NoMemory>
+pub(crate) fn racers_of(alloc: Global, workers: &[Worker]) -> Result<Vec<RacerKind>, NoMemory>
     ensures { IfOk result (λ racers. map worker_of racers.items ≡ workers.now) }
 {
     let mut racers = Vec::new(alloc);
@@ -26,15 +39,111 @@ fn racers_of(alloc: Global, workers: &[Worker]) -> Result<Vec<RacerKind>, NoMemo
     Ok(racers)
 }
 
-/// The record of the auction of this scenario and book, each round of which tests the stations by volume. Each query is
-/// tried by the solvers of the scenario's workers, one after another on this thread. The only error is want of memory.
-pub fn run_auction(alloc: Global, sc: &Scenario, book: &Book) -> Result<Record, NoMemory>
+// How many racers there are.
+fn count_of(racers: &[RacerKind]) -> u32
+    requires { length racers.now ≤ 16 }
+    ensures { result ≡ length racers.now }
+{
+    racers.len() as u32
+}
+
+// What a wave leaves: whether memory ran out for each worker, and the passes and racers in order.
+#[derive(Drop)]
+struct AfterWave {
+    done: Result<(), NoMemory>,
+    passes: Vec<Pass>,
+    racers: Vec<RacerKind>,
+}
+
+// A wave of the workers of a new board.
+fn waved<G: Gate + Sync, W: Threads + Wait + Sync>(
+    rt: &W,
+    alloc: Global,
+    board: &Board,
+    book: &Book,
+    passes: Vec<Pass>,
+    racers: Vec<RacerKind>,
+    room: Room,
+    gate: &G,
+) -> AfterWave
+    requires book { book.now ≡ (raised board.now).book }
+    requires all { AreAllOn board.now (map standing passes.items) }
+    requires idle { AllOf IsIdle passes.items }
+    requires new { map known_of passes.items ≡ each_new (numbered (raised board.now).history) (length racers.items) }
+    requires racers { map worker_of racers.items ≡ (raised board.now).scenario.workers }
+    requires room { IsRoomFor (length racers.items) room }
+    ensures all { AreAllOn board.now (map standing result.passes.items) }
+    ensures idle { AllOf IsIdle result.passes.items }
+    ensures racers { map worker_of result.racers.items ≡ map worker_of racers.items }
+{
+    let Room {
+        runners,
+        passes: passes_left,
+        racers: racers_left,
+    } = room;
+    let mut runners = mustered(board, passes, racers, runners);
+    let done = wave(rt, alloc, board, book, &mut runners, gate);
+    let (passes, racers) = parted(runners, passes_left, racers_left);
+    AfterWave {
+        done,
+        passes,
+        racers,
+    }
+}
+
+// The auction after a wave of its workers, and their racers.
+fn raced<G: Gate + Sync, W: Threads + Wait + Sync>(
+    rt: &W,
+    alloc: Global,
+    book: &Book,
+    auction: Auction,
+    racers: Vec<RacerKind>,
+    gate: &G,
+) -> Result<(Auction, Vec<RacerKind>), NoMemory>
+    requires book { auction.book ≡ book.now }
+    requires racers { map worker_of racers.items ≡ auction.scenario.workers }
+    requires some { 1 ≤ length racers.items }
+    requires few { length racers.items ≤ 16 }
+    ensures setup { IfOk result (λ r. setup_of r.0 ≡ setup_of auction) }
+    ensures goes_on { IfOk result (λ r. GoesOn auction.scenario auction.state r.0.state) }
+    ensures racers { IfOk result (λ r. map worker_of r.1.items ≡ map worker_of racers.items) }
+{
+    // With its count of postings an auction says what its history replays to.
+    let _ = auction.posted();
+    let count = count_of(&racers);
+    let room = room_for(alloc, count)?;
+    let Ok((board, passes)) = Board::raise(alloc, auction, count) else {
+        return Err(NoMemory);
+    };
+    let AfterWave {
+        done,
+        passes,
+        racers,
+    } = waved(rt, alloc, &board, book, passes, racers, room, gate);
+    let auction = board.close(passes);
+    let _ = auction.posted();
+    done?;
+    Ok((auction, racers))
+}
+
+/// The record of the auction of this scenario and book, each round of which tests the stations by volume. The solvers of the
+/// scenario's workers race on a board for its queries, each in a thread of its own where one can be made; after each race
+/// they try the standing query one after another on this thread; and so on, until the auction has ended. The only error is
+/// want of memory.
+pub fn run_auction<G: Gate + Sync, W: Threads + Wait + Sync>(
+    rt: &W,
+    alloc: Global,
+    sc: &Scenario,
+    book: &Book,
+    gate: &G,
+) -> Result<Record, NoMemory>
     requires { IsOfAuction sc.now book.now }
     ensures { IfOk result (IsBacked sc.now book.now Order.ByVolume) }
 {
     let mut racers = racers_of(alloc, sc.workers.as_slice())?;
     let mut auction = Auction::start(alloc, sc, book, Order::ByVolume)?;
-    while !auction.ended() {
+    'waves: while !auction.ended() {
+        (auction, racers) = raced(rt, alloc, book, auction, racers, gate)?;
         serial_turn(alloc, &mut auction, &mut racers)?;
     }
     let record = auction.into_result(alloc, sc.copy(alloc)?)?;

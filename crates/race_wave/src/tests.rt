@@ -1,4 +1,4 @@
-//! Tests of turns and whole auctions, with racers that answer in ways of their own.
+//! Tests of whole auctions.
 
 ghost use Rattle.std.specs.Prelude.{◌≡◌, ◌≤◌, ◌∷◌, []};
 ghost use Rattle.pack_defs.specs.Scenario.{IsWithinLimits, facilities};
@@ -9,31 +9,43 @@ use auction_core::record::{Ending, Record, Shown, Step};
 use cert_types::answer::Refutation;
 use pack_defs::channel_map::ChannelMap;
 use pack_defs::scenario::Scenario;
+use solver_gate::gate::{EmptyGate, Gate};
 use std::alloc::{AllocError as NoMemory, Global};
+use std::sync::Wait;
 use std::test::Fail;
+use std::thread::Threads;
 
-// How a test was settled: by a fit, by the proof of a worker, by no worker, or otherwise.
-#[derive(Clone, Copy, PartialEq, Eq)]
-enum By {
+// How a test is settled: by a fit, by a proof, by a proof of this worker, or by no worker.
+#[derive(Clone, Copy)]
+pub(crate) enum By {
     Fit,
-    Proof(u32),
+    Proof,
+    ProofOf(u32),
     None,
-    Other,
 }
 
-fn settled_by(shown: &Shown) -> By {
-    match shown {
-        Shown::Fits(_) => By::Fit,
-        Shown::Refuted {
-            worker,
-            how: Refutation::Proof { .. },
-        } => By::Proof(*worker),
-        Shown::Undecided(_) => By::None,
-        _ => By::Other,
+fn is_settled(shown: &Shown, by: By) -> bool {
+    match (shown, by) {
+        (Shown::Fits(_), By::Fit) | (Shown::Undecided(_), By::None) => true,
+        (
+            Shown::Refuted {
+                worker: _,
+                how: Refutation::Proof { .. },
+            },
+            By::Proof,
+        ) => true,
+        (
+            Shown::Refuted {
+                worker,
+                how: Refutation::Proof { .. },
+            },
+            By::ProofOf(of),
+        ) => *worker == of,
+        _ => false,
     }
 }
 
-// The round and the station of a test, and how it was settled.
+// The round and the station of a test, and how it is settled.
 type Test = (u32, u32, By);
 
 // Whether the steps are of these tests, in order.
@@ -43,7 +55,8 @@ fn are_of(steps: &[Step], tests: &[Test]) -> bool {
     }
     for i in 0..steps.len() {
         let step = &steps[i];
-        if (step.round, step.station, settled_by(&step.shown)) != tests[i] {
+        let (round, station, by) = tests[i];
+        if step.round != round || step.station != station || !is_settled(&step.shown, by) {
             return false;
         }
     }
@@ -65,8 +78,10 @@ fn is_end(record: &Record, ending: Ending, total: u64, tests: &[Test]) -> bool {
 }
 
 // Whether the auction of these three stations ends so.
-fn ends(
+fn ends<G: Gate + Sync, W: Threads + Wait + Sync>(
+    rt: &W,
     alloc: Global,
+    gate: &G,
     sc: &Scenario,
     ending: Ending,
     total: u64,
@@ -76,12 +91,18 @@ fn ends(
     requires stations { facilities sc.now ≡ 1 ∷ 2 ∷ 3 ∷ [] }
 {
     let book = three_stations(alloc)?;
-    let record = run_auction(alloc, sc, &book)?;
+    let record = run_auction(rt, alloc, sc, &book, gate)?;
     Ok(is_end(&record, ending, total, tests))
 }
 
 // Whether station 3 is frozen at 60 cents, with its last test settled so.
-fn freezes(alloc: Global, sc: &Scenario, last: By) -> Result<bool, NoMemory>
+pub(crate) fn freezes<G: Gate + Sync, W: Threads + Wait + Sync>(
+    rt: &W,
+    alloc: Global,
+    gate: &G,
+    sc: &Scenario,
+    last: By,
+) -> Result<bool, NoMemory>
     requires limits { IsWithinLimits sc.now }
     requires stations { facilities sc.now ≡ 1 ∷ 2 ∷ 3 ∷ [] }
 {
@@ -92,42 +113,64 @@ fn freezes(alloc: Global, sc: &Scenario, last: By) -> Result<bool, NoMemory>
         (2, 1, By::Fit),
         (2, 3, last),
     ];
-    ends(alloc, sc, Ending::Done, 60, &tests)
+    ends(rt, alloc, gate, sc, Ending::Done, 60, &tests)
 }
 
 // The same of the auction by one worker of this budget.
-fn one_freezes(alloc: Global, budget: u32, last: By) -> Result<bool, NoMemory>
+fn one_freezes<W: Threads + Wait + Sync>(
+    rt: &W,
+    alloc: Global,
+    budget: u32,
+    last: By,
+) -> Result<bool, NoMemory>
     requires some { 1 ≤ budget }
     requires few { budget ≤ 1000 }
 {
     let sc = three_bids(alloc, vec![in alloc; learner(budget)]?, 1)?;
-    freezes(alloc, &sc, last)
+    freezes(rt, alloc, &EmptyGate, &sc, last)
 }
 
 // The same of the auction by two workers of these budgets.
-fn two_freeze(alloc: Global, first: u32, second: u32, last: By) -> Result<bool, NoMemory>
+fn two_freeze<W: Threads + Wait + Sync>(
+    rt: &W,
+    alloc: Global,
+    first: u32,
+    second: u32,
+    last: By,
+) -> Result<bool, NoMemory>
     requires some { 1 ≤ first }
     requires some_second { 1 ≤ second }
     requires few { first ≤ 1000 }
     requires few_second { second ≤ 1000 }
 {
     let sc = three_bids(alloc, vec![in alloc; learner(first), learner(second)]?, 1)?;
-    freezes(alloc, &sc, last)
+    freezes(rt, alloc, &EmptyGate, &sc, last)
 }
 
 #[test]
 fn three_stations_are_asked_by_a_worker(rt: HostRuntime) -> Result<(), Fail> {
-    assert!(rt; one_freezes(rt.alloc(), 1000, By::Proof(0))?);
-    assert!(rt; one_freezes(rt.alloc(), 1, By::None)?);
+    assert!(rt; one_freezes(&rt, rt.alloc(), 1000, By::ProofOf(0))?);
+    assert!(rt; one_freezes(&rt, rt.alloc(), 1, By::None)?);
     Ok(())
 }
 
-// Neither decides the last test, or the first does, or the second what the first did not.
+// Neither decides the last test, or either does, or the second what the first did not.
 #[test]
 fn three_stations_are_asked_by_two_workers(rt: HostRuntime) -> Result<(), Fail> {
-    assert!(rt; two_freeze(rt.alloc(), 1, 1, By::None)?);
-    assert!(rt; two_freeze(rt.alloc(), 1000, 1000, By::Proof(0))?);
-    assert!(rt; two_freeze(rt.alloc(), 1, 1000, By::Proof(1))?);
+    assert!(rt; two_freeze(&rt, rt.alloc(), 1, 1, By::None)?);
+    assert!(rt; two_freeze(&rt, rt.alloc(), 1000, 1000, By::Proof)?);
+    assert!(rt; two_freeze(&rt, rt.alloc(), 1, 1000, By::ProofOf(1))?);
+    Ok(())
+}
+
+// As many workers as a scenario may have.
+#[test]
+fn three_stations_are_asked_by_sixteen_workers(rt: HostRuntime) -> Result<(), Fail> {
+    let alloc = rt.alloc();
+    let w = learner(1000);
+    let workers = vec![in alloc; w, w, w, w, w, w, w, w, w, w, w, w, w, w, w, w]?;
+    let sc = three_bids(alloc, workers, 1)?;
+    assert!(rt; freezes(&rt, alloc, &EmptyGate, &sc, By::Proof)?);
     Ok(())
 }
 
@@ -142,24 +185,29 @@ fn greater_volumes_are_tested_first(rt: HostRuntime) -> Result<(), Fail> {
         (1, 2, By::Fit),
         (2, 3, By::Fit),
         (2, 1, By::Fit),
-        (3, 3, By::Proof(0)),
+        (3, 3, By::Proof),
     ];
-    assert!(rt; ends(alloc, &sc, Ending::Done, 40, &tests)?);
+    assert!(rt; ends(&rt, alloc, &EmptyGate, &sc, Ending::Done, 40, &tests)?);
     Ok(())
 }
 
 // Whether the auction whose stations all start on air ends so, by one worker of this budget.
-fn start_ends(alloc: Global, budget: u32, ending: Ending) -> Result<bool, NoMemory>
+fn start_ends<W: Threads + Wait + Sync>(
+    rt: &W,
+    alloc: Global,
+    budget: u32,
+    ending: Ending,
+) -> Result<bool, NoMemory>
     requires some { 1 ≤ budget }
     requires few { budget ≤ 1000 }
 {
     let sc = all_on_air(alloc, vec![in alloc; learner(budget)]?)?;
-    ends(alloc, &sc, ending, 0, &[])
+    ends(rt, alloc, &EmptyGate, &sc, ending, 0, &[])
 }
 
 #[test]
 fn the_start_does_not_fit(rt: HostRuntime) -> Result<(), Fail> {
-    assert!(rt; start_ends(rt.alloc(), 1000, Ending::StartRefuted)?);
-    assert!(rt; start_ends(rt.alloc(), 1, Ending::StartUndecided)?);
+    assert!(rt; start_ends(&rt, rt.alloc(), 1000, Ending::StartRefuted)?);
+    assert!(rt; start_ends(&rt, rt.alloc(), 1, Ending::StartUndecided)?);
     Ok(())
 }

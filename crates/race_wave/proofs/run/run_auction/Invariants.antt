@@ -4,13 +4,13 @@ use Rattle.solver_gate.specs.Racers.{worker_of}
 use Rattle.auction_core.specs.State.{queries_left}
 use Rattle.race_wave.proofs.run.run_auction.Given as goal
 
-abbrev pub invariant-loop-alloc : goal.invariant-loop-alloc
-invariant-loop-alloc l = record {
+abbrev pub invariant-waves : goal.invariant-waves
+invariant-waves g l = record {
   scenario : l.auction.scenario ≡ l.sc;
   book : l.auction.book ≡ l.book;
   order : l.auction.state.order ≡ ByVolume;
   racers : map worker_of l.racers.items ≡ l.sc.workers;
 }
 
-abbrev pub decreases-loop-alloc : goal.decreases-loop-alloc
-decreases-loop-alloc l = queries_left l.auction.scenario l.auction.state
+abbrev pub decreases-waves : goal.decreases-waves
+decreases-waves g l = queries_left l.auction.scenario l.auction.state

@@ -1,0 +1,200 @@
+-- The workers of a wave, before and after it.
+use Rattle.std.proofs.Common.{◌≡◌, ◌∙◌, ℕ, zero, suc, ◌<◌, List, [], ◌∷◌, ◌++◌, length, map, take, drop, get_or, Some, refl, sym, ap, subst, arith, All}
+use Rattle.std.specs.Prelude.{slice_get}
+use Rattle.std.specs.List.{AllZip}
+use Rattle.std.proofs.lemmas.Option.{slice_get-get_or}
+use mathlib.Core.Logic.{dite}
+use native.Mathlib.Decide.{ℕ_discrete}
+use Rattle.pack_defs.specs.declared.worker.Worker.{Worker}
+use Rattle.auction_core.specs.Replay.{EntryView}
+use Rattle.auction_core.specs.Setup.{SetupView}
+use Rattle.turn_lock.specs.declared.chronicle.Known.{Known}
+use Rattle.turn_lock.specs.Passes.{IsIdle, StandsAt, known_of, number_of, standing}
+use Rattle.turn_lock.specs.Turns.{AllOf, each_new, known}
+use Rattle.answer_board.specs.contracts.kept.KeptChronicle.TheImpl.{ghosts}
+use Rattle.answer_board.specs.declared.board.Board.{Board}
+use Rattle.answer_board.specs.declared.kept.Kept.{Kept}
+use Rattle.turn_lock.specs.declared.lock.Pass.{Pass}
+use Rattle.pack_defs.specs.Book.{BookView}
+use Rattle.pack_defs.specs.declared.scenario.Scenario.{Scenario}
+use Rattle.auction_core.specs.Auction.{AuctionView}
+use Rattle.answer_board.specs.Boards.{AreAllOn, IsPassOn, kept_base, kept_entries, raised}
+use Rattle.answer_board.specs.Entries.{numbered}
+use Rattle.race_wave.specs.declared.runner.Runner.{Runner}
+use Rattle.race_wave.specs.Waves.{HasRaced, IsRunner}
+
+-- ---- lists
+
+all-at : {X : Type 0} (P : X → Type 0) (xs : List X) (i : ℕ) (d : X) → AllOf P xs → i < length xs → P (get_or xs i d)
+all-at P [] i d h lt = absurd (omega arith)
+all-at P (x ∷ xs) zero d h lt = h.0
+all-at P (x ∷ xs) (suc i) d h lt = all-at P xs i d h.1 (omega arith)
+
+get-map : {X Y : Type 0} (f : X → Y) (xs : List X) (i : ℕ) (d : X) → get_or (map f xs) i (f d) ≡ f (get_or xs i d)
+get-map f [] i d = refl
+get-map f (x ∷ xs) zero d = refl
+get-map f (x ∷ xs) (suc i) d = get-map f xs i d
+
+long-map : {X Y : Type 0} (f : X → Y) (xs : List X) → length (map f xs) ≡ length xs
+long-map f [] = refl
+long-map f (x ∷ xs) = ap suc (long-map f xs)
+
+map-map : {X Y Z : Type 0} (f : X → Y) (g : Y → Z) (xs : List X) → map g (map f xs) ≡ map (λ x. g (f x)) xs
+map-map f g [] = refl
+map-map f g (x ∷ xs) = ap (λ l. g (f x) ∷ l) (map-map f g xs)
+
+get-left : {X : Type 0} (xs ys : List X) (i : ℕ) (d : X) → i < length xs → get_or (xs ++ ys) i d ≡ get_or xs i d
+get-left [] ys i d lt = absurd (omega arith)
+get-left (x ∷ xs) ys zero d lt = refl
+get-left (x ∷ xs) ys (suc i) d lt = get-left xs ys i d (omega arith)
+
+get-last : {X : Type 0} (xs : List X) (y d : X) → get_or (xs ++ y ∷ []) (length xs) d ≡ y
+get-last [] y d = refl
+get-last (x ∷ xs) y d = get-last xs y d
+
+long-new : (start : List (ℕ × EntryView)) (n : ℕ) → length (each_new start n) ≡ n
+long-new start zero = refl
+long-new start (suc n) = long-more (each_new start n) (known n start []) ∙ ap suc (long-new start n)
+  where
+    long-more : {A : Type 0} (xs : List A) (x : A) → length (xs ++ x ∷ []) ≡ suc (length xs)
+    long-more [] x = refl
+    long-more (y ∷ ys) x = ap suc (long-more ys x)
+
+pub new-many : {X : Type 0} (f : X → Known EntryView) (xs : List X) (start : List (ℕ × EntryView)) (n : ℕ) → map f xs ≡ each_new start n → length xs ≡ n
+new-many f xs start n e = sym (long-map f xs) ∙ (ap length e ∙ long-new start n)
+
+-- the new pass at a place has that number
+new-at : (start : List (ℕ × EntryView)) (n i : ℕ) (d : Known EntryView) → i < n → (get_or (each_new start n) i d).number ≡ i
+new-at start zero i d lt = absurd (omega arith)
+new-at start (suc n) i d lt = dite (ℕ_discrete i n)
+    (λ e. ap (λ (k : ℕ). (get_or (each_new start n ++ known n start [] ∷ []) k d).number) (e ∙ sym (long-new start n)) ∙ (ap (λ (k : Known EntryView). k.number) (get-last (each_new start n) (known n start []) d) ∙ sym e))
+    (λ ne. let below : i < n = omega arith in
+    let long = long-new start n in
+    ap (λ (k : Known EntryView). k.number) (get-left (each_new start n) (known n start [] ∷ []) i d (omega arith)) ∙ new-at start n i d below)
+
+take-left : {X : Type 0} (xs ys : List X) → take (length xs) (xs ++ ys) ≡ xs
+take-left [] ys = refl
+take-left (x ∷ xs) ys = ap (λ l. x ∷ l) (take-left xs ys)
+
+-- a list that was changed in place through all of it
+pub spliced : {X : Type 0} (n : ℕ) (xs ys zs : List X) → n ≡ length xs → length ys ≡ length xs → take n (ys ++ zs) ≡ ys
+spliced n xs ys zs e f = ap (λ k. take k (ys ++ zs)) (e ∙ sym f) ∙ take-left ys zs
+
+-- a list that was lent, whose elements come back as others of the same image
+pub turned-list : {X Y : Type 0} (f : X → Y) (n : ℕ) (xs ys : List X) → n ≡ length xs → map f ys ≡ map f xs → take n (ys ++ drop (length ys) xs) ≡ ys
+turned-list f n xs ys e h = spliced n xs ys (drop (length ys) xs) e (sym (long-map f ys) ∙ (ap (λ l. length l) h ∙ long-map f xs))
+
+module _ {R : Type 0} (w : R → Worker) (board : Board) where
+  -- the passes of a new board, each with the racer of its worker
+  pub runners-of : (start : List (ℕ × EntryView)) (n : ℕ) (workers : List Worker) (xs : List (Runner R))
+      → AreAllOn board (map standing (map (λ r. r.pass) xs)) → AllOf IsIdle (map (λ r. r.pass) xs) → map known_of (map (λ r. r.pass) xs) ≡ each_new start n → map w (map (λ r. r.racer) xs) ≡ workers → (raised board).scenario.workers ≡ workers
+      → All (λ r. IsRunner board r.pass (w r.racer)) xs
+  runners-of start n workers xs all idle new racers of k d lt =
+      let r : Runner R = get_or xs k d in
+      let own : AllOf (λ (x : Runner R). IsPassOn board x.pass) xs = all-from xs all.own in
+      let rest : AllOf (λ (x : Runner R). IsIdle x.pass) xs = idle-from xs idle in
+      let knowns : map (λ (x : Runner R). known_of x.pass) xs ≡ each_new start n = sym (map-map (λ (x : Runner R). x.pass) known_of xs) ∙ new in
+      let many : length xs ≡ n = sym (long-map (λ (x : Runner R). known_of x.pass) xs) ∙ (ap length knowns ∙ long-new start n) in
+      let number : number_of r.pass ≡ k = ap (λ (x : Known EntryView). x.number) (sym (get-map (λ (x : Runner R). known_of x.pass) xs k d)) ∙ (ap (λ l. (get_or l k (known_of d.pass)).number) knowns ∙ new-at start n k (known_of d.pass) (omega arith)) in
+      let mine : map (λ (x : Runner R). w x.racer) xs ≡ (raised board).scenario.workers = sym (map-map (λ (x : Runner R). x.racer) w xs) ∙ (racers ∙ sym of) in
+      let at : slice_get (map (λ (x : Runner R). w x.racer) xs) k ≡ Some (w r.racer) = slice_get-get_or (map (λ (x : Runner R). w x.racer) xs) k (w d.racer) (let long = long-map (λ (x : Runner R). w x.racer) xs in omega arith) ∙ ap (λ x. Some x) (get-map (λ (x : Runner R). w x.racer) xs k d) in
+      record {
+        own = all-at (λ (x : Runner R). IsPassOn board x.pass) xs k d own lt;
+        idle = all-at (λ (x : Runner R). IsIdle x.pass) xs k d rest lt;
+        of = ap (slice_get (raised board).scenario.workers) number ∙ (ap (λ l. slice_get l k) (sym mine) ∙ at);
+      }
+    where
+      all-from : (ys : List (Runner R)) → AllOf (StandsAt kept_base kept_entries board.lock) (map standing (map (λ r. r.pass) ys)) → AllOf (λ (x : Runner R). IsPassOn board x.pass) ys
+      all-from [] h = tt
+      all-from (y ∷ ys) h = (h.0, all-from ys h.1)
+
+      idle-from : (ys : List (Runner R)) → AllOf IsIdle (map (λ r. r.pass) ys) → AllOf (λ (x : Runner R). IsIdle x.pass) ys
+      idle-from [] h = tt
+      idle-from (y ∷ ys) h = (h.0, idle-from ys h.1)
+
+  -- what a wave leaves as it was
+  pub raced-standing : (xs ys : List (Runner R)) → AllZip (HasRaced w board) xs ys → map standing (map (λ r. r.pass) ys) ≡ map standing (map (λ r. r.pass) xs)
+  raced-standing [] [] h = refl
+  raced-standing [] (y ∷ ys) h = absurd h
+  raced-standing (x ∷ xs) [] h = absurd h
+  raced-standing (x ∷ xs) (y ∷ ys) h = cong-cons h.0.same.stands (raced-standing xs ys h.1)
+    where
+      cong-cons : {A : Type 0} {a b : A} {l m : List A} → a ≡ b → l ≡ m → a ∷ l ≡ b ∷ m
+      cong-cons e f = λ i. e i ∷ f i
+
+  pub raced-workers : (xs ys : List (Runner R)) → AllZip (HasRaced w board) xs ys → map w (map (λ r. r.racer) ys) ≡ map w (map (λ r. r.racer) xs)
+  raced-workers [] [] h = refl
+  raced-workers [] (y ∷ ys) h = absurd h
+  raced-workers (x ∷ xs) [] h = absurd h
+  raced-workers (x ∷ xs) (y ∷ ys) h = let e = h.0.worker in let f = raced-workers xs ys h.1 in λ i. e i ∷ f i
+
+  pub raced-idle : (xs ys : List (Runner R)) → AllZip (HasRaced w board) xs ys → AllOf IsIdle (map (λ r. r.pass) ys)
+  raced-idle [] [] h = tt
+  raced-idle [] (y ∷ ys) h = absurd h
+  raced-idle (x ∷ xs) [] h = absurd h
+  raced-idle (x ∷ xs) (y ∷ ys) h = (h.0.runner.idle, raced-idle xs ys h.1)
+
+  pub raced-long : (xs ys : List (Runner R)) → AllZip (HasRaced w board) xs ys → length ys ≡ length xs
+  raced-long [] [] h = refl
+  raced-long [] (y ∷ ys) h = absurd h
+  raced-long (x ∷ xs) [] h = absurd h
+  raced-long (x ∷ xs) (y ∷ ys) h = ap suc (raced-long xs ys h.1)
+
+-- ---- over the passes of a board
+
+abbrev BoardPass : Type 0
+BoardPass = Pass Kept SetupView EntryView ghosts
+
+module _ {R : Type 0} (w : R → Worker) (board : Board) where
+  -- the workers of a new board, before the wave
+  pub before : (n : ℕ) (ps : List BoardPass) (rs : List R) (xs : List (Runner R))
+      → AreAllOn board (map standing ps) → AllOf IsIdle ps → map known_of ps ≡ each_new (numbered (raised board).history) n → map w rs ≡ (raised board).scenario.workers
+      → map (λ (r : Runner R). r.pass) xs ≡ ps → map (λ (r : Runner R). r.racer) xs ≡ rs
+      → All (λ r. IsRunner board r.pass (w r.racer)) xs
+  before n ps rs xs all idle new racers passes solvers =
+      runners-of w board (numbered (raised board).history) n (raised board).scenario.workers xs
+      (subst (λ (l : List BoardPass). AreAllOn board (map standing l)) (sym passes) all)
+      (subst (λ (l : List BoardPass). AllOf IsIdle l) (sym passes) idle)
+      (subst (λ (l : List BoardPass). map known_of l ≡ each_new (numbered (raised board).history) n) (sym passes) new)
+      (ap (map w) solvers ∙ racers)
+      refl
+
+  pub as-many : (ps : List BoardPass) (n : ℕ) → map known_of ps ≡ each_new (numbered (raised board).history) n → length ps ≡ n
+  as-many ps n e = new-many known_of ps (numbered (raised board).history) n e
+
+  -- what a wave leaves of the workers, in the list that it was given
+  pub after-wave : (n : ℕ) (xs zs ys rest : List (Runner R)) → n ≡ length xs → zs ≡ xs → AllZip (HasRaced w board) zs ys
+      → (AllZip (HasRaced w board) xs (take n (ys ++ rest))) × (take n (ys ++ rest) ≡ ys)
+  after-wave n xs zs ys rest long same raced =
+      let zip : AllZip (HasRaced w board) xs ys = subst (λ (l : List (Runner R)). AllZip (HasRaced w board) l ys) same raced in
+      let is : take n (ys ++ rest) ≡ ys = spliced n xs ys rest long (raced-long w board xs ys zip) in
+      (subst (λ (l : List (Runner R)). AllZip (HasRaced w board) xs l) (sym is) zip, is)
+
+  -- as many workers after it
+  pub after-many : (rs : List R) (xs ys : List (Runner R)) → map (λ (r : Runner R). r.racer) xs ≡ rs → AllZip (HasRaced w board) xs ys → length ys ≡ length rs
+  after-many rs xs ys solvers raced =
+      raced-long w board xs ys raced ∙ (sym (long-map (λ (r : Runner R). r.racer) xs) ∙ ap (λ (l : List R). length l) solvers)
+
+  -- all passes are there after it
+  pub after-all : (ps ls : List BoardPass) (xs ys : List (Runner R)) → AreAllOn board (map standing ps)
+      → map (λ (r : Runner R). r.pass) xs ≡ ps → AllZip (HasRaced w board) xs ys → ls ≡ map (λ (r : Runner R). r.pass) ys
+      → AreAllOn board (map standing ls)
+  after-all ps ls xs ys all passes raced left =
+      let e : map standing ls ≡ map standing ps = ap (λ (l : List BoardPass). map standing l) left ∙ (raced-standing w board xs ys raced
+      ∙ ap (λ (l : List BoardPass). map standing l) passes) in
+      subst (λ ss. AreAllOn board ss) (sym e) all
+
+  pub after-idle : (ls : List BoardPass) (xs ys : List (Runner R)) → AllZip (HasRaced w board) xs ys → ls ≡ map (λ (r : Runner R). r.pass) ys → AllOf IsIdle ls
+  after-idle ls xs ys raced left = subst (λ (l : List BoardPass). AllOf IsIdle l) (sym left) (raced-idle w board xs ys raced)
+
+  pub after-workers : (rs ls : List R) (xs ys : List (Runner R)) → map (λ (r : Runner R). r.racer) xs ≡ rs → AllZip (HasRaced w board) xs ys → ls ≡ map (λ (r : Runner R). r.racer) ys → map w ls ≡ map w rs
+  after-workers rs ls xs ys solvers raced left =
+      ap (map w) left ∙ (raced-workers w board xs ys raced ∙ ap (map w) solvers)
+
+-- the passes of a board that was just raised
+pub new-passes : (made auction : AuctionView) (ks : List (Known EntryView)) (n m : ℕ) → ks ≡ each_new (numbered auction.history) n → n ≡ m → made ≡ auction → ks ≡ each_new (numbered made.history) m
+new-passes made auction ks n m e same over = e ∙ (ap (λ k. each_new (numbered auction.history) k) same ∙ ap (λ (a : AuctionView). each_new (numbered a.history) m) (sym over))
+
+-- there are as many workers as racers
+pub as-many-workers : {R : Type 0} (w : R → Worker) (rs : List R) (workers : List Worker) → map w rs ≡ workers → length workers ≡ length rs
+as-many-workers w rs workers e = sym (ap (λ (l : List Worker). length l) e) ∙ long-map w rs

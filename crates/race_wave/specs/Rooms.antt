@@ -1,0 +1,12 @@
+-- Room for the workers of a wave.
+use Rattle.std.specs.Prelude.{◌≡◌, ◌≤◌, [], ℕ, vec_capacity}
+use Rattle.race_wave.specs.declared.parting.Room.{Room}
+
+-- three empty lists, each with room for as many
+pub record IsRoomFor (count : ℕ) (room : Room) : Type 0 where
+  pub no_runners : room.runners.items ≡ []
+  pub no_passes : room.passes.items ≡ []
+  pub no_racers : room.racers.items ≡ []
+  pub runners : count ≤ vec_capacity room.runners
+  pub passes : count ≤ vec_capacity room.passes
+  pub racers : count ≤ vec_capacity room.racers

@@ -1,0 +1,29 @@
+-- What a worker's poll may come to.
+use Rattle.std.specs.Prelude.{◌≡◌, ℕ, List, Some, option_map}
+use Rattle.pack_defs.specs.Book.{BookView}
+use Rattle.pack_defs.specs.declared.scenario.Scenario.{Scenario}
+use Rattle.auction_core.specs.Replay.{EntryView}
+use Rattle.auction_core.specs.Setup.{SetupView}
+use Rattle.turn_lock.specs.declared.chronicle.Chronicle.{Ghosts}
+use Rattle.turn_lock.specs.declared.lock.Pass.{Pass}
+use Rattle.turn_lock.specs.Passes.{IsLegal, mine_of, seen_of, standing}
+use Rattle.turn_lock.specs.Turns.{StartsWith}
+use Rattle.answer_board.specs.declared.board.Board.{Board}
+use Rattle.answer_board.specs.declared.kept.Kept.{Kept}
+use Rattle.answer_board.specs.Boards.{raised}
+use Rattle.answer_board.specs.Posts.{left_by}
+
+-- the history leaves a state in which this is the number of the standing query
+abbrev pub IsNumberAfter : Board → List (ℕ × EntryView) → ℕ → Type 0
+IsNumberAfter board seen number = option_map (λ state. state.number) (left_by (raised board) seen) ≡ Some number
+
+module _ {N : Type 0} {G : Ghosts Kept SetupView EntryView} where
+  -- the poll is over the same board, and of the same pass, which has the same number and made no posting, has seen what it had
+  -- seen, and knows rightly which entries are its own
+  pub record Goes (board : Board) (name : N) (old : Pass Kept SetupView EntryView G) (board' : Board) (name' : N) (new : Pass Kept SetupView EntryView G) : Type 0 where
+    pub board_is : board' ≡ board
+    pub name_is : name' ≡ name
+    pub stands : standing new ≡ standing old
+    pub seen : StartsWith (seen_of new) (seen_of old)
+    pub mine : mine_of new ≡ mine_of old
+    pub legal : IsLegal old → IsLegal new

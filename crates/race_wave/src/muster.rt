@@ -1,0 +1,55 @@
+//! The workers of a wave, put together of passes and racers.
+
+ghost use Rattle.std.specs.Prelude.{◌≡◌, ◌≤◌, All, [], length, map, vec_capacity};
+ghost use Rattle.turn_lock.specs.Passes.{IsIdle, known_of, standing};
+ghost use Rattle.turn_lock.specs.Turns.{AllOf, each_new};
+ghost use Rattle.answer_board.specs.Boards.{AreAllOn, raised};
+ghost use Rattle.answer_board.specs.Entries.{numbered};
+ghost use Rattle.race_wave.specs.Waves.{IsRunner};
+
+use crate::runner::Runner;
+use answer_board::board::{Board, Pass};
+use solver_gate::racer::Racer;
+
+// The passes with the racers, in order.
+fn joined<R: Drop>(passes: Vec<Pass>, racers: Vec<R>, mut runners: Vec<Runner<R>>) -> Vec<Runner<R>>
+    requires equal { length passes.items ≡ length racers.items }
+    requires empty { runners.items ≡ [] }
+    requires room { length passes.items ≤ vec_capacity runners }
+    ensures passes { map (λ r. r.pass) result.items ≡ passes.items }
+    ensures racers { map (λ r. r.racer) result.items ≡ racers.items }
+{
+    let mut rest = racers.into_iter();
+    for pass in passes {
+        let Some(racer) = rest.next() else {
+            unreachable!()
+        };
+        runners.push_reserved(Runner {
+            pass,
+            racer,
+            refused: false,
+        });
+    }
+    runners
+}
+
+// The workers of a new board.
+pub(crate) fn mustered<R: Racer + Drop>(
+    board: &Board,
+    passes: Vec<Pass>,
+    racers: Vec<R>,
+    runners: Vec<Runner<R>>,
+) -> Vec<Runner<R>>
+    requires all { AreAllOn board.now (map standing passes.items) }
+    requires idle { AllOf IsIdle passes.items }
+    requires new { map known_of passes.items ≡ each_new (numbered (raised board.now).history) (length racers.items) }
+    requires racers { map R.worker racers.items ≡ (raised board.now).scenario.workers }
+    requires empty { runners.items ≡ [] }
+    requires room { length racers.items ≤ vec_capacity runners }
+    ensures runners { All (λ r. IsRunner board.now r.pass (R.worker r.racer)) result.items }
+    ensures passes { map (λ r. r.pass) result.items ≡ passes.items }
+    ensures racers { map (λ r. r.racer) result.items ≡ racers.items }
+{
+    let _ = board;
+    joined(passes, racers, runners)
+}

@@ -1,0 +1,55 @@
+//! What the workers of a wave are taken apart into.
+
+ghost use Rattle.std.specs.Prelude.{◌≡◌, ◌≤◌, IfOk, [], length, map, vec_capacity};
+ghost use Rattle.race_wave.specs.Rooms.{IsRoomFor};
+
+use crate::runner::Runner;
+use answer_board::board::Pass;
+use solver_gate::racer::RacerKind;
+use std::alloc::{AllocError as NoMemory, Global};
+
+// Room for what the workers of a wave are put into, and for what they are taken apart into.
+#[derive(Drop)]
+pub(crate) struct Room {
+    pub(crate) runners: Vec<Runner<RacerKind>>,
+    pub(crate) passes: Vec<Pass>,
+    pub(crate) racers: Vec<RacerKind>,
+}
+
+// Room for as many workers.
+pub(crate) fn room_for(alloc: Global, count: u32) -> Result<Room, NoMemory>
+    ensures { IfOk result (IsRoomFor count) }
+{
+    let count = count as usize;
+    let runners = Vec::with_capacity(alloc, count)?;
+    let passes = Vec::with_capacity(alloc, count)?;
+    let racers = Vec::with_capacity(alloc, count)?;
+    Ok(Room {
+        runners,
+        passes,
+        racers,
+    })
+}
+
+// The passes and the racers, in order.
+pub(crate) fn parted(
+    runners: Vec<Runner<RacerKind>>,
+    mut passes: Vec<Pass>,
+    mut racers: Vec<RacerKind>,
+) -> (Vec<Pass>, Vec<RacerKind>)
+    requires empty { (passes.items ≡ []) × (racers.items ≡ []) }
+    requires room { (length runners.items ≤ vec_capacity passes) × (length runners.items ≤ vec_capacity racers) }
+    ensures passes { result.0.items ≡ map (λ r. r.pass) runners.items }
+    ensures racers { result.1.items ≡ map (λ r. r.racer) runners.items }
+{
+    for runner in runners {
+        let Runner {
+            pass,
+            racer,
+            refused: _,
+        } = runner;
+        passes.push_reserved(pass);
+        racers.push_reserved(racer);
+    }
+    (passes, racers)
+}

@@ -1,0 +1,23 @@
+//! The poll of a worker on a board.
+
+ghost use Rattle.std.specs.Prelude.{◌≡◌, Some, option_map};
+ghost use Rattle.turn_lock.specs.Passes.{IsIdle, seen_of};
+ghost use Rattle.answer_board.specs.Boards.{IsPassOn, raised};
+ghost use Rattle.answer_board.specs.Posts.{left_by};
+
+use answer_board::board::{Board, Pass};
+use std::sync::Wait;
+
+/// A pass that asks its board which query stands. It waits for its turn. The latest answer is the number that the history leaves
+/// which the pass has seen.
+#[derive(Drop)]
+pub struct Watch<'a, R: Wait> {
+    pub(crate) rt: &'a R,
+    pub(crate) board: &'a Board,
+    pub(crate) pass: &'a mut Pass,
+    /// The latest answer.
+    pub(crate) last: u64,
+    ghost own: { IsPassOn board.now pass.now },
+    ghost idle: { IsIdle pass.now },
+    ghost told: { option_map (λ state. state.number) (left_by (raised board.now) (seen_of pass.now)) ≡ Some last },
+}

@@ -1,0 +1,287 @@
+//! A wave: the workers of an auction try its queries on a board, each in a thread of its own.
+
+ghost use Rattle.std.specs.Prelude.{◌≡◌, ◌≢◌, ◌⊎◌, [], All, IfErr, IfOk, Some, false, true, slice_get, ℕ};
+ghost use Rattle.std.specs.List.{AllZip, list_all};
+ghost use Rattle.std.specs.Thread.{IsSync};
+ghost use Rattle.cert_types.specs.Query.{AttemptIs, IsQuery};
+ghost use Rattle.auction_core.specs.State.{task_of};
+ghost use Rattle.turn_lock.specs.Passes.{IsIdle, IsLegal, mine_of, number_of, seen_of, standing};
+ghost use Rattle.turn_lock.specs.Turns.{StartsWith};
+ghost use Rattle.answer_board.specs.Boards.{IsPassOn, raised};
+ghost use Rattle.answer_board.specs.Posts.{HasStood, Sees};
+ghost use Rattle.cert_types.specs.Valid.{IsValid};
+ghost use Rattle.pack_defs.specs.declared.worker.Worker.{Worker};
+ghost use Rattle.race_wave.specs.Watches.{IsNumberAfter};
+ghost use Rattle.race_wave.specs.Waves.{HasRaced, IsDone, IsRunner, IsSamePass, SaysValid, is_last};
+
+use crate::runner::Runner;
+use crate::serial::let_through;
+use crate::watch::Watch;
+use answer_board::board::{Board, Pass};
+use answer_board::look::Look;
+use auction_core::posting::Reply;
+use cert_types::answer::Answer;
+use cert_types::certified::Certified;
+use cert_types::poll::Attempt;
+use cert_types::task::Task;
+use pack_defs::book::Book;
+use pack_defs::worker::Worker;
+use solver_gate::gate::{Gate, Spot};
+use solver_gate::racer::Racer;
+use std::alloc::{AllocError as NoMemory, Global};
+use std::sync::Wait;
+use std::thread;
+use std::thread::Threads;
+
+/// The workers try the queries of the auction on the board, each in a thread of its own where one can be made: each looks what
+/// stands, tries it, and posts its answer, until the auction has ended, its receipt is noted on the standing query, or memory
+/// runs out for it. No worker has the turn while it tries a query, while its answer is looked at, or while it stands at the
+/// gate. An error comes exactly where there are workers and memory ran out for each; what was posted stands.
+pub fn wave<R: Racer + Send, G: Gate + Sync, W: Threads + Wait + Sync>(
+    rt: &W,
+    alloc: Global,
+    board: &Board,
+    book: &Book,
+    runners: &mut [Runner<R>],
+    gate: &G,
+) -> Result<(), NoMemory>
+    requires book { book.now ≡ (raised board.now).book }
+    requires runners { All (λ r. IsRunner board.now r.pass (R.worker r.racer)) runners.old }
+    ensures raced { AllZip (HasRaced R.worker board.now) runners.old runners.new }
+    ensures refused { IfErr result (λ _. list_all (λ r. r.refused) runners.new ≡ true) }
+    ensures some { IfOk result (λ _. runners.new ≢ [] → list_all (λ r. r.refused) runners.new ≡ false) }
+{
+    let threads = runners.len();
+    if threads == 0 {
+        return Ok(());
+    }
+    let part = |_: usize, runner: &mut Runner<R>|
+        requires { IsSync W.row × IsSync G.row × (book.now ≡ (raised board.now).book) × IsRunner board.now runner.now.pass (R.worker runner.now.racer) }
+        ensures { HasRaced R.worker board.entry.now runner.entry.now runner.exit.now }
+    { run_part(rt, alloc, board, book, runner, gate) };
+    thread::for_each_mut(rt, runners, threads, &part);
+    if are_refused(runners) {
+        return Err(NoMemory);
+    }
+    Ok(())
+}
+
+// Whether each worker stopped for want of memory.
+fn are_refused<R>(runners: &[Runner<R>]) -> bool
+    ensures { result ≡ list_all (λ r. r.refused) runners.now }
+{
+    runners.iter().all(|runner| runner.refused)
+}
+
+// A worker's part of a wave.
+fn run_part<R: Racer, G: Gate, W: Wait>(
+    rt: &W,
+    alloc: Global,
+    board: &Board,
+    book: &Book,
+    runner: &mut Runner<R>,
+    gate: &G,
+)
+    requires book { book.now ≡ (raised board.now).book }
+    requires runner { IsRunner board.now runner.old.pass (R.worker runner.old.racer) }
+    ensures { HasRaced R.worker board.now runner.old runner.new }
+{
+    let done = race(
+        rt,
+        alloc,
+        board,
+        book,
+        &mut runner.pass,
+        &mut runner.racer,
+        gate,
+    );
+    runner.refused = done.is_err();
+}
+
+// How a worker goes on.
+#[derive(Clone, Copy, Debug, PartialEq, Eq)]
+enum Onward {
+    // It looks what stands now.
+    Looks,
+    // It has nothing left to do.
+    Rests,
+}
+
+// A worker's part of a wave, to its end.
+fn race<R: Racer, G: Gate, W: Wait>(
+    rt: &W,
+    alloc: Global,
+    board: &Board,
+    book: &Book,
+    pass: &mut Pass,
+    racer: &mut R,
+    gate: &G,
+) -> Result<(), NoMemory>
+    requires book { book.now ≡ (raised board.now).book }
+    requires runner { IsRunner board.now pass.old (R.worker racer.old) }
+    ensures runner { IsRunner board.now pass.new (R.worker racer.new) }
+    ensures same { IsSamePass pass.old pass.new }
+    ensures legal { IsLegal pass.new }
+    ensures worker { R.worker racer.new ≡ R.worker racer.old }
+    ensures done { IfOk result (λ _. IsDone board.now pass.new) }
+{
+    for _ in rt.forever() {
+        match one_look(rt, alloc, board, book, pass, racer, gate)? {
+            Onward::Looks => {}
+            Onward::Rests => return Ok(()),
+        }
+    }
+    unreachable!()
+}
+
+// The worker looks what stands, tries it, and posts its answer.
+fn one_look<R: Racer, G: Gate, W: Wait>(
+    rt: &W,
+    alloc: Global,
+    board: &Board,
+    book: &Book,
+    pass: &mut Pass,
+    racer: &mut R,
+    gate: &G,
+) -> Result<Onward, NoMemory>
+    requires book { book.now ≡ (raised board.now).book }
+    requires runner { IsRunner board.now pass.old (R.worker racer.old) }
+    ensures runner { IsRunner board.now pass.new (R.worker racer.new) }
+    ensures same { IsSamePass pass.old pass.new }
+    ensures legal { IsLegal pass.new }
+    ensures worker { R.worker racer.new ≡ R.worker racer.old }
+    ensures done { IfOk result (λ onward. onward ≡ Onward.Rests → IsDone board.now pass.new) }
+{
+    match board.look(rt, alloc, pass) {
+        Ok(Look::Task(task)) => tries(rt, alloc, board, book, pass, racer, gate, &task),
+        Ok(Look::Ended) => Ok(Onward::Rests),
+        Err(fault) => Err(fault),
+    }
+}
+
+// The worker tries a query, and posts its answer.
+fn tries<R: Racer, G: Gate, W: Wait>(
+    rt: &W,
+    alloc: Global,
+    board: &Board,
+    book: &Book,
+    pass: &mut Pass,
+    racer: &mut R,
+    gate: &G,
+    task: &Task,
+) -> Result<Onward, NoMemory>
+    requires book { book.now ≡ (raised board.now).book }
+    requires query { IsQuery book.now task.now }
+    requires stood { HasStood (raised board.now) (seen_of pass.old) task.now }
+    requires number { IsNumberAfter board.now (seen_of pass.old) task.now.number }
+    requires legal { IsLegal pass.old }
+    requires runner { IsRunner board.now pass.old (R.worker racer.old) }
+    ensures runner { IsRunner board.now pass.new (R.worker racer.new) }
+    ensures same { IsSamePass pass.old pass.new }
+    ensures legal { IsLegal pass.new }
+    ensures worker { R.worker racer.new ≡ R.worker racer.old }
+    ensures done { IfOk result (λ onward. onward ≡ Onward.Rests → IsDone board.now pass.new) }
+{
+    match attempted(rt, alloc, board, book, pass, racer, task) {
+        Ok(Attempt::Said(answer)) => {
+            let certified = judged(alloc, board, book, pass, task, answer)?;
+            posts(rt, board, pass, gate, task.number, certified)
+        }
+        Ok(Attempt::Moved { now: _ }) => Ok(Onward::Looks),
+        Err(fault) => Err(fault),
+    }
+}
+
+// The answer of the pass's worker, let through.
+fn judged(
+    alloc: Global,
+    board: &Board,
+    book: &Book,
+    pass: &Pass,
+    task: &Task,
+    answer: Answer,
+) -> Result<Certified, NoMemory>
+    requires query { IsQuery book.now task.now }
+    requires valid { (worker : Worker) × (slice_get (raised board.now).scenario.workers (number_of pass.now) ≡ Some worker) × IsValid book.now task.now worker answer }
+    ensures book { IfOk result (λ certified. certified.book ≡ book.now) }
+    ensures task { IfOk result (λ certified. certified.task ≡ task.now) }
+    ensures worker { IfOk result (λ certified. slice_get (raised board.now).scenario.workers (number_of pass.now) ≡ Some certified.worker) }
+{
+    let worker = &board.workers()[pass.number() as usize];
+    let_through(alloc, book, task, worker, answer)
+}
+
+// The racer tries a query, while the pass asks whether it stands still.
+fn attempted<R: Racer, W: Wait>(
+    rt: &W,
+    alloc: Global,
+    board: &Board,
+    book: &Book,
+    pass: &mut Pass,
+    racer: &mut R,
+    task: &Task,
+) -> Result<Attempt, NoMemory>
+    requires query { IsQuery book.now task.now }
+    requires number { IsNumberAfter board.now (seen_of pass.old) task.now.number }
+    requires legal { IsLegal pass.old }
+    requires own { IsPassOn board.now pass.old }
+    requires idle { IsIdle pass.old }
+    ensures own { IsPassOn board.now pass.new }
+    ensures idle { IsIdle pass.new }
+    ensures same { IsSamePass pass.old pass.new }
+    ensures legal { IsLegal pass.new }
+    ensures mine { mine_of pass.new ≡ mine_of pass.old }
+    ensures worker { R.worker racer.new ≡ R.worker racer.old }
+    ensures said { IfOk result (SaysValid book.now task.now (R.worker racer.old)) }
+{
+    let mut watch = Watch {
+        rt,
+        board,
+        pass,
+        last: task.number,
+    };
+    racer.attempt(alloc, book, task, &mut watch)
+}
+
+// The worker posts an answer that was let through, and calls the gate before and after.
+fn posts<G: Gate, W: Wait>(
+    rt: &W,
+    board: &Board,
+    pass: &mut Pass,
+    gate: &G,
+    number: u64,
+    certified: Certified,
+) -> Result<Onward, NoMemory>
+    requires own { IsPassOn board.now pass.old }
+    requires idle { IsIdle pass.old }
+    requires book { certified.book ≡ (raised board.now).book }
+    requires worker { slice_get (raised board.now).scenario.workers (number_of pass.old) ≡ Some certified.worker }
+    requires stood { HasStood (raised board.now) (seen_of pass.old) certified.task }
+    requires number { number ≡ certified.task.number }
+    ensures own { IsPassOn board.now pass.new }
+    ensures idle { IsIdle pass.new }
+    ensures same { IsSamePass pass.old pass.new }
+    ensures legal { IsLegal pass.new }
+    ensures done { IfOk result (λ onward. onward ≡ Onward.Rests → IsDone board.now pass.new) }
+{
+    let worker = pass.number();
+    gate.at(Spot::BeforePost, worker, number);
+    let Ok(reply) = board.post_certified(rt, pass, number, certified) else {
+        return Err(NoMemory);
+    };
+    gate.at(Spot::AfterPost, worker, number);
+    if is_last(reply) {
+        return Ok(Onward::Rests);
+    }
+    Ok(Onward::Looks)
+}
+
+// Whether a worker has nothing left to do after a posting that was told this.
+fn is_last(reply: Reply) -> bool
+    ensures { result ≡ is_last reply }
+{
+    match reply {
+        Reply::Ended | Reply::AlreadySpent | Reply::Noted => true,
+        _ => false,
+    }
+}
