@@ -4,6 +4,7 @@
 use auction_cmd::auction::auction_main;
 use outside_io::real::{RealFolder, RealSink};
 use outside_io::sink::Sink;
+use solver_gate::gate::EmptyGate;
 use std::alloc::AllocError as NoMemory;
 use std::env::Env;
 use std::process::ExitCode;
@@ -16,7 +17,8 @@ fn main(rt: HostRuntime) -> ExitCode {
         return ExitCode::from(8);
     };
     let mut folder = RealFolder::new(&rt);
-    ExitCode::from(auction_main(rt.alloc(), &words, &mut folder, &mut out).status)
+    let finish = auction_main(&rt, rt.alloc(), &words, &mut folder, &mut out, &EmptyGate);
+    ExitCode::from(finish.status)
 }
 
 // The words of the command line. Where one of them isn't UTF-8 there are none, which is no command.

@@ -16,14 +16,19 @@ use crate::verify::verify;
 use crate::words::{Order, WordsFault, read_words};
 use outside_io::folder::Folder;
 use outside_io::sink::Sink;
+use solver_gate::gate::Gate;
 use std::alloc::Global;
+use std::sync::Wait;
+use std::thread::Threads;
 
 // Carries out what the words ask for.
-fn carry_out<F: Folder, K: Sink>(
+fn carry_out<F: Folder, K: Sink, G: Gate + Sync, W: Threads + Wait + Sync>(
+    rt: &W,
     alloc: Global,
     words: &[String],
     folder: &mut F,
     out: &mut K,
+    gate: &G,
 ) -> Finish
     ensures { Ends (plan_of (map string_bytes words.now))
         (outside (F.files folder.old) (F.faults folder.old) (F.steady folder.old) (K.held out.old) (K.faults out.old) (K.sure out.old))
@@ -36,7 +41,7 @@ fn carry_out<F: Folder, K: Sink>(
                 say(out, &[name, ": given twice\n"]);
                 Finish::without_record(5)
             }
-            None => run(alloc, &files, folder, out),
+            None => run(rt, alloc, &files, folder, out, gate),
         },
         Ok(Order::Check(files)) => check(alloc, &files, folder, out),
         Ok(Order::Verify(files)) => verify(alloc, &files, folder, out),
@@ -51,8 +56,9 @@ fn carry_out<F: Folder, K: Sink>(
 /// Runs the program on these words, the first of which is its name.
 ///
 /// - `run DOMAINS ROWS SCENARIO RESULT CHANNELS TRANSCRIPT` reads the three inputs, carries the auction out by the clock
-///   rule, each of its queries answered by the solvers of the scenario's workers, stores the result, the channels of the
-///   stations on air and the transcript, in this order, and writes the summary.
+///   rule, stores the result, the channels of the stations on air and the transcript, in this order, and writes the summary.
+///   The solvers of all the scenario's workers try each query at once, each in a thread of its own, and, by turns, one after
+///   another on this thread. Each calls the gate before and after it posts an answer; a gate changes nothing of the result.
 /// - `check DOMAINS ROWS SCENARIO` reads the three inputs and writes how many stations and pairs they have.
 /// - `verify DOMAINS ROWS SCENARIO TRANSCRIPT` reads the three inputs and a transcript, checks each of its steps and writes
 ///   the result that it shows.
@@ -63,11 +69,13 @@ fn carry_out<F: Folder, K: Sink>(
 /// input refused; 6 where the start set doesn't fit; 7 where no worker decides whether it does; 8 for want of memory; 9 where
 /// the transcript's text is refused or a step of it isn't shown. At each but 0 and 1 a line says so; where the sink fails at
 /// the summary, the counts or the result there is none.
-pub fn auction_main<F: Folder, K: Sink>(
+pub fn auction_main<F: Folder, K: Sink, G: Gate + Sync, W: Threads + Wait + Sync>(
+    rt: &W,
     alloc: Global,
     words: &[String],
     folder: &mut F,
     out: &mut K,
+    gate: &G,
 ) -> Finish
     // How it ends, case by case.
     ensures ends { Ends (plan_of (map string_bytes words.now))
@@ -81,5 +89,5 @@ pub fn auction_main<F: Folder, K: Sink>(
         (outside (F.files folder.new) (F.faults folder.new) (F.steady folder.new) (K.held out.new) (K.faults out.new) (K.sure out.new))
         result.status result.result }
 {
-    carry_out(alloc, words, folder, out)
+    carry_out(rt, alloc, words, folder, out, gate)
 }

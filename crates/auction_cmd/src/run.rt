@@ -25,7 +25,10 @@ use race_wave::run::run_auction;
 use result_text::channels::channels_csv;
 use result_text::counts::summary;
 use result_text::rows::result_csv;
+use solver_gate::gate::Gate;
 use std::alloc::{AllocError as NoMemory, Global};
+use std::sync::Wait;
+use std::thread::Threads;
 use transcript_text::again::{is_held, is_named};
 use transcript_text::write::write_transcript;
 
@@ -38,14 +41,19 @@ struct Texts {
     summary: Vec<u8>,
 }
 
-// The record of the auction of these inputs. It touches nothing outside.
-fn auction_of(alloc: Global, inputs: &Inputs) -> Result<Record, NoMemory>
+// The record of the auction of these inputs. Of the outside it calls the gate alone.
+fn auction_of<G: Gate + Sync, W: Threads + Wait + Sync>(
+    rt: &W,
+    alloc: Global,
+    inputs: &Inputs,
+    gate: &G,
+) -> Result<Record, NoMemory>
     requires { IsOfAuction inputs.now.scenario inputs.now.book }
     ensures { IfOk result (λ rec. IsRecordBy inputs.now rec rec.ending) }
 {
     // With its length a book says that it is in order.
     let _stations = inputs.book.len();
-    let record = run_auction(alloc, &inputs.scenario, &inputs.book)?;
+    let record = run_auction(rt, alloc, &inputs.scenario, &inputs.book, gate)?;
     Ok(record)
 }
 
@@ -146,14 +154,17 @@ fn deliver<F: Folder, K: Sink>(
     }
 }
 
-/// Reads the inputs, carries the auction out, each query of it tried by the solvers of the scenario's workers, stores the
-/// result, the channels and the transcript, and writes the summary. Where the start set doesn't fit, or no worker decides
-/// whether it does, there is no auction, and nothing is stored.
-pub fn run<F: Folder, K: Sink>(
+/// Reads the inputs, carries the auction out, stores the result, the channels and the transcript, and writes the summary. The
+/// solvers of all the scenario's workers try each query at once, each in a thread of its own, and, by turns, one after another
+/// on this thread. Where the start set doesn't fit, or no worker decides whether it does, there is no auction, and nothing is
+/// stored.
+pub fn run<F: Folder, K: Sink, G: Gate + Sync, W: Threads + Wait + Sync>(
+    rt: &W,
     alloc: Global,
     files: &RunArgs<'_>,
     folder: &mut F,
     out: &mut K,
+    gate: &G,
 ) -> Finish
     ensures { RunEnds (names_seen files.now)
         (outside (F.files folder.old) (F.faults folder.old) (F.steady folder.old) (K.held out.old) (K.faults out.old) (K.sure out.old))
@@ -164,7 +175,7 @@ pub fn run<F: Folder, K: Sink>(
         Ok(inputs) => inputs,
         Err(stop) => return Finish::without_record(explain(out, &files.inputs, stop)),
     };
-    let Ok(record) = auction_of(alloc, &inputs) else {
+    let Ok(record) = auction_of(rt, alloc, &inputs, gate) else {
         return starve(out);
     };
     match record.ending {

@@ -47,6 +47,6 @@ fn files_are_counted(rt: HostRuntime) -> Result<(), Fail> {
             "status 0; said: stations 3\npairs 6\nself-pairs 0\nstrangers 0\n; nothing stored; no record",
         ),
     ];
-    assert_eq!(rt; first_untrue(rt.alloc(), &table)?, None);
+    assert_eq!(rt; first_untrue(&rt, rt.alloc(), &table)?, None);
     Ok(())
 }

@@ -3,10 +3,17 @@
 use super::scene::{Change, RUN, Scene, first_untrue_words, leaves};
 use super::{CHECK, COMMAND};
 use std::alloc::{AllocError as NoMemory, Global};
+use std::sync::Wait;
 use std::test::Fail;
+use std::thread::Threads;
 
 // Whether both commands refuse these inputs with this line, and store nothing.
-fn are_refused(alloc: Global, scene: Scene<'_>, line: &str) -> Result<bool, NoMemory> {
+fn are_refused<W: Threads + Wait + Sync>(
+    rt: &W,
+    alloc: Global,
+    scene: Scene<'_>,
+    line: &str,
+) -> Result<bool, NoMemory> {
     let facts = format!(in alloc;
         "status 5; said: {line}; nothing stored; no record; inputs kept"
     )?;
@@ -18,7 +25,7 @@ fn are_refused(alloc: Global, scene: Scene<'_>, line: &str) -> Result<bool, NoMe
         command: CHECK,
         ..scene
     };
-    Ok(leaves(alloc, &run, &facts)? && leaves(alloc, &check, &facts)?)
+    Ok(leaves(rt, alloc, &run, &facts)? && leaves(rt, alloc, &check, &facts)?)
 }
 
 // The three stations with this text in the domains, and no rows; or with it in the rows.
@@ -34,12 +41,13 @@ fn scene_of<'a>(name: &str, text: &'a str) -> Scene<'a> {
 }
 
 // The line of the first row whose file isn't refused with it.
-fn first_file_let_through<'a>(
+fn first_file_let_through<'a, W: Threads + Wait + Sync>(
+    rt: &W,
     alloc: Global,
     table: &[(&str, &'a str, &'a str)],
 ) -> Result<Option<&'a str>, NoMemory> {
     for &(name, text, line) in table {
-        if !are_refused(alloc, scene_of(name, text), line)? {
+        if !are_refused(rt, alloc, scene_of(name, text), line)? {
             return Ok(Some(line));
         }
     }
@@ -94,18 +102,19 @@ fn rows_are_refused(rt: HostRuntime) -> Result<(), Fail> {
             "r.csv: line 1: channels do not fit the key\n",
         ),
     ];
-    assert_eq!(rt; first_file_let_through(rt.alloc(), &table)?, None);
+    assert_eq!(rt; first_file_let_through(&rt, rt.alloc(), &table)?, None);
     Ok(())
 }
 
 // The line of the first row whose change of the inputs isn't refused with it.
-fn first_change_let_through<'a>(
+fn first_change_let_through<'a, W: Threads + Wait + Sync>(
+    rt: &W,
     alloc: Global,
     table: &[(Change<'_>, &'a str)],
 ) -> Result<Option<&'a str>, NoMemory> {
     for &(change, line) in table {
         let scene = Scene { change, ..RUN };
-        if !are_refused(alloc, scene, line)? {
+        if !are_refused(rt, alloc, scene, line)? {
             return Ok(Some(line));
         }
     }
@@ -170,7 +179,7 @@ fn scenarios_and_bytes_are_refused(rt: HostRuntime) -> Result<(), Fail> {
         (Change::Garbled("r.csv"), "r.csv: line 1: short row\n"),
         (Change::Garbled("s.json"), "s.json: not JSON\n"),
     ];
-    assert_eq!(rt; first_change_let_through(rt.alloc(), &table)?, None);
+    assert_eq!(rt; first_change_let_through(&rt, rt.alloc(), &table)?, None);
     Ok(())
 }
 
@@ -184,7 +193,12 @@ fn domain_rows(alloc: Global, count: u32) -> Result<String, NoMemory> {
 }
 
 // Whether a check of this many stations leaves what these facts say.
-fn leaves_of(alloc: Global, count: u32, facts: &str) -> Result<bool, NoMemory> {
+fn leaves_of<W: Threads + Wait + Sync>(
+    rt: &W,
+    alloc: Global,
+    count: u32,
+    facts: &str,
+) -> Result<bool, NoMemory> {
     let domains = domain_rows(alloc, count)?;
     let scene = Scene {
         command: CHECK,
@@ -192,31 +206,36 @@ fn leaves_of(alloc: Global, count: u32, facts: &str) -> Result<bool, NoMemory> {
         rows: "",
         ..RUN
     };
-    leaves(alloc, &scene, facts)
+    leaves(rt, alloc, &scene, facts)
 }
 
 #[test]
 fn too_many_domains_are_refused(rt: HostRuntime) -> Result<(), Fail> {
     let facts = "status 5; said: d.csv: line 65537: too many\n; nothing stored; no record";
-    assert!(rt; leaves_of(rt.alloc(), 65_537, facts)?);
+    assert!(rt; leaves_of(&rt, rt.alloc(), 65_537, facts)?);
     Ok(())
 }
 
 // Whether a check of the three stations, over rows of so many bytes, leaves what these facts say.
-fn leaves_over(alloc: Global, length: usize, facts: &str) -> Result<bool, NoMemory> {
+fn leaves_over<W: Threads + Wait + Sync>(
+    rt: &W,
+    alloc: Global,
+    length: usize,
+    facts: &str,
+) -> Result<bool, NoMemory> {
     let rows = "\n".repeat(alloc, length)?;
     let scene = Scene {
         command: CHECK,
         rows: &rows,
         ..RUN
     };
-    leaves(alloc, &scene, facts)
+    leaves(rt, alloc, &scene, facts)
 }
 
 #[test]
 fn a_file_one_byte_too_long_is_refused(rt: HostRuntime) -> Result<(), Fail> {
     let facts = "status 5; said: r.csv: too long\n; nothing stored; no record; inputs kept";
-    assert!(rt; leaves_over(rt.alloc(), 268_435_457, facts)?);
+    assert!(rt; leaves_over(&rt, rt.alloc(), 268_435_457, facts)?);
     Ok(())
 }
 
@@ -254,6 +273,6 @@ fn output_names_given_twice_are_refused(rt: HostRuntime) -> Result<(), Fail> {
             "status 0",
         ),
     ];
-    assert_eq!(rt; first_untrue_words(rt.alloc(), &table)?, None);
+    assert_eq!(rt; first_untrue_words(&rt, rt.alloc(), &table)?, None);
     Ok(())
 }

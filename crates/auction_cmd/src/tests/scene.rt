@@ -5,7 +5,10 @@ use super::{CLOCK, COMMAND, DOMAINS, MANY_LINES, ROWS, THREE, VERIFY};
 use crate::auction::auction_main;
 use outside_io::memory_folder::{MemoryFile, MemoryFolder};
 use outside_io::memory_sink::MemorySink;
+use solver_gate::gate::EmptyGate;
 use std::alloc::{AllocError as NoMemory, Global};
+use std::sync::Wait;
+use std::thread::Threads;
 
 // Bytes that are no text.
 const NO_TEXT: &[u8] = b"\x00\xff\x9c,\x00\n\xfe\x07";
@@ -203,40 +206,54 @@ fn counted_text(
 }
 
 // The facts of a run of these words.
-fn run_words(alloc: Global, words: &[String], scene: &Scene<'_>) -> Result<String, NoMemory> {
+fn run_words<W: Threads + Wait + Sync>(
+    rt: &W,
+    alloc: Global,
+    words: &[String],
+    scene: &Scene<'_>,
+) -> Result<String, NoMemory> {
     let mut folder = folder_of(alloc, scene)?;
-    let left = left_in(alloc, words, scene, &mut folder)?;
+    let left = left_in(rt, alloc, words, scene, &mut folder)?;
     let inputs = inputs_text(alloc, scene, &folder)?;
     let counted = counted_text(alloc, scene, &folder)?;
     format!(in alloc; "{left}; {inputs}; {counted}")
 }
 
 // The facts of a run in this folder.
-fn left_in(
+fn left_in<W: Threads + Wait + Sync>(
+    rt: &W,
     alloc: Global,
     words: &[String],
     scene: &Scene<'_>,
     folder: &mut MemoryFolder,
 ) -> Result<String, NoMemory> {
     let mut sink = sink_of(alloc, scene.change)?;
-    let finish = auction_main(alloc, words, folder, &mut sink);
+    let finish = auction_main(rt, alloc, words, folder, &mut sink, &EmptyGate);
     told(alloc, &finish, folder, &sink)
 }
 
 // Runs a scene, and tells the facts of what is left, with "; " between each two.
-fn run(alloc: Global, scene: &Scene<'_>) -> Result<String, NoMemory> {
+fn run<W: Threads + Wait + Sync>(
+    rt: &W,
+    alloc: Global,
+    scene: &Scene<'_>,
+) -> Result<String, NoMemory> {
     let words = words_of(alloc, scene.command)?;
-    run_words(alloc, &words, scene)
+    run_words(rt, alloc, &words, scene)
 }
 
 // Runs the auction of a scene, and then verifies the transcript that it stored, in the same folder. It tells the facts of
 // what is left.
-fn run_and_verify(alloc: Global, scene: &Scene<'_>) -> Result<String, NoMemory> {
+fn run_and_verify<W: Threads + Wait + Sync>(
+    rt: &W,
+    alloc: Global,
+    scene: &Scene<'_>,
+) -> Result<String, NoMemory> {
     let first = words_of(alloc, COMMAND)?;
     let second = words_of(alloc, VERIFY)?;
     let mut folder = folder_of(alloc, scene)?;
-    let _ = left_in(alloc, &first, scene, &mut folder)?;
-    left_in(alloc, &second, scene, &mut folder)
+    let _ = left_in(rt, alloc, &first, scene, &mut folder)?;
+    left_in(rt, alloc, &second, scene, &mut folder)
 }
 
 // Whether each of these facts is among those told.
@@ -247,24 +264,35 @@ fn are_among(facts: &str, told: &str) -> bool {
 }
 
 // Whether the run of a scene leaves what these facts say.
-pub fn leaves(alloc: Global, scene: &Scene<'_>, facts: &str) -> Result<bool, NoMemory> {
-    let told = run(alloc, scene)?;
+pub fn leaves<W: Threads + Wait + Sync>(
+    rt: &W,
+    alloc: Global,
+    scene: &Scene<'_>,
+    facts: &str,
+) -> Result<bool, NoMemory> {
+    let told = run(rt, alloc, scene)?;
     Ok(are_among(facts, &told))
 }
 
 // Whether the verification of a scene's own run leaves what these facts say.
-pub fn verifies(alloc: Global, scene: &Scene<'_>, facts: &str) -> Result<bool, NoMemory> {
-    let told = run_and_verify(alloc, scene)?;
+pub fn verifies<W: Threads + Wait + Sync>(
+    rt: &W,
+    alloc: Global,
+    scene: &Scene<'_>,
+    facts: &str,
+) -> Result<bool, NoMemory> {
+    let told = run_and_verify(rt, alloc, scene)?;
     Ok(are_among(facts, &told))
 }
 
 // The facts of the first row that says of a run's facts one that isn't so.
-pub fn first_untrue<'a>(
+pub fn first_untrue<'a, W: Threads + Wait + Sync>(
+    rt: &W,
     alloc: Global,
     table: &[(Scene<'_>, &'a str)],
 ) -> Result<Option<&'a str>, NoMemory> {
     for (scene, facts) in table {
-        if !leaves(alloc, scene, facts)? {
+        if !leaves(rt, alloc, scene, facts)? {
             return Ok(Some(facts));
         }
     }
@@ -272,13 +300,14 @@ pub fn first_untrue<'a>(
 }
 
 // The words of the first row whose facts aren't so of their command on the three stations.
-pub fn first_untrue_words<'a>(
+pub fn first_untrue_words<'a, W: Threads + Wait + Sync>(
+    rt: &W,
     alloc: Global,
     table: &[(&'a str, &str)],
 ) -> Result<Option<&'a str>, NoMemory> {
     for &(command, facts) in table {
         let scene = Scene { command, ..RUN };
-        if !leaves(alloc, &scene, facts)? {
+        if !leaves(rt, alloc, &scene, facts)? {
             return Ok(Some(command));
         }
     }

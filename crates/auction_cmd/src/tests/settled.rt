@@ -3,7 +3,9 @@
 use super::TWO_PLAIN;
 use super::scene::{Change, RUN, Scene, first_untrue, leaves};
 use std::alloc::{AllocError as NoMemory, Global};
+use std::sync::Wait;
 use std::test::Fail;
+use std::thread::Threads;
 
 // One station, and no decrement.
 const ONE: Scene<'static> = Scene {
@@ -22,7 +24,8 @@ const GREATEST: Scene<'static> = Scene {
 };
 
 // The facts of the first row that aren't so of the run with this part of the scenario changed.
-fn first_untrue_part<'a>(
+fn first_untrue_part<'a, W: Threads + Wait + Sync>(
+    rt: &W,
     alloc: Global,
     table: &[(&'a str, &'a str, &'a str)],
 ) -> Result<Option<&'a str>, NoMemory> {
@@ -31,7 +34,7 @@ fn first_untrue_part<'a>(
             change: Change::Part(part, other),
             ..RUN
         };
-        if !leaves(alloc, &scene, facts)? {
+        if !leaves(rt, alloc, &scene, facts)? {
             return Ok(Some(facts));
         }
     }
@@ -88,7 +91,7 @@ fn three_stations_are_settled(rt: HostRuntime) -> Result<(), Fail> {
             "status 0; said: stations 3\non-air 2\nfrozen 1\nundecided 0\ntotal 60\n; out.csv: facility,outcome,round,price\n1,exit,2,0\n2,start,0,0\n3,frozen,2,60\n; start: fits; tests: 1.1 fits, 1.3 fits, 2.1 as before, 2.3 refuted by 0; channels of the map; tr.txt begins: transcript 2, start fit 1; tr.txt ends: end 4",
         ),
     ];
-    assert_eq!(rt; first_untrue_part(rt.alloc(), &table)?, None);
+    assert_eq!(rt; first_untrue_part(&rt, rt.alloc(), &table)?, None);
     Ok(())
 }
 
@@ -130,6 +133,6 @@ fn other_stations_are_settled(rt: HostRuntime) -> Result<(), Fail> {
             "status 0; said: stations 2\non-air 2\nfrozen 0\nundecided 0\ntotal 0\n; out.csv: facility,outcome,round,price\n1,start,0,0\n2,start,0,0\n; chan.csv: facility,channel\n1,15\n2,14\n; tr.txt: transcript 2\nstart fit 2\nat 1 15\nat 2 14\nend 0\n; ending: done; map: 1 on 15, 2 on 14",
         ),
     ];
-    assert_eq!(rt; first_untrue(rt.alloc(), &table)?, None);
+    assert_eq!(rt; first_untrue(&rt, rt.alloc(), &table)?, None);
     Ok(())
 }

@@ -3,10 +3,13 @@
 use super::scene::{Change, RUN, Scene, leaves};
 use super::{CHECK, COMMAND};
 use std::alloc::{AllocError as NoMemory, Global};
+use std::sync::Wait;
 use std::test::Fail;
+use std::thread::Threads;
 
 // The facts of the first row that aren't so of its command on the three stations with its change.
-fn first_untrue_of<'a>(
+fn first_untrue_of<'a, W: Threads + Wait + Sync>(
+    rt: &W,
     alloc: Global,
     table: &[(&'a str, Change<'a>, &'a str)],
 ) -> Result<Option<&'a str>, NoMemory> {
@@ -16,7 +19,7 @@ fn first_untrue_of<'a>(
             change,
             ..RUN
         };
-        if !leaves(alloc, &scene, facts)? {
+        if !leaves(rt, alloc, &scene, facts)? {
             return Ok(Some(facts));
         }
     }
@@ -118,19 +121,23 @@ fn the_folder_or_the_sink_fails(rt: HostRuntime) -> Result<(), Fail> {
             "status 0; said: stations 3\npairs 6\nself-pairs 0\nstrangers 0\n",
         ),
     ];
-    assert_eq!(rt; first_untrue_of(rt.alloc(), &table)?, None);
+    assert_eq!(rt; first_untrue_of(&rt, rt.alloc(), &table)?, None);
     Ok(())
 }
 
 // The first of these lines that is a command, in an empty folder.
-fn first_command<'a>(alloc: Global, lines: &[&'a str]) -> Result<Option<&'a str>, NoMemory> {
+fn first_command<'a, W: Threads + Wait + Sync>(
+    rt: &W,
+    alloc: Global,
+    lines: &[&'a str],
+) -> Result<Option<&'a str>, NoMemory> {
     for &line in lines {
         let scene = Scene {
             command: line,
             change: Change::Bare,
             ..RUN
         };
-        if !leaves(alloc, &scene, "status 2; something said; no record")? {
+        if !leaves(rt, alloc, &scene, "status 2; something said; no record")? {
             return Ok(Some(line));
         }
     }
@@ -150,6 +157,6 @@ fn the_words_are_no_command(rt: HostRuntime) -> Result<(), Fail> {
         "repack --version",
         "repack help check",
     ];
-    assert_eq!(rt; first_command(rt.alloc(), &lines)?, None);
+    assert_eq!(rt; first_command(&rt, rt.alloc(), &lines)?, None);
     Ok(())
 }

@@ -1,17 +1,20 @@
-//! Workers that spend their budgets, and workers that decide before or behind such.
+//! Workers that spend their budgets, and workers that decide beside such.
 
 use super::scene::{RUN, Scene, leaves};
 use std::alloc::{AllocError as NoMemory, Global};
+use std::sync::Wait;
 use std::test::Fail;
+use std::thread::Threads;
 
 // The workers of the first row whose facts aren't so of the run by them.
-fn first_untrue_by<'a>(
+fn first_untrue_by<'a, W: Threads + Wait + Sync>(
+    rt: &W,
     alloc: Global,
     table: &[(&'a str, &str)],
 ) -> Result<Option<&'a str>, NoMemory> {
     for &(workers, facts) in table {
         let scene = Scene { workers, ..RUN };
-        if !leaves(alloc, &scene, facts)? {
+        if !leaves(rt, alloc, &scene, facts)? {
             return Ok(Some(workers));
         }
     }
@@ -19,7 +22,7 @@ fn first_untrue_by<'a>(
 }
 
 #[test]
-fn workers_are_asked_in_turn(rt: HostRuntime) -> Result<(), Fail> {
+fn one_worker_that_decides_is_enough(rt: HostRuntime) -> Result<(), Fail> {
     let table = [
         (
             "{\"kind\":\"cdcl\",\"budget\":1}",
@@ -38,7 +41,7 @@ fn workers_are_asked_in_turn(rt: HostRuntime) -> Result<(), Fail> {
             "{\"kind\":\"cdcl\",\"budget\":1},{\"kind\":\"cdcl\",\"budget\":1},{\"kind\":\"cdcl\",\"budget\":1},{\"kind\":\"cdcl\",\"budget\":1},{\"kind\":\"cdcl\",\"budget\":1},{\"kind\":\"cdcl\",\"budget\":1},{\"kind\":\"cdcl\",\"budget\":1},{\"kind\":\"cdcl\",\"budget\":1},{\"kind\":\"cdcl\",\"budget\":1},{\"kind\":\"cdcl\",\"budget\":1},{\"kind\":\"cdcl\",\"budget\":1},{\"kind\":\"cdcl\",\"budget\":1},{\"kind\":\"cdcl\",\"budget\":1},{\"kind\":\"cdcl\",\"budget\":1},{\"kind\":\"cdcl\",\"budget\":1},{\"kind\":\"cdcl\",\"budget\":1}",
             "status 1; said: stations 3\non-air 2\nfrozen 1\nundecided 1\ntotal 60\n; out.csv: facility,outcome,round,price\n1,exit,2,0\n2,exit,1,0\n3,undecided,2,60\n; tests: 1.1 fits, 1.2 fits, 1.3 fits, 2.1 fits, 2.3 open after 1 line + 1 line + 1 line + 1 line + 1 line + 1 line + 1 line + 1 line + 1 line + 1 line + 1 line + 1 line + 1 line + 1 line + 1 line + 1 line",
         ),
-        // One worker that decides is enough, wherever it stands.
+        // Beside workers that don't, wherever it stands in the list.
         (
             "{\"kind\":\"cdcl\",\"budget\":1},{\"kind\":\"cdcl\",\"budget\":1000}",
             "status 0; said: stations 3\non-air 2\nfrozen 1\nundecided 0\ntotal 60\n; out.csv: facility,outcome,round,price\n1,exit,2,0\n2,exit,1,0\n3,frozen,2,60\n; tests: 1.1 fits, 1.2 fits, 1.3 fits, 2.1 fits, 2.3 refuted by 1",
@@ -51,12 +54,12 @@ fn workers_are_asked_in_turn(rt: HostRuntime) -> Result<(), Fail> {
             "{\"kind\":\"walk\",\"budget\":1,\"seed\":7},{\"kind\":\"cdcl\",\"budget\":1000}",
             "status 0; said: stations 3\non-air 2\nfrozen 1\nundecided 0\ntotal 60\n; out.csv: facility,outcome,round,price\n1,exit,2,0\n2,exit,1,0\n3,frozen,2,60\n; tests: 1.1 fits, 1.2 fits, 1.3 fits, 2.1 fits, 2.3 refuted by 1",
         ),
-        // Of two that decide the first is asked.
+        // Either of two that decide may be the first.
         (
             "{\"kind\":\"cdcl\",\"budget\":1000},{\"kind\":\"cdcl\",\"budget\":1000}",
-            "status 0; said: stations 3\non-air 2\nfrozen 1\nundecided 0\ntotal 60\n; out.csv: facility,outcome,round,price\n1,exit,2,0\n2,exit,1,0\n3,frozen,2,60\n; tests: 1.1 fits, 1.2 fits, 1.3 fits, 2.1 fits, 2.3 refuted by 0",
+            "status 0; said: stations 3\non-air 2\nfrozen 1\nundecided 0\ntotal 60\n; out.csv: facility,outcome,round,price\n1,exit,2,0\n2,exit,1,0\n3,frozen,2,60\n; ending: done; total: 60",
         ),
-        // A walk finds what fits, and spends its budget where nothing does. Behind a worker that decides it isn't asked.
+        // A walk finds what fits, and shows nothing where these don't fit.
         (
             "{\"kind\":\"walk\",\"budget\":10000,\"seed\":7},{\"kind\":\"cdcl\",\"budget\":1000}",
             "status 0; said: stations 3\non-air 2\nfrozen 1\nundecided 0\ntotal 60\n; out.csv: facility,outcome,round,price\n1,exit,2,0\n2,exit,1,0\n3,frozen,2,60\n; tests: 1.1 fits, 1.2 fits, 1.3 fits, 2.1 fits, 2.3 refuted by 1",
@@ -66,6 +69,6 @@ fn workers_are_asked_in_turn(rt: HostRuntime) -> Result<(), Fail> {
             "status 0; said: stations 3\non-air 2\nfrozen 1\nundecided 0\ntotal 60\n; out.csv: facility,outcome,round,price\n1,exit,2,0\n2,exit,1,0\n3,frozen,2,60\n; tests: 1.1 fits, 1.2 fits, 1.3 fits, 2.1 fits, 2.3 refuted by 0",
         ),
     ];
-    assert_eq!(rt; first_untrue_by(rt.alloc(), &table)?, None);
+    assert_eq!(rt; first_untrue_by(&rt, rt.alloc(), &table)?, None);
     Ok(())
 }

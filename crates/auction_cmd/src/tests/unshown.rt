@@ -4,7 +4,9 @@ use super::scene::{Scene, leaves, replaced};
 use super::verified::{CHECKED, first_untrue_text};
 use super::{LAST_STEP, ONE_LINE, TRANSCRIPT};
 use std::alloc::{AllocError as NoMemory, Global};
+use std::sync::Wait;
 use std::test::Fail;
+use std::thread::Threads;
 
 // Parts of the transcript in the place of others, and what is said. Each is the text of a transcript, and a step of it has
 // an answer at fault.
@@ -79,12 +81,13 @@ const FAULTS: &[(&str, &str, &str)] = &[
 
 #[test]
 fn the_step_at_fault_is_named(rt: HostRuntime) -> Result<(), Fail> {
-    assert_eq!(rt; first_untrue_text(rt.alloc(), &CHECKED, FAULTS)?, None);
+    assert_eq!(rt; first_untrue_text(&rt, rt.alloc(), &CHECKED, FAULTS)?, None);
     Ok(())
 }
 
 // Whether the check of this transcript, by these workers, leaves what these facts say.
-fn leaves_by<'a>(
+fn leaves_by<'a, W: Threads + Wait + Sync>(
+    rt: &W,
     alloc: Global,
     scene: &Scene<'a>,
     workers: &'a str,
@@ -96,22 +99,29 @@ fn leaves_by<'a>(
         transcript: Some(text),
         ..*scene
     };
-    leaves(alloc, &changed, facts)
+    leaves(rt, alloc, &changed, facts)
 }
 
 // Whether the check of the transcript with another last step, by these workers, leaves what these facts say.
-fn leaves_last(alloc: Global, workers: &str, last: &str, facts: &str) -> Result<bool, NoMemory> {
+fn leaves_last<W: Threads + Wait + Sync>(
+    rt: &W,
+    alloc: Global,
+    workers: &str,
+    last: &str,
+    facts: &str,
+) -> Result<bool, NoMemory> {
     let text = replaced(alloc, TRANSCRIPT, LAST_STEP, last)?;
-    leaves_by(alloc, &CHECKED, workers, &text, facts)
+    leaves_by(rt, alloc, &CHECKED, workers, &text, facts)
 }
 
 // The last step of the first row whose facts aren't so.
-fn first_untrue_last<'a>(
+fn first_untrue_last<'a, W: Threads + Wait + Sync>(
+    rt: &W,
     alloc: Global,
     table: &[(&str, &'a str, &str)],
 ) -> Result<Option<&'a str>, NoMemory> {
     for &(workers, last, facts) in table {
-        if !leaves_last(alloc, workers, last, facts)? {
+        if !leaves_last(rt, alloc, workers, last, facts)? {
             return Ok(Some(last));
         }
     }
@@ -202,6 +212,6 @@ const LAST: &[(&str, &str, &str)] = &[
 
 #[test]
 fn tests_left_open_have_receipts(rt: HostRuntime) -> Result<(), Fail> {
-    assert_eq!(rt; first_untrue_last(rt.alloc(), LAST)?, None);
+    assert_eq!(rt; first_untrue_last(&rt, rt.alloc(), LAST)?, None);
     Ok(())
 }

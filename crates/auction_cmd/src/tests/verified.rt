@@ -3,7 +3,9 @@
 use super::scene::{Change, RUN, Scene, first_untrue, leaves, replaced, verifies};
 use super::{MANY_LINES, ONE_LINE, TRANSCRIPT, VERIFY};
 use std::alloc::{AllocError as NoMemory, Global};
+use std::sync::Wait;
 use std::test::Fail;
+use std::thread::Threads;
 
 // The check of the three stations' transcript.
 pub const CHECKED: Scene<'static> = Scene {
@@ -13,7 +15,8 @@ pub const CHECKED: Scene<'static> = Scene {
 };
 
 // Whether the check of the scene's transcript with this part changed leaves what these facts say.
-fn leaves_changed(
+fn leaves_changed<W: Threads + Wait + Sync>(
+    rt: &W,
     alloc: Global,
     scene: &Scene<'_>,
     part: &str,
@@ -25,17 +28,18 @@ fn leaves_changed(
         transcript: Some(&text),
         ..*scene
     };
-    leaves(alloc, &changed, facts)
+    leaves(rt, alloc, &changed, facts)
 }
 
 /// The other part of the first row whose facts aren't so of the check of the transcript with its part changed.
-pub fn first_untrue_text<'a>(
+pub fn first_untrue_text<'a, W: Threads + Wait + Sync>(
+    rt: &W,
     alloc: Global,
     scene: &Scene<'_>,
     table: &[(&str, &'a str, &str)],
 ) -> Result<Option<&'a str>, NoMemory> {
     for &(part, other, facts) in table {
-        if !leaves_changed(alloc, scene, part, other, facts)? {
+        if !leaves_changed(rt, alloc, scene, part, other, facts)? {
             return Ok(Some(other));
         }
     }
@@ -101,7 +105,7 @@ const TEXTS: &[(&str, &str, &str)] = &[
 
 #[test]
 fn texts_are_verified(rt: HostRuntime) -> Result<(), Fail> {
-    assert_eq!(rt; first_untrue_text(rt.alloc(), &CHECKED, TEXTS)?, None);
+    assert_eq!(rt; first_untrue_text(&rt, rt.alloc(), &CHECKED, TEXTS)?, None);
     Ok(())
 }
 
@@ -184,7 +188,7 @@ fn other_auctions_are_verified(rt: HostRuntime) -> Result<(), Fail> {
             "status 9; said: tr.txt: step 0: not valid\n; no record",
         ),
     ];
-    assert_eq!(rt; first_untrue(rt.alloc(), &table)?, None);
+    assert_eq!(rt; first_untrue(&rt, rt.alloc(), &table)?, None);
     Ok(())
 }
 
@@ -196,18 +200,28 @@ fn the_order_is_the_transcripts(rt: HostRuntime) -> Result<(), Fail> {
         ..CHECKED
     };
     let facts = "status 9; said: tr.txt: step 1: order\n; no record";
-    assert!(rt; leaves_changed(rt.alloc(), &scene, "transcript 1", "transcript 2", facts)?);
+    assert!(rt;
+        leaves_changed(
+            &rt,
+            rt.alloc(),
+            &scene,
+            "transcript 1",
+            "transcript 2",
+            facts
+        )?
+    );
     Ok(())
 }
 
 // The facts of the first row that aren't so of the check of the transcript with its change.
-fn first_untrue_change<'a>(
+fn first_untrue_change<'a, W: Threads + Wait + Sync>(
+    rt: &W,
     alloc: Global,
     table: &[(Change<'_>, &'a str)],
 ) -> Result<Option<&'a str>, NoMemory> {
     for &(change, facts) in table {
         let scene = Scene { change, ..CHECKED };
-        if !leaves(alloc, &scene, facts)? {
+        if !leaves(rt, alloc, &scene, facts)? {
             return Ok(Some(facts));
         }
     }
@@ -269,35 +283,41 @@ fn a_file_or_the_sink_fails(rt: HostRuntime) -> Result<(), Fail> {
             "status 0; said: facility,outcome,round,price\n1,exit,2,0\n2,exit,1,0\n3,frozen,2,60\n; a record",
         ),
     ];
-    assert_eq!(rt; first_untrue_change(rt.alloc(), &table)?, None);
+    assert_eq!(rt; first_untrue_change(&rt, rt.alloc(), &table)?, None);
     Ok(())
 }
 
 // Whether the check of a transcript of so many bytes leaves what these facts say.
-fn leaves_over(alloc: Global, length: usize, facts: &str) -> Result<bool, NoMemory> {
+fn leaves_over<W: Threads + Wait + Sync>(
+    rt: &W,
+    alloc: Global,
+    length: usize,
+    facts: &str,
+) -> Result<bool, NoMemory> {
     let text = "\n".repeat(alloc, length)?;
     let scene = Scene {
         transcript: Some(&text),
         ..CHECKED
     };
-    leaves(alloc, &scene, facts)
+    leaves(rt, alloc, &scene, facts)
 }
 
 #[test]
 fn a_transcript_one_byte_too_long_is_refused(rt: HostRuntime) -> Result<(), Fail> {
     let facts = "status 5; said: tr.txt: too long\n; no record";
-    assert!(rt; leaves_over(rt.alloc(), 268_435_457, facts)?);
+    assert!(rt; leaves_over(&rt, rt.alloc(), 268_435_457, facts)?);
     Ok(())
 }
 
 // The workers of the first row whose own run is not verified as these facts say.
-fn first_unverified<'a>(
+fn first_unverified<'a, W: Threads + Wait + Sync>(
+    rt: &W,
     alloc: Global,
     table: &[(&'a str, &str)],
 ) -> Result<Option<&'a str>, NoMemory> {
     for &(workers, facts) in table {
         let scene = Scene { workers, ..RUN };
-        if !verifies(alloc, &scene, facts)? {
+        if !verifies(rt, alloc, &scene, facts)? {
             return Ok(Some(workers));
         }
     }
@@ -316,6 +336,6 @@ fn a_run_is_verified(rt: HostRuntime) -> Result<(), Fail> {
             "status 1; said: facility,outcome,round,price\n1,exit,2,0\n2,exit,1,0\n3,undecided,2,60\n; out.csv: facility,outcome,round,price\n1,exit,2,0\n2,exit,1,0\n3,undecided,2,60\n; tests: 1.1 fits, 1.2 fits, 1.3 fits, 2.1 fits, 2.3 open after 1 line; total: 60",
         ),
     ];
-    assert_eq!(rt; first_unverified(rt.alloc(), &table)?, None);
+    assert_eq!(rt; first_unverified(&rt, rt.alloc(), &table)?, None);
     Ok(())
 }
