@@ -70,8 +70,10 @@ fn off_domain(book: &Book, entries: &[(u32, u8)]) -> Option<MapFault>
     None
 }
 
-// The first pair of the book of which both entries stand in the map.
-fn violation(book: &Book, map: &ChannelMap) -> Option<MapFault>
+/// The first pair of the book of which both entries stand in the map, if there is one. It takes no memory, and costs two
+/// searches by halves for the pairs from each of the map's stations, a pass over them, and a search for each of those that is
+/// on the station's channel.
+pub fn violation(book: &Book, map: &ChannelMap) -> Option<MapFault>
     requires { IsAscending map.now }
     ensures { result ≡ violation book.now map.now }
 {

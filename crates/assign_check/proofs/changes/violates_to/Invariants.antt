@@ -1,0 +1,8 @@
+use Rattle.std.proofs.Common.{◌≡◌, drop}
+use Rattle.std.specs.List.{list_any}
+use Rattle.pack_defs.specs.ChannelMap.{overlaid}
+use Rattle.assign_check.proofs.Changed.{is_violated_to}
+use Rattle.assign_check.proofs.changes.violates_to.Given as goal
+
+abbrev pub invariant-loop-p : goal.invariant-loop-p
+invariant-loop-p l = list_any (is_violated_to (overlaid l.last l.changes) l.own) (drop l.p-index l.p-items) ≡ list_any (is_violated_to (overlaid l.last l.changes) l.own) l.p-items

@@ -1,0 +1,104 @@
+//! A channel map of which some channels are changed, without a copy of it: what it violates at the changed stations.
+
+ghost use Rattle.std.specs.Prelude.{◌≡◌, ◌==◌, IsTrue, filter};
+ghost use Rattle.std.specs.List.{list_any};
+ghost use Rattle.pack_defs.specs.ChannelMap.{IsAscending, overlaid};
+ghost use Rattle.pack_defs.specs.Lists.{has_entry};
+ghost use Rattle.assign_check.specs.Changes.{violates_at, violates_at_some};
+ghost use Rattle.assign_check.specs.Fault.{is_violated};
+
+use pack_defs::book::Book;
+use pack_defs::channel_map::ChannelMap;
+
+/// Whether a pair of one of the changed stations has both its entries in the map that `changes` put over `last` give. Where
+/// `last` violates no pair, that decides whether this map does. It takes no memory, and costs what the pairs of the changed
+/// stations cost: four searches by halves for them, a pass over them, and two searches for each that is on its station's
+/// channel.
+pub fn violates_at_some(book: &Book, last: &ChannelMap, changes: &ChannelMap) -> bool
+    ensures { result ≡ violates_at_some book.now (overlaid last.now changes.now) changes.now }
+{
+    // Each map ascends, as `len` says.
+    let (_last, _changes) = (last.len(), changes.len());
+    for x in changes.entries() {
+        if violates_from(book, last, changes, *x) || violates_to(book, last, changes, *x) {
+            return true;
+        }
+    }
+    false
+}
+
+// Whether a pair from this change's station has both its entries in the map.
+fn violates_from(book: &Book, last: &ChannelMap, changes: &ChannelMap, own: (u32, u8)) -> bool
+    requires last { IsAscending last.now }
+    requires changes { IsAscending changes.now }
+    requires own { IsTrue (has_entry changes.now own) }
+    ensures { result ≡ list_any (is_violated (overlaid last.now changes.now)) (filter (λ p. p.f == own.0) book.now.pairs) }
+{
+    for p in book.pairs_from(own.0) {
+        if p.a == own.1 && stands(last, changes, p.g, p.b) {
+            return true;
+        }
+    }
+    false
+}
+
+// Whether a pair to this change's station has both its entries in the map.
+fn violates_to(book: &Book, last: &ChannelMap, changes: &ChannelMap, own: (u32, u8)) -> bool
+    requires last { IsAscending last.now }
+    requires changes { IsAscending changes.now }
+    requires own { IsTrue (has_entry changes.now own) }
+    ensures { result ≡ list_any (is_violated (overlaid last.now changes.now)) (filter (λ p. p.g == own.0) book.now.pairs) }
+{
+    for p in book.pairs_to(own.0) {
+        if p.b == own.1 && stands(last, changes, p.f, p.a) {
+            return true;
+        }
+    }
+    false
+}
+
+// Whether the map has the station on this channel.
+#[tactic(auto, using(crate::proofs::Changed::standing))]
+fn stands(last: &ChannelMap, changes: &ChannelMap, s: u32, c: u8) -> bool
+    requires last { IsAscending last.now }
+    requires changes { IsAscending changes.now }
+    ensures { result ≡ has_entry (overlaid last.now changes.now) (s, c) }
+{
+    match changes.get(s) {
+        Some(d) => d == c,
+        None => last.get(s) == Some(c),
+    }
+}
+
+#[cfg(test)]
+mod tests {
+    use super::*;
+    use crate::samples::three_stations;
+    use std::test::Fail;
+
+    #[test]
+    fn pairs_of_the_changed_stations_are_looked_at(rt: HostRuntime) -> Result<(), Fail> {
+        let alloc = rt.alloc();
+        let book = three_stations(alloc)?;
+        let last = ChannelMap::of(alloc, &[(1, 14), (2, 15)])?;
+        let cases: [(&[(u32, u8)], bool); 7] = [
+            (&[], false),
+            // A pair from the changed station, one to it, and one of two changed stations.
+            (&[(1, 15)], true),
+            (&[(2, 14)], true),
+            (&[(1, 16), (3, 14)], false),
+            (&[(1, 16), (3, 15)], true),
+            (&[(2, 16), (3, 16)], false),
+            (&[(1, 15), (2, 14)], false),
+        ];
+        for (changes, want) in cases {
+            let changes = ChannelMap::of(alloc, changes)?;
+            assert_eq!(rt; violates_at_some(&book, &last, &changes), want);
+        }
+        // What was violated before is not looked at.
+        let last = ChannelMap::of(alloc, &[(1, 14), (2, 14)])?;
+        let changes = ChannelMap::of(alloc, &[(3, 15)])?;
+        assert!(rt; !violates_at_some(&book, &last, &changes));
+        Ok(())
+    }
+}
