@@ -1,9 +1,10 @@
--- What a solver asks of a query beside a book, and what its attempt says.
-use Rattle.std.specs.Prelude.{ℕ, Bool, true, not, ◌≡◌, ◌≢◌, ◌&&◌, List}
+-- What is asked of a query beside a book, and what a solver's attempt at one says.
+use Rattle.std.specs.Prelude.{ℕ, Bool, false, true, not, ◌≡◌, ◌≢◌, ◌&&◌, ◌||◌, ◌==◌, List, Option, Some, None, is_none}
 use Rattle.std.specs.List.{list_all}
 use Rattle.pack_defs.specs.Book.{BookView, domain_of}
-use Rattle.pack_defs.specs.Lists.{is_ascending, is_empty, is_in}
+use Rattle.pack_defs.specs.Lists.{has_station, is_ascending, is_empty, is_in}
 use Rattle.pack_defs.specs.declared.worker.Worker.{Worker}
+use Rattle.assign_check.specs.Fault.{violation}
 use Rattle.cert_types.specs.declared.poll.Attempt.{Attempt}
 use Rattle.cert_types.specs.declared.poll.Attempt.TheVariants.{Said, Moved}
 use Rattle.cert_types.specs.declared.task.Task.{Task}
@@ -17,9 +18,19 @@ has_channels book set = list_all (λ s. not (is_empty (domain_of book s))) set
 abbrev pub is_on_domains : BookView → List ℕ → List (ℕ × ℕ) → Bool
 is_on_domains book set entries = list_all (λ x. is_in set x.0 && is_in (domain_of book x.0) x.1) entries
 
--- the set ascends and each of its stations has a channel; the last map is of stations of the set, on their domains
+-- each station of the set but the tested one stands in the map; of the test of the start, which is of none, nothing is asked
+abbrev pub has_others : Option ℕ → List ℕ → List (ℕ × ℕ) → Bool
+has_others None set entries = true
+has_others (Some s) set entries = list_all (λ t. (t == s) || has_station entries t) set
+
+-- the last map is of stations of the set, on their domains, and violates no pair; it has each but the tested one
+abbrev pub is_last_map : BookView → Task → Bool
+is_last_map book task =
+    is_on_domains book task.set task.last && (is_none (violation book task.last) && has_others task.station task.set task.last)
+
+-- the set ascends and each of its stations has a channel, and the last map is clean and has the others
 unfoldable pub is_query : BookView → Task → Bool
-is_query book task = is_ascending task.set && (has_channels book task.set && is_on_domains book task.set task.last)
+is_query book task = is_ascending task.set && (has_channels book task.set && is_last_map book task)
 
 -- the task is one that a solver may be asked
 pub record IsQuery (book : BookView) (task : Task) : Type 0 where
@@ -29,3 +40,8 @@ pub record IsQuery (book : BookView) (task : Task) : Type 0 where
 abbrev pub AttemptIs : BookView → Task → Worker → ℕ → Attempt → Type 0
 AttemptIs book task worker last (Said answer) = IsValid book task worker answer
 AttemptIs book task worker last (Moved now) = (last ≡ now) × (now ≢ task.number)
+
+-- the tested station is one of the map
+abbrev pub is_named : Option ℕ → List (ℕ × ℕ) → Bool
+is_named None entries = false
+is_named (Some s) entries = has_station entries s

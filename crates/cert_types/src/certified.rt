@@ -1,4 +1,4 @@
-//! An answer that the check has let through, which the auction takes.
+//! An answer that is known to be valid, which the auction takes.
 
 ghost use Rattle.std.specs.Prelude.{◌≡◌};
 ghost use Rattle.cert_types.specs.Certificate.{Certificate};
@@ -12,7 +12,8 @@ use std::marker::Model;
 use std::snapshot::Snapshot;
 
 /// An answer that was let through: it is valid for one book, one task and one worker, which contracts see beside it. These
-/// three stand in proofs alone and take no memory.
+/// three stand in proofs alone and take no memory. `certify` and `certify_query` let an answer through by a look at it, and
+/// a solver's own answer is let through without one, since its contract says that it is valid.
 #[derive(Drop)]
 pub struct Certified {
     book: Snapshot<Book>,
@@ -33,8 +34,8 @@ impl Model for Certified {
 }
 
 impl Certified {
-    // The answer, which is valid for these.
-    pub(crate) fn new(book: &Book, task: &Task, worker: &Worker, answer: Answer) -> Certified
+    /// An answer that is known to be valid for these, as a solver's attempt says of its own: nothing of it is looked at.
+    pub fn of_valid(book: &Book, task: &Task, worker: &Worker, answer: Answer) -> Certified
         requires { IsValid book.now task.now worker.now answer }
         ensures { result ≡ record { book = book.now; task = task.now; worker = worker.now; answer = answer } }
     {

@@ -10,14 +10,15 @@ use std::alloc::{AllocError as NoMemory, Global};
 use std::test::Fail;
 
 // A row of numbers that look random, each made from the one before by Knuth's multiplier.
-fn next(seed: u64) -> u64 {
+pub(crate) fn next(seed: u64) -> u64 {
     seed.wrapping_mul(6364136223846793005)
         .wrapping_add(1442695040888963407)
 }
 
 // A number below the limit.
-fn pick(seed: u64, limit: u64) -> u64
+pub(crate) fn pick(seed: u64, limit: u64) -> u64
     requires { 0 < limit }
+    ensures { result < limit }
 {
     (seed >> 33) % limit
 }

@@ -1,19 +1,24 @@
 //! The test of a query, which a caller makes before it asks a solver.
 
-ghost use Rattle.std.specs.Prelude.{◌≡◌, ◌&&◌, IsTrue};
+ghost use Rattle.std.specs.Prelude.{◌≡◌, ◌==◌, ◌&&◌, ◌||◌, IsTrue, is_none};
 ghost use Rattle.std.specs.Bool.{OnTrue};
+ghost use Rattle.std.specs.List.{list_all};
 ghost use Rattle.pack_defs.specs.Book.{domain_of};
-ghost use Rattle.pack_defs.specs.Lists.{is_ascending, is_in};
+ghost use Rattle.pack_defs.specs.Lists.{has_station, is_ascending, is_in};
+ghost use Rattle.assign_check.specs.Fault.{violation};
 ghost use Rattle.cert_types.specs.Certificate.{IsTaskOf};
-ghost use Rattle.cert_types.specs.Query.{IsQuery, has_channels, is_on_domains, is_query};
+ghost use Rattle.cert_types.specs.Query.{IsQuery, has_channels, has_others, is_last_map, is_on_domains, is_query};
 
 use crate::subset::{ascends, is_in};
 use crate::task::Task;
+use assign_check::check::violation;
 use pack_defs::book::Book;
+use pack_defs::channel_map::ChannelMap;
 
 /// Whether a task is one that a solver may be asked beside a book: its set ascends and each of its stations has a channel;
-/// its last map is of stations of the set, each on a channel of its domain. It searches by halves, once for each station
-/// and each entry, and takes no memory.
+/// its last map is of stations of the set, each on a channel of its domain, violates no pair, and where a station is tested
+/// has each other one of the set. It searches by halves, once for each station and each entry, goes through the pairs of the
+/// last map's stations, and takes no memory. The queries of an auction are such without being asked.
 #[tactic(auto, unfolding(crate::specs::Query::is_query))]
 pub fn is_query(book: &Book, task: &Task) -> bool
     ensures exact { result ≡ is_query book.now task.now }
@@ -21,7 +26,7 @@ pub fn is_query(book: &Book, task: &Task) -> bool
     ensures task { OnTrue result (IsTaskOf book.now task.now) }
 {
     let set = task.set.as_slice();
-    ascends(set) && has_channels(book, set) && is_on_domains(book, set, task.last.entries())
+    ascends(set) && has_channels(book, set) && is_last_map(book, task)
 }
 
 // Whether each station has some channel.
@@ -36,8 +41,48 @@ fn has_channels(book: &Book, set: &[u32]) -> bool
     true
 }
 
-// Whether each entry is of a station of the ascending set, on a channel of its domain.
-fn is_on_domains(book: &Book, set: &[u32], entries: &[(u32, u8)]) -> bool
+// Whether the last map is of stations of the ascending set, on their domains, violates no pair, and has each of them but the
+// tested one.
+fn is_last_map(book: &Book, task: &Task) -> bool
+    requires { IsTrue (is_ascending task.now.set) }
+    ensures { result ≡ is_last_map book.now task.now }
+{
+    is_on_domains(book, task.set.as_slice(), task.last.entries())
+        && violation(book, &task.last).is_none()
+        && has_others(task.station, task.set.as_slice(), &task.last)
+}
+
+// Whether each station of the set but the tested one stands in the map; where none is tested, nothing is asked.
+fn has_others(tested: Option<u32>, set: &[u32], map: &ChannelMap) -> bool
+    ensures { result ≡ has_others tested set.now map.now }
+{
+    match tested {
+        Some(s) => has_all_but(s, set, map),
+        None => true,
+    }
+}
+
+// Whether each station of the set but this one stands in the map.
+fn has_all_but(s: u32, set: &[u32], map: &ChannelMap) -> bool
+    ensures { result ≡ list_all (λ t. (t == s) || has_station map.now t) set.now }
+{
+    for t in set {
+        if !is_there(s, map, *t) {
+            return false;
+        }
+    }
+    true
+}
+
+// Whether a station is this one or stands in the map.
+fn is_there(s: u32, map: &ChannelMap, t: u32) -> bool
+    ensures { result ≡ ((t == s) || has_station map.now t) }
+{
+    t == s || map.get(t).is_some()
+}
+
+/// Whether each entry is of a station of the ascending set, on a channel of its domain.
+pub(crate) fn is_on_domains(book: &Book, set: &[u32], entries: &[(u32, u8)]) -> bool
     requires { IsTrue (is_ascending set.now) }
     ensures { result ≡ is_on_domains book.now set.now entries.now }
 {

@@ -44,7 +44,7 @@ pub(crate) fn fault(alloc: Global, budget: u32, answer: Answer) -> Result<Option
 }
 
 // The place of a refusal.
-fn place(checked: Result<Certified, CertifyFault>) -> Result<Option<Place>, NoMemory> {
+pub(crate) fn place(checked: Result<Certified, CertifyFault>) -> Result<Option<Place>, NoMemory> {
     match checked {
         Ok(_) => Ok(None),
         Err(fault) => match fault.why {

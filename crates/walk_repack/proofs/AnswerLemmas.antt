@@ -1,13 +1,13 @@
 -- The answers that a walk ends with are valid.
-use Rattle.std.proofs.Common.{◌≡◌, ℕ, true, false, not, cond, ◌==◌, ◌&&◌, nat_lt, List, [], ◌∷◌, length, Some, None, unwrap_or, refl, sym, ap, subst, ◌∙◌, ⊎_elim, eqb-true, eq-eqb, arith}
+use Rattle.std.proofs.Common.{◌≡◌, ℕ, true, false, not, cond, ◌==◌, ◌&&◌, nat_lt, List, [], ◌∷◌, length, Some, None, unwrap_or, refl, sym, ap, subst, ◌∙◌, eqb-true, eq-eqb, arith}
 use Rattle.std.specs.List.{list_all}
-use Rattle.std.proofs.lemmas.Bool.{and_from, and_parts, or_cases, or_left}
+use Rattle.std.proofs.lemmas.Bool.{and_from, and_parts, or_left}
 use Rattle.std.proofs.lemmas.Bool.Decides.{nat_tests}
 use Rattle.pack_defs.specs.declared.worker.Worker.{Worker}
 use Rattle.pack_defs.specs.declared.pair.Pair.{Pair}
 use Rattle.pack_defs.specs.Book.{BookView, domain_of}
 use Rattle.pack_defs.specs.ChannelMap.{channel_of, overlaid}
-use Rattle.pack_defs.specs.Lists.{has_entry, has_station, is_ascending, is_empty, is_in}
+use Rattle.pack_defs.specs.Lists.{has_entry, has_station, is_empty, is_in}
 use Rattle.assign_check.specs.Fault.{IsCleanOn}
 use Rattle.pack_defs.proofs.Members.{list_all-gives}
 use Rattle.pack_defs.proofs.Words.{Contains-from_has_entry, list_any-map}
@@ -17,35 +17,14 @@ use Rattle.cert_types.specs.declared.task.Task.{Task}
 use Rattle.cert_types.specs.declared.answer.Answer.TheVariants.{Fit, Refuted, Spent}
 use Rattle.cert_types.specs.declared.answer.Refutation.TheVariants.{Dead}
 use Rattle.cert_types.specs.declared.answer.Receipt.TheVariants.{Moves}
-use Rattle.cert_types.specs.Certificate.{IsTaskOf}
-use Rattle.cert_types.specs.Query.{IsQuery, is_query, has_channels, is_on_domains}
+use Rattle.cert_types.specs.Query.{IsQuery, has_channels, is_on_domains}
 use Rattle.cert_types.specs.Refutes.{is_dead}
 use Rattle.cert_types.specs.Valid.{IsValid, learns}
 use Rattle.cert_types.specs.Walks.{AreSpentMoves, least_of, start_map, violates_some}
 use Rattle.cert_types.proofs.Meaning.{means-dead, means-fit, means-moves}
+use Rattle.cert_types.proofs.QueryLaws.{query-of_set, query-parts}
 use Rattle.walk_repack.specs.Course.{AreOnDomains, CourseView, IsCourse}
 use Rattle.walk_repack.specs.Steps.{stations_in}
-
--- ---- what a query says
-
-pub query-parts : (book : BookView) (task : Task) → IsQuery book task → (is_ascending task.set ≡ true) × (has_channels book task.set ≡ true) × (is_on_domains book task.set task.last ≡ true)
-unfolding is_query
-query-parts book task q =
-    let parts = and_parts (is_ascending task.set) (has_channels book task.set && is_on_domains book task.set task.last) q.holds in
-    let more = and_parts (has_channels book task.set) (is_on_domains book task.set task.last) parts.1 in
-    (parts.0, more.0, more.1)
-
-pub query-task : (book : BookView) (task : Task) → IsQuery book task → IsTaskOf book task
-query-task book task q = record { rises = (query-parts book task q).0 }
-
-last-of : (book : BookView) (set : List ℕ) (entries : List (ℕ × ℕ)) (s : ℕ) → is_on_domains book set entries ≡ true → has_station entries s ≡ true → is_in set s ≡ true
-last-of book set [] s d h = cc
-last-of book set (x ∷ xs) s d h =
-    let parts = and_parts (is_in set x.0 && is_in (domain_of book x.0) x.1) (is_on_domains book set xs) d in
-    ⊎_elim
-    (λ e. subst (λ z. is_in set z ≡ true) (eqb-true x.0 s e) (and_parts (is_in set x.0) (is_in (domain_of book x.0) x.1) parts.0).0)
-    (λ r. last-of book set xs s parts.1 r)
-    (or_cases (x.0 == s) (has_station xs s) h)
 
 -- ---- the start map
 
@@ -82,7 +61,7 @@ start-on book set last (s ∷ ss) d h =
 
 -- each station of a query's start map is on its domain
 pub query-starts : (book : BookView) (task : Task) → IsQuery book task → AreOnDomains book (start_map book task.last task.set)
-query-starts book task q = let parts = query-parts book task q in start-on book task.set task.last task.set parts.2 parts.1
+query-starts book task q = let parts = query-parts book task q in start-on book task.set task.last task.set parts.domains parts.channels
 
 pub start-stations : (book : BookView) (last : List (ℕ × ℕ)) (set : List ℕ) → stations_in (start_map book last set) ≡ set
 start-stations book last [] = refl
@@ -99,7 +78,7 @@ pub last-kept : (book : BookView) (task : Task) (entries : List (ℕ × ℕ)) �
 last-kept book task entries q e s h =
     sym (list_any-map (λ y. y == s) (λ (y : ℕ × ℕ). y.0) entries)
     ∙ ap (λ (xs : List ℕ). is_in xs s) e
-    ∙ last-of book task.set task.last s (query-parts book task q).2 h
+    ∙ query-of_set book task q s h
 
 no-number : (n : ℕ) → nat_lt 0 n ≡ false → n ≡ 0
 no-number n h = grind (arith, nat_tests)

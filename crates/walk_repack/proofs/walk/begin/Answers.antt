@@ -1,6 +1,7 @@
 use Rattle.std.proofs.Common.{List, ℕ, sym, subst}
 use Rattle.walk_repack.specs.Course.{AreOnDomains}
-use Rattle.walk_repack.proofs.AnswerLemmas.{query-starts, query-task}
+use Rattle.cert_types.proofs.QueryLaws.{query-task}
+use Rattle.walk_repack.proofs.AnswerLemmas.{query-starts}
 use Rattle.walk_repack.proofs.walk.begin.Goals as goal
 
 pub start_map-requires : goal.start_map-requires

@@ -1,0 +1,78 @@
+-- A fit of a query that names the tested station is without fault exactly where its own entries are of the set, each on its
+-- domain, and no pair of theirs is violated.
+use Rattle.std.proofs.Common.{◌≡◌, ℕ, true, false, ◌==◌, ◌&&◌, ◌||◌, List, find, Option, Some, None, option_map, inl, inr, ap, subst, eqb-true, sym}
+use Rattle.std.proofs.lemmas.Bool.{and_from, and_parts, or_cases}
+use Rattle.pack_defs.specs.Book.{BookView, domain_of}
+use Rattle.pack_defs.specs.ChannelMap.{IsAscending, overlaid}
+use Rattle.pack_defs.specs.Lists.{has_entry, has_station, is_ascending, is_in}
+use Rattle.pack_defs.proofs.Members.{is_in-from, is_in-gives, list_all-from, list_all-gives}
+use Rattle.pack_defs.proofs.Words.{Contains-from_has_entry, has_entry-from_Contains, list_all-at}
+use Rattle.assign_check.specs.declared.fault.MapFault.TheVariants.{Violates}
+use Rattle.assign_check.specs.Changes.{violates_at_some}
+use Rattle.assign_check.specs.Fault.{first_fault, is_violated, IsCleanOn}
+use Rattle.assign_check.proofs.Changed.{none-changed_violated, none-violated_changed}
+use Rattle.assign_check.proofs.Faultless.{faultless, found-none, no-violation, no_map, not-joined}
+use Rattle.assign_check.proofs.Overlays.{change-stands, overlaid-from, overlaid-has, overlaid-keeps}
+use Rattle.cert_types.specs.declared.task.Task.{Task}
+use Rattle.cert_types.specs.Query.{IsQuery, has_others, is_named, is_on_domains}
+use Rattle.cert_types.specs.Valid.{fit_fault, place_of}
+use Rattle.cert_types.proofs.QueryLaws.{query-parts}
+use Rattle.cert_types.proofs.Validity.{fit-clean}
+
+pub query-rises : (book : BookView) (task : Task) → IsQuery book task → is_ascending task.set ≡ true
+query-rises book task query = (query-parts book task query).rises
+
+-- a station of the set is the tested one, which the fit names, or stands in the last map
+has-each : (station : Option ℕ) (set : List ℕ) (last delta : List (ℕ × ℕ)) → has_others station set last ≡ true → is_named station delta ≡ true → (s : ℕ) → is_in set s ≡ true → has_station (overlaid last delta) s ≡ true
+has-each None set last delta others named s h = cc
+has-each (Some t) set last delta others named s h =
+    elim (or_cases (s == t) (has_station last s) (list_all-at (λ u. (u == t) || has_station last u) set s others h)) [
+      | inl e ↦ subst (λ u. has_station (overlaid last delta) u ≡ true) (sym (eqb-true s t e)) (overlaid-has last delta t named)
+      | inr stands ↦ overlaid-keeps last delta s stands
+    ]
+
+-- an entry is of the set, on its domain
+entry-on : (book : BookView) (set : List ℕ) (entries : List (ℕ × ℕ)) (x : ℕ × ℕ) → is_on_domains book set entries ≡ true → has_entry entries x ≡ true → (is_in set x.0 ≡ true) × (is_in (domain_of book x.0) x.1 ≡ true)
+entry-on book set entries x on h =
+    and_parts (is_in set x.0) (is_in (domain_of book x.0) x.1)
+    (list_all-gives (λ y. is_in set y.0 && is_in (domain_of book y.0) y.1) entries x on (Contains-from_has_entry entries x h))
+
+either-on : (book : BookView) (set : List ℕ) (last delta : List (ℕ × ℕ)) (x : ℕ × ℕ) → is_on_domains book set last ≡ true → is_on_domains book set delta ≡ true → has_entry (overlaid last delta) x ≡ true → (is_in set x.0 ≡ true) × (is_in (domain_of book x.0) x.1 ≡ true)
+either-on book set last delta x before after h =
+    elim (overlaid-from last delta x h) [
+      | inl new ↦ entry-on book set delta x after new
+      | inr old ↦ entry-on book set last x before old
+    ]
+
+pub fits-changed : (book : BookView) (task : Task) (delta : List (ℕ × ℕ)) → IsQuery book task → is_named task.station delta ≡ true → is_on_domains book task.set delta ≡ true → violates_at_some book (overlaid task.last delta) delta ≡ false → fit_fault book task delta ≡ None
+fits-changed book task delta query named on e =
+    let map = overlaid task.last delta in
+    let parts = query-parts book task query in
+    let none = found-none (is_violated map) book.pairs (no_map Violates (find (is_violated map) book.pairs) (none-violated_changed book task.last delta parts.clean e)) in
+    let clean : IsCleanOn book task.set map = record {
+      each = has-each task.station task.set task.last delta parts.others named;
+      only = λ x h. (either-on book task.set task.last delta x parts.domains on h).0;
+      clean = record {
+        on_domain = λ x k. is_in-gives (domain_of book x.0) x.1 (either-on book task.set task.last delta x parts.domains on (has_entry-from_Contains map x k)).1;
+        apart = λ x y k l. not-joined map x y book.pairs (has_entry-from_Contains map x k) (has_entry-from_Contains map y l) none;
+      };
+    } in
+    ap (option_map place_of) (faultless book task.set map clean)
+
+-- ---- and back
+
+pub fit-on_domains : (book : BookView) (task : Task) (delta : List (ℕ × ℕ)) → IsAscending delta → fit_fault book task delta ≡ None → is_on_domains book task.set delta ≡ true
+fit-on_domains book task delta a e =
+    let map = overlaid task.last delta in
+    let clean = fit-clean book task delta e in
+    list_all-from (λ x. is_in task.set x.0 && is_in (domain_of book x.0) x.1) delta (λ x there.
+    let stands = change-stands task.last delta x a (has_entry-from_Contains delta x there) in
+    and_from (is_in task.set x.0) (is_in (domain_of book x.0) x.1) (clean.only x stands) (is_in-from (domain_of book x.0) x.1 (clean.clean.on_domain x (Contains-from_has_entry map x stands))))
+
+pub fit-violates_none : (book : BookView) (task : Task) (delta : List (ℕ × ℕ)) → fit_fault book task delta ≡ None → violates_at_some book (overlaid task.last delta) delta ≡ false
+fit-violates_none book task delta e =
+    let map = overlaid task.last delta in
+    none-changed_violated book map delta (no-violation book task.set map (no_map place_of (first_fault book task.set map) e))
+
+-- what the search is to know at `fits_by_changes`
+pub ruleset by_changes = (query-rises, fits-changed, fit-on_domains, fit-violates_none)
