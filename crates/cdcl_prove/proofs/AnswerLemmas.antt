@@ -1,12 +1,11 @@
 -- The answers that a search ends with are valid.
-use Rattle.std.proofs.Common.{Bool, ◌≡◌, ℕ, ◌+◌, ◌<◌, true, false, ◌&&◌, ◌==◌, List, [], ◌∷◌, ◌++◌, map, length, None, refl, sym, ap, ◌∙◌, subst, arith, append_assoc, length-append, eq-eqb, ⊎_elim, filter, cond}
+use Rattle.std.proofs.Common.{Bool, ◌≡◌, ℕ, ◌+◌, ◌<◌, true, false, ◌==◌, List, [], ◌∷◌, ◌++◌, map, length, None, refl, sym, ap, ◌∙◌, subst, arith, append_assoc, length-append, eq-eqb, ⊎_elim, filter, cond}
 use Rattle.std.specs.List.{list_all}
-use Rattle.std.proofs.lemmas.Bool.{and_from, and_parts, or_left, or_right, or_cases, cond-false, eqb-true}
+use Rattle.std.proofs.lemmas.Bool.{and_from, or_left, or_right, or_cases, cond-false}
 use Rattle.clause_db.specs.declared.lit.Lit.{Lit}
 use Rattle.clause_db.specs.Clause.{is_empty_clause}
 use Rattle.clause_db.specs.Clauses.{Clauses}
-use Rattle.pack_defs.specs.Book.{BookView, domain_of}
-use Rattle.cert_types.specs.Query.{IsQuery, is_query, has_channels, is_on_domains}
+use Rattle.pack_defs.specs.Book.{BookView}
 use Rattle.pack_defs.specs.ChannelMap.{overlaid}
 use Rattle.pack_defs.specs.Lists.{is_in, is_ascending, has_station}
 use Rattle.pack_defs.specs.Packing.{IsPacking, IsClean}
@@ -37,26 +36,6 @@ stations-kept last map' set e of s h = sym (list_any-map (λ y. y == s) (λ (x :
 
 pub fit-valid : (book : BookView) (task : Task) (worker : Worker) (map' d : List (ℕ × ℕ)) → IsPacking book task.set map' → overlaid task.last d ≡ map' → IsValid book task worker (Fit d)
 fit-valid book task worker map' d p e = means-fit book task worker d (on-stations book task.set (overlaid task.last d) (subst (λ (m : List (ℕ × ℕ)). map (λ (x : ℕ × ℕ). x.0) m ≡ task.set) (sym e) p.stations) (subst (λ (m : List (ℕ × ℕ)). IsClean book m) (sym e) p.clean))
-
--- what a query says
-pub query-rises : (book : BookView) (task : Task) → IsQuery book task → is_ascending task.set ≡ true
-unfolding is_query
-query-rises book task q = (and_parts (is_ascending task.set) (has_channels book task.set && is_on_domains book task.set task.last) q.holds).0
-
-last-of : (book : BookView) (set : List ℕ) (entries : List (ℕ × ℕ)) (s : ℕ) → is_on_domains book set entries ≡ true → has_station entries s ≡ true → is_in set s ≡ true
-last-of book set [] s d h = cc
-last-of book set (x ∷ xs) s d h =
-    let parts = and_parts (is_in set x.0 && is_in (domain_of book x.0) x.1) (is_on_domains book set xs) d in
-    ⊎_elim
-    (λ e. subst (λ z. is_in set z ≡ true) (eqb-true x.0 s e) (and_parts (is_in set x.0) (is_in (domain_of book x.0) x.1) parts.0).0)
-    (λ r. last-of book set xs s parts.1 r)
-    (or_cases (x.0 == s) (has_station xs s) h)
-
-pub query-of_set : (book : BookView) (task : Task) → IsQuery book task → (s : ℕ) → has_station task.last s ≡ true → is_in task.set s ≡ true
-unfolding is_query
-query-of_set book task q s h =
-    let parts = and_parts (is_ascending task.set) (has_channels book task.set && is_on_domains book task.set task.last) q.holds in
-    last-of book task.set task.last s (and_parts (has_channels book task.set) (is_on_domains book task.set task.last) parts.1).1 h
 
 -- ---- a refutation
 

@@ -13,19 +13,22 @@ use crate::part::around;
 use crate::search::Search;
 use crate::solve::{Outcome, solve};
 use crate::ties::Ties;
+use cert_types::answer::Answer;
 use cert_types::poll::{Attempt, Poll};
 use cert_types::task::Task;
 use cnf_encode::encode::encode;
+use first_looks::looks::{FirstLooks, Looked};
 use pack_defs::book::Book;
 use pack_defs::worker::{Kind, Worker};
 use std::alloc::{AllocError as NoMemory, Global};
 use std::marker::Model;
 
-/// A solver that decides and propagates over the packing formula, and learns a line of a proof from each conflict.
-/// Contracts see it as its worker, which is one that learns.
+/// A solver that decides and propagates over the packing formula, and learns a line of a proof from each conflict, once first
+/// looks found no fit. Contracts see it as its worker, which is one that learns.
 #[derive(Drop)]
 pub struct Cdcl {
     worker: Worker,
+    looks: FirstLooks,
 }
 
 impl Model for Cdcl {
@@ -43,23 +46,33 @@ impl Model for Cdcl {
 impl Cdcl {
     /// The solver of a worker that learns, which spends the worker's budget in lines, and by the worker's seed breaks the ties
     /// of the order in which variables are decided. The only error is want of memory.
-    pub fn new(_alloc: Global, worker: &Worker) -> Result<Cdcl, NoMemory>
+    pub fn new(alloc: Global, worker: &Worker) -> Result<Cdcl, NoMemory>
         requires { worker.now.kind ≡ Kind.Cdcl }
         ensures { IfOk result (λ solver. solver ≡ worker.now) }
     {
-        Ok(Cdcl { worker: *worker })
+        Ok(Cdcl {
+            worker: *worker,
+            looks: FirstLooks::new(alloc),
+        })
     }
 
-    /// Tries to answer a query. What it says is valid for the book, the query and its worker: the channels that make the
-    /// last map one of the set; a proof that the set does not fit, of at most the worker's budget of lines; or, where so
-    /// many lines are learnt, a receipt of them. Where the poll answers that another query stands, it stops. It searches at
-    /// most twice, and in each search the poll is asked before the first line, and then after each 16. Each attempt begins
-    /// anew, so that it can be called again whatever it answered.
+    /// How many queries each first look answered so far: the station's last fit, a free channel, one station that makes way.
+    pub fn looked(&self) -> Looked {
+        self.looks.looked()
+    }
+
+    /// Tries to answer a query. It looks first whether the tested station's last fit still fits, whether the station has a
+    /// free channel, and whether one station can make way for it; only then it searches. What it says is valid for the book,
+    /// the query and its worker: the channels that make the last map one of the set; a proof that the set does not fit, of at
+    /// most the worker's budget of lines; or, where so many lines are learnt, a receipt of them. Where the poll answers that
+    /// another query stands, it stops. It searches at most twice, and in each search the poll is asked before the first line,
+    /// and then after each 16. A search begins anew, so that it can be called again whatever it answered. Of each station what
+    /// its last fit changed is kept for its next query.
     ///
     /// The seed decides which of two variables comes first that are equally active. With seed 0 nothing is left to chance:
     /// that is their places in a heap, which begins in the variables' order. Any other seed gives each variable an activity
-    /// by chance, in the stream of the query's number, that is below what a preference or a conflict adds. So an attempt at
-    /// the same query learns the same lines each time.
+    /// by chance, in the stream of the query's number, that is below what a preference or a conflict adds. So a search for the
+    /// same query learns the same lines each time.
     ///
     /// # Errors
     ///
@@ -76,10 +89,25 @@ impl Cdcl {
         ensures worker { self.new ≡ self.old }
         ensures goes { P.goes poll.old poll.new }
     {
+        if let Some(fit) = self.looks.look(alloc, book, task)? {
+            return Ok(Attempt::Said(Answer::Fit(fit)));
+        }
         if let Some(attempt) = attempt_part(alloc, book, task, self.worker, poll)? {
             return Ok(attempt);
         }
-        attempt_whole(alloc, book, task, self.worker, poll)
+        let attempt = attempt_whole(alloc, book, task, self.worker, poll)?;
+        keep_fit(alloc, &mut self.looks, task.station, &attempt);
+        Ok(attempt)
+    }
+}
+
+// Keeps what a fit of the tested station changed, for the first look at its next test.
+fn keep_fit(alloc: Global, looks: &mut FirstLooks, station: Option<u32>, attempt: &Attempt) {
+    let Some(s) = station else {
+        return;
+    };
+    if let Attempt::Said(Answer::Fit(fit)) = attempt {
+        looks.keep(alloc, s, fit);
     }
 }
 

@@ -116,14 +116,26 @@ pub(crate) fn learner(budget: u32, seed: u64) -> Worker
     }
 }
 
-// Query 5, about these stations, while these channels stand.
+// Query 5, about these stations, while these channels stand. It tests none of them alone.
 pub(crate) fn task(alloc: Global, set: &[u32], last: &[(u32, u8)]) -> Result<Task, NoMemory>
+    requires { IsAscending last.now }
+{
+    task_of(alloc, None, set, last)
+}
+
+// The same, of the test of a station.
+pub(crate) fn task_of(
+    alloc: Global,
+    station: Option<u32>,
+    set: &[u32],
+    last: &[(u32, u8)],
+) -> Result<Task, NoMemory>
     requires { IsAscending last.now }
 {
     Ok(Task {
         number: 5,
         round: 1,
-        station: None,
+        station,
         set: Items::from_vec(Vec::from_slice(alloc, set)?),
         last: ChannelMap::of(alloc, last)?,
     })

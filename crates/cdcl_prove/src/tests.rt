@@ -3,7 +3,8 @@
 ghost use Rattle.std.specs.Prelude.{◌≡◌};
 
 use crate::cdcl::Cdcl;
-use crate::samples::{ALWAYS, Said, attempted, book, learner, packing, task};
+use crate::samples::{ALWAYS, Said, attempted, book, learner, packing, task, task_of};
+use first_looks::looks::Looked;
 use pack_defs::book::Book;
 use pack_defs::worker::{Kind, Worker};
 use plain_pack::search::fits;
@@ -54,6 +55,45 @@ fn a_budget_of_one_line_is_spent_where_there_is_a_conflict(rt: HostRuntime) -> R
         assert_eq!(rt; all[i], Said::Fit);
     }
     assert_eq!(rt; all[4], Said::Spent(1));
+    Ok(())
+}
+
+// Station 1 has one channel. While station 2 stands on it and station 3 on the other one of station 2, both have to move.
+const CHAIN: &str = "DOMAIN,1,14\nDOMAIN,2,14,15\nDOMAIN,3,15,16\n";
+
+const LINKS: &str = "CO,14,14,1,2\nCO,15,15,2,3\n";
+
+// What the first looks of one solver answered so far, after each of these queries in turn.
+fn looked_in_turn(alloc: Global) -> Option<[Looked; 5]> {
+    let book = book(alloc, CHAIN, LINKS)?;
+    let worker = learner(1000, 0);
+    let mut solver = Cdcl::new(alloc, &worker).ok()?;
+    let tasks = [
+        task_of(alloc, Some(1), &[1, 2, 3], &[(2, 14), (3, 15)]).ok()?,
+        task_of(alloc, Some(1), &[1, 2, 3], &[(2, 14), (3, 15)]).ok()?,
+        task_of(alloc, Some(2), &[2, 3], &[(3, 15)]).ok()?,
+        task_of(alloc, Some(1), &[1, 2], &[(2, 14)]).ok()?,
+        task_of(alloc, Some(1), &[1, 2], &[(2, 14)]).ok()?,
+    ];
+    let mut all = [solver.looked(); 5];
+    for (i, task) in tasks.iter().enumerate() {
+        if attempted(alloc, &mut solver, &worker, &book, task, ALWAYS) != Said::Fit {
+            return None;
+        }
+        all[i] = solver.looked();
+    }
+    Some(all)
+}
+
+#[test]
+fn last_fit_answers_the_next_query_of_its_station(rt: HostRuntime) -> Result<(), Fail> {
+    let looked = looked_in_turn(rt.alloc()).ok_or("not a fit")?;
+    // By a search, by the last fit, by a free channel, by station 2 that makes way, since the last fit moves station 3 as
+    // well, which is not asked about; and again by the last fit.
+    let want = [(0, 0, 0), (1, 0, 0), (1, 1, 0), (1, 1, 1), (2, 1, 1)];
+    for (i, looked) in looked.iter().enumerate() {
+        assert_eq!(rt; (looked.last, looked.free, looked.repaired), want[i]);
+    }
     Ok(())
 }
 

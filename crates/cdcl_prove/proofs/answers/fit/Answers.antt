@@ -8,11 +8,12 @@ use Rattle.cnf_encode.specs.Formula.{packing_formula}
 use Rattle.trail_prop.specs.Entries.{lits_of}
 use Rattle.trail_prop.specs.Trails.{TrailView}
 use Rattle.cdcl_prove.proofs.ModelLemmas.{Reads, model-satisfies}
-use Rattle.cdcl_prove.proofs.AnswerLemmas.{query-of_set, query-rises, stations-kept, fit-valid}
+use Rattle.cert_types.proofs.QueryLaws.{query-of_set, query-parts}
+use Rattle.cdcl_prove.proofs.AnswerLemmas.{stations-kept, fit-valid}
 use Rattle.cdcl_prove.proofs.answers.fit.Goals as goal
 
 pub decode-requires-clause-ascending : goal.decode-requires-clause-ascending
-decode-requires-clause-ascending c = subst (λ (xs : List ℕ). is_ascending xs ≡ true) (sym c.as_slice.ensures) (query-rises c.args.book.now c.args.task.now c.requires.query)
+decode-requires-clause-ascending c = subst (λ (xs : List ℕ). is_ascending xs ≡ true) (sym c.as_slice.ensures) (query-parts c.args.book.now c.args.task.now c.requires.query).rises
 
 pub decode-requires-clause-model : goal.decode-requires-clause-model
 decode-requires-clause-model c =

@@ -1,0 +1,10 @@
+//! First looks at a query: answers that need no search.
+#![tactic(auto)]
+
+pub mod looks;
+mod mend;
+#[cfg(test)]
+mod samples;
+#[cfg(test)]
+mod tests;
+mod ways;

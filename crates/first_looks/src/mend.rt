@@ -1,0 +1,90 @@
+//! A channel for the tested station beside the others as they stand, or with one of them moved out of its way.
+
+use crate::ways::{Blocker, Stands, Way, free_channel, ways_of};
+use pack_defs::book::Book;
+use pack_defs::channel_map::ChannelMap;
+use std::alloc::{AllocError as NoMemory, Global};
+
+/// A proposal: a channel for the tested station, and a channel for one station that stands in its way there.
+#[derive(Clone, Copy, Debug, PartialEq, Eq)]
+pub(crate) struct Proposal {
+    pub(crate) own: (u32, u8),
+    pub(crate) moved: Option<(u32, u8)>,
+}
+
+impl Proposal {
+    /// The channels that it changes, ascending by station. The only error is want of memory.
+    pub(crate) fn changes(self, alloc: Global) -> Result<ChannelMap, NoMemory> {
+        let own = self.own;
+        match self.moved {
+            Some(moved) if moved.0 < own.0 => ChannelMap::of(alloc, &[moved, own]),
+            Some(moved) if own.0 < moved.0 => ChannelMap::of(alloc, &[own, moved]),
+            _ => ChannelMap::of(alloc, &[own]),
+        }
+    }
+}
+
+/// The first proposal that these looks find for a station beside a map: a free channel, the one that its neighbours want
+/// least; else a channel on which one station alone stands in the way, which has a free channel itself once the tested station
+/// stands there. The only error is want of memory.
+pub(crate) fn propose(
+    alloc: Global,
+    book: &Book,
+    map: &ChannelMap,
+    s: u32,
+) -> Result<Option<Proposal>, NoMemory> {
+    let ways = ways_of(alloc, book, Stands { map, moved: None }, s)?;
+    if let Some(c) = free_channel(book.domain(s), &ways) {
+        return Ok(Some(Proposal {
+            own: (s, c),
+            moved: None,
+        }));
+    }
+    repair(alloc, book, map, s, &ways)
+}
+
+// The first channel of a station on which one other alone stands in the way and can go elsewhere.
+fn repair(
+    alloc: Global,
+    book: &Book,
+    map: &ChannelMap,
+    s: u32,
+    ways: &[Way],
+) -> Result<Option<Proposal>, NoMemory> {
+    for c in book.domain(s) {
+        let Some(t) = alone_in_the_way(ways, *c) else {
+            continue;
+        };
+        if let Some(d) = way_out(alloc, book, map, (s, *c), t)? {
+            return Ok(Some(Proposal {
+                own: (s, *c),
+                moved: Some((t, d)),
+            }));
+        }
+    }
+    Ok(None)
+}
+
+// The station that alone stands in the way on a channel.
+fn alone_in_the_way(ways: &[Way], c: u8) -> Option<u32> {
+    match ways.get(c as usize)?.blocker {
+        Blocker::One(t) => Some(t),
+        _ => None,
+    }
+}
+
+// A channel that is free for station `t` once another one stands so.
+fn way_out(
+    alloc: Global,
+    book: &Book,
+    map: &ChannelMap,
+    moved: (u32, u8),
+    t: u32,
+) -> Result<Option<u8>, NoMemory> {
+    let stands = Stands {
+        map,
+        moved: Some(moved),
+    };
+    let ways = ways_of(alloc, book, stands, t)?;
+    Ok(free_channel(book.domain(t), &ways))
+}
