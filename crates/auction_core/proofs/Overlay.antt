@@ -1,60 +1,10 @@
 -- A map overwritten on a component of the stations on air stays clean.
-use Rattle.std.proofs.Common.{◌≡◌, ℕ, ◌<◌, Bool, true, false, cond, ◌==◌, nat_lt, if◌then◌else◌, List, [], ◌∷◌, map, Option, Some, None, unwrap_or, refl, sym, ap, ◌∙◌, subst, ⊎_elim, inl, inr, eqb-true, eq-eqb, ne_eqb, arith, ◌⊎◌}
-use Rattle.std.specs.Option.{option_or}
+use Rattle.std.proofs.Common.{◌≡◌, ℕ, ◌<◌, Bool, true, false, cond, ◌==◌, nat_lt, if◌then◌else◌, List, [], ◌∷◌, map, Some, unwrap_or, refl, sym, ap, ◌∙◌, subst, ⊎_elim, inl, inr, eqb-true, eq-eqb, ne_eqb, arith, ◌⊎◌}
 use Rattle.std.proofs.lemmas.Bool.{and_parts, and_from, or_cases, or_left, or_right, both_ways, cases_order, lt-ltb, ltb-false, false≢true}
 use Rattle.pack_defs.specs.ChannelMap.{channel_of, put, overlaid}
 use Rattle.pack_defs.specs.Lists.{is_in, is_ascending, has_entry, same_entry}
 use Rattle.auction_core.specs.State.{restricted}
 use Rattle.pack_defs.proofs.Words.{below-later, ascending-rest, station-in}
-
-or_if : (b : Bool) (c : ℕ) (o : Option ℕ) → (if b then Some c else o) ≡ option_or (if b then Some c else None) o
-or_if true c o = refl
-or_if false c o = refl
-
--- x replaces y: they are of one station
-replaces : (b d : Bool) (c e : ℕ) (o : Option ℕ) → (b ≡ false → d ≡ false) → (if b then Some c else o) ≡ option_or (if b then Some c else None) (if d then Some e else o)
-replaces true d c e o f = refl
-replaces false true c e o f = let no : true ≡ false = f refl in absurd (false≢true (sym no))
-replaces false false c e o f = refl
-
--- y stands before x: they are of two stations
-passes : (b d : Bool) (c e : ℕ) (o : Option ℕ) → (d ≡ true → b ≡ false) → (if d then Some e else option_or (if b then Some c else None) o) ≡ option_or (if b then Some c else None) (if d then Some e else o)
-passes true true c e o f = let no : true ≡ false = f refl in absurd (false≢true (sym no))
-passes false true c e o f = refl
-passes b false c e o f = refl
-
--- the channel of a station once an entry is put into a map
-pub put-channel : (s : ℕ) (x : ℕ × ℕ) (m : List (ℕ × ℕ)) → channel_of s (put x m) ≡ option_or (channel_of s (x ∷ [])) (channel_of s m)
-put-channel s x [] = or_if (x.0 == s) x.1 None
-put-channel s x (y ∷ ys) =
-    let go : (a b : Bool) → (x.0 == y.0) ≡ b → channel_of s (if a then x ∷ y ∷ ys else (if b then x ∷ ys else y ∷ put x ys)) ≡ option_or (channel_of s (x ∷ [])) (channel_of s (y ∷ ys)) =
-    λ a b. elim a as (λ a. (x.0 == y.0) ≡ b → channel_of s (if a then x ∷ y ∷ ys else (if b then x ∷ ys else y ∷ put x ys)) ≡ option_or (channel_of s (x ∷ [])) (channel_of s (y ∷ ys))) [
-      | true ↦ λ e. or_if (x.0 == s) x.1 (channel_of s (y ∷ ys))
-      | false ↦ elim b as (λ b. (x.0 == y.0) ≡ b → channel_of s (if b then x ∷ ys else y ∷ put x ys) ≡ option_or (channel_of s (x ∷ [])) (channel_of s (y ∷ ys))) [
-        | true ↦ λ e. replaces (x.0 == s) (y.0 == s) x.1 y.1 (channel_of s ys) (λ n. subst (λ z. (z == s) ≡ false) (eqb-true x.0 y.0 e) n)
-        | false ↦ λ e.
-            ap (λ o. if y.0 == s then Some y.1 else o) (put-channel s x ys) ∙
-            passes (x.0 == s) (y.0 == s) x.1 y.1 (channel_of s ys) (λ t. subst (λ z. (x.0 == z) ≡ false) (eqb-true y.0 s t) e)
-      ]
-    ] in
-    go (nat_lt x.0 y.0) (x.0 == y.0) refl
-
-or_assoc : (a b c : Option ℕ) → option_or a (option_or b c) ≡ option_or (option_or a b) c
-or_assoc None b c = refl
-or_assoc (Some x) b c = refl
-
-or_none : (a : Option ℕ) → option_or a None ≡ a
-or_none None = refl
-or_none (Some x) = refl
-
--- the channel of a station in a map overwritten: the new entries' where they have one, else the map's
-pub overlaid-channel : (s : ℕ) (m d : List (ℕ × ℕ)) → channel_of s (overlaid m d) ≡ option_or (channel_of s (overlaid [] d)) (channel_of s m)
-overlaid-channel s m [] = refl
-overlaid-channel s m (x ∷ xs) =
-    overlaid-channel s (put x m) xs ∙
-    ap (option_or (channel_of s (overlaid [] xs))) (put-channel s x m) ∙
-    or_assoc (channel_of s (overlaid [] xs)) (channel_of s (x ∷ [])) (channel_of s m) ∙
-    ap (λ o. option_or o (channel_of s m)) (sym (overlaid-channel s (x ∷ []) xs))
 
 restrict_one : (b : Bool) (s c : ℕ) (y : ℕ × ℕ) (rest m : List (ℕ × ℕ)) → (y.0 ≡ s → b ≡ true) → channel_of s rest ≡ channel_of s m → channel_of s (cond b (y ∷ rest) rest) ≡ channel_of s (y ∷ m)
 restrict_one true s c y rest m f e = ap (λ o. if y.0 == s then Some y.1 else o) e

@@ -1,9 +1,9 @@
 -- The entries of the stations that have a channel at their place.
-use Rattle.std.proofs.Common.{◌≡◌, ℕ, zero, suc, ◌+◌, ◌<◌, ◌≤◌, true, false, cond, ◌==◌, ◌||◌, nat_lt, List, [], ◌∷◌, ◌++◌, map, drop, length, get_or, slice_set, Option, Some, None, MatchOption, Result, Ok, Err, refl, sym, ap, ◌∙◌, subst, inl, inr, arith, eq-eqb, ne_eqb, map-id, append_assoc, append-nil}
+use Rattle.std.proofs.Common.{◌≡◌, ℕ, zero, suc, ◌+◌, ◌<◌, ◌≤◌, true, false, cond, ◌==◌, ◌||◌, ◌⊎◌, nat_lt, List, [], ◌∷◌, ◌++◌, map, drop, length, get_or, slice_set, Option, Some, None, MatchOption, Result, Ok, Err, refl, sym, ap, ◌∙◌, subst, inl, inr, arith, eq-eqb, ne_eqb, map-id, append_assoc, append-nil}
 use Rattle.std.specs.List.Sorted.{IsBinarySearchResult, IsSearchInRange}
 use Rattle.std.specs.Ordering.{nat_cmp}
 use Rattle.std.specs.Result.{result_ok}
-use Rattle.std.proofs.lemmas.Bool.{and_parts, and_from, or_parts, or_left, or_right, cases_order, cond-true, cond-false, lt-ltb, false_from_ne_true}
+use Rattle.std.proofs.lemmas.Bool.{and_parts, and_from, or_parts, or_left, or_right, cond-true, cond-false, lt-ltb, false_from_ne_true}
 use Rattle.std.proofs.lemmas.List.{drop_more, get_or_default}
 use Rattle.std.proofs.Math.ListN.{drop_of_length-le}
 use Rattle.pack_defs.specs.ChannelMap.{IsAscending, channel_of, overlaid, put}
@@ -110,79 +110,12 @@ none-more (s ∷ ss) [] = none-anywhere ss
 none-more (s ∷ ss) (None ∷ cs) = none-more ss cs
 none-more (s ∷ ss) (Some c ∷ cs) = ap (λ (es : List (ℕ × ℕ)). (s, c) ∷ es) (none-more ss cs)
 
--- ---- the entries of a set, station by station
+-- ---- one place more
 
--- those of a station and of the ones above it
+-- the entry of a station, if it has a channel, before others
 abbrev pub with_own : ℕ → Option ℕ → List (ℕ × ℕ) → List (ℕ × ℕ)
 with_own s None es = es
 with_own s (Some c) es = (s, c) ∷ es
-
-none-of : (es : List (ℕ × ℕ)) → restricted es [] ≡ []
-none-of [] = refl
-none-of (e ∷ es) = none-of es
-
-one-station : (es : List (ℕ × ℕ)) (s : ℕ) (ss : List ℕ) → IsAscending es → is_ascending (s ∷ ss) ≡ true → restricted es (s ∷ ss) ≡ with_own s (channel_of s es) (restricted es ss)
-one-station [] s ss a b = refl
-one-station (e ∷ es) s ss a b =
-    let rest : IsAscending es = ascending-rest e.0 (stations es) a in
-    let later : restricted es (s ∷ ss) ≡ with_own s (channel_of s es) (restricted es ss) = one-station es s ss rest b in
-    elim (cases_order s e.0) [
-      | inl q ↦
-          let own : channel_of s (e ∷ es) ≡ Some e.1 = cond-true (e.0 == s) (Some e.1) (channel_of s es) (eq-eqb e.0 s (sym q)) in
-          let none : channel_of s es ≡ None = none-above s es (subst (λ z. is_ascending (z ∷ stations es) ≡ true) (sym q) a) in
-          let out : is_in ss e.0 ≡ false = subst (λ z. is_in ss z ≡ false) q (not-above s ss b) in
-          let same : (s, e.1) ≡ e = ap (λ (z : ℕ). (z, e.1)) q in
-          cond-true (is_in (s ∷ ss) e.0) (e ∷ restricted es (s ∷ ss)) (restricted es (s ∷ ss)) (or_left (s == e.0) (is_in ss e.0) (eq-eqb s e.0 q))
-          ∙ ap (λ (xs : List (ℕ × ℕ)). e ∷ xs) (later ∙ ap (λ o. with_own s o (restricted es ss)) none)
-          ∙ ap (λ (x : ℕ × ℕ). x ∷ restricted es ss) (sym same)
-          ∙ ap (λ (xs : List (ℕ × ℕ)). (s, e.1) ∷ xs) (sym (cond-false (is_in ss e.0) (e ∷ restricted es ss) (restricted es ss) out))
-          ∙ ap (λ o. with_own s o (restricted (e ∷ es) ss)) (sym own)
-      | inr o ↦ elim o [
-        | inl more ↦
-            let none : channel_of s es ≡ None = none-above s es (skipped s e es more a) in
-            let none_of_all : channel_of s (e ∷ es) ≡ None = cond-false (e.0 == s) (Some e.1) (channel_of s es) (ne_eqb e.0 s (λ q. omega arith)) ∙ none in
-            let rest_same : restricted es (s ∷ ss) ≡ restricted es ss = later ∙ ap (λ o. with_own s o (restricted es ss)) none in
-            ap (λ b. cond (b || is_in ss e.0) (e ∷ restricted es (s ∷ ss)) (restricted es (s ∷ ss))) (ne_eqb s e.0 (λ q. omega arith))
-            ∙ ap (λ (xs : List (ℕ × ℕ)). cond (is_in ss e.0) (e ∷ xs) xs) rest_same
-            ∙ ap (λ o. with_own s o (restricted (e ∷ es) ss)) (sym none_of_all)
-        | inr less ↦
-            let own : channel_of s (e ∷ es) ≡ channel_of s es = cond-false (e.0 == s) (Some e.1) (channel_of s es) (ne_eqb e.0 s (λ q. omega arith)) in
-            let out : is_in ss e.0 ≡ false = false_from_ne_true (is_in ss e.0) (λ h. let above : s < e.0 = below-later s ss e.0 b h in absurd (omega arith)) in
-            ap (λ c. cond (c || is_in ss e.0) (e ∷ restricted es (s ∷ ss)) (restricted es (s ∷ ss))) (ne_eqb s e.0 (λ q. omega arith))
-            ∙ cond-false (is_in ss e.0) (e ∷ restricted es (s ∷ ss)) (restricted es (s ∷ ss)) out
-            ∙ later
-            ∙ ap (λ (xs : List (ℕ × ℕ)). with_own s (channel_of s es) xs) (sym (cond-false (is_in ss e.0) (e ∷ restricted es ss) (restricted es ss) out))
-            ∙ ap (λ o. with_own s o (restricted (e ∷ es) ss)) (sym own)
-      ]
-    ]
-  where
-    skipped : (s : ℕ) (e : ℕ × ℕ) (es : List (ℕ × ℕ)) → s < e.0 → is_ascending (e.0 ∷ stations es) ≡ true → is_ascending (s ∷ stations es) ≡ true
-    skipped s e es l a = ascending-skip s e.0 (stations es) (and_from (nat_lt s e.0) (is_ascending (e.0 ∷ stations es)) (lt-ltb s e.0 l) a)
-
-left-ascends : (set : List ℕ) (i : ℕ) → is_ascending set ≡ true → i < length set → is_ascending (get_or set i 0 ∷ drop (i + 1) set) ≡ true
-left-ascends set i a l =
-    subst (λ xs. is_ascending xs ≡ true) (drop_more set i 0 l) (rw (map-id) at (ascending-drop (λ x. x) i set (rw map-id a)))
-
-set-more : (es : List (ℕ × ℕ)) (set : List ℕ) (i : ℕ) (o : Option ℕ) → IsAscending es → is_ascending set ≡ true → i < length set → o ≡ channel_of (get_or set i 0) es → restricted es (drop i set) ≡ with_own (get_or set i 0) o (restricted es (drop (i + 1) set))
-set-more es set i o a b l is =
-    ap (restricted es) (drop_more set i 0 l) ∙ one-station es (get_or set i 0) (drop (i + 1) set) a (left-ascends set i b l)
-    ∙ ap (λ o. with_own (get_or set i 0) o (restricted es (drop (i + 1) set))) (sym is)
-
--- a station of the set without a channel, and one with its channel
-pub set-passed : (es done : List (ℕ × ℕ)) (set : List ℕ) (i : ℕ) (o : Option ℕ) → IsAscending es → is_ascending set ≡ true → i < length set → o ≡ channel_of (get_or set i 0) es → o ≡ None → done ++ restricted es (drop i set) ≡ restricted es set → done ++ restricted es (drop (i + 1) set) ≡ restricted es set
-set-passed es done set i o a b l is none h =
-    ap (λ xs. done ++ xs) (sym (set-more es set i None a b l (sym none ∙ is))) ∙ h
-
-pub set-taken : (es done : List (ℕ × ℕ)) (set : List ℕ) (i c : ℕ) (o : Option ℕ) → IsAscending es → is_ascending set ≡ true → i < length set → o ≡ channel_of (get_or set i 0) es → o ≡ Some c → done ++ restricted es (drop i set) ≡ restricted es set → (done ++ (get_or set i 0, c) ∷ []) ++ restricted es (drop (i + 1) set) ≡ restricted es set
-set-taken es done set i c o a b l is some h =
-    append_assoc done ((get_or set i 0, c) ∷ []) (restricted es (drop (i + 1) set))
-    ∙ ap (λ xs. done ++ xs) (sym (set-more es set i (Some c) a b l (sym some ∙ is))) ∙ h
-
-pub set-done : (es done : List (ℕ × ℕ)) (set : List ℕ) (i : ℕ) → length set ≤ i → done ++ restricted es (drop i set) ≡ restricted es set → done ≡ restricted es set
-set-done es done set i l h =
-    sym (append-nil done) ∙ ap (λ xs. done ++ xs) (sym (ap (restricted es) (drop_of_length-le set l) ∙ none-of es)) ∙ h
-
--- ---- all the entries, place by place
 
 places-more : (ss : List ℕ) (cs : List (Option ℕ)) (i : ℕ) (o : Option ℕ) → length cs ≡ length ss → i < length ss → o ≡ get_or cs i o → placed_entries (drop i ss) (drop i cs) ≡ with_own (get_or ss i 0) o (placed_entries (drop (i + 1) ss) (drop (i + 1) cs))
 places-more ss cs i o e l is =
@@ -194,6 +127,65 @@ places-more ss cs i o e l is =
     own : (s : ℕ) (o : Option ℕ) (ss : List ℕ) (cs : List (Option ℕ)) → placed_entries (s ∷ ss) (o ∷ cs) ≡ with_own s o (placed_entries ss cs)
     own s None ss cs = refl
     own s (Some c) ss cs = refl
+
+-- ---- the entries of a set, by a walk along the places and the set
+
+none-of : (es : List (ℕ × ℕ)) → restricted es [] ≡ []
+none-of [] = refl
+none-of (e ∷ es) = none-of es
+
+-- a station below all entries has none of them
+part-above : (es : List (ℕ × ℕ)) (x : ℕ) (set : List ℕ) → is_ascending (x ∷ stations es) ≡ true → restricted es (x ∷ set) ≡ restricted es set
+part-above [] x set a = refl
+part-above (e ∷ es) x set a =
+    let less : x < e.0 = below-later x (stations (e ∷ es)) e.0 a (or_left (e.0 == e.0) (is_in (stations es) e.0) (eq-eqb e.0 e.0 refl)) in
+    ap (λ b. cond (b || is_in set e.0) (e ∷ restricted es (x ∷ set)) (restricted es (x ∷ set))) (ne_eqb x e.0 (λ q. omega arith))
+    ∙ ap (λ (xs : List (ℕ × ℕ)). cond (is_in set e.0) (e ∷ xs) xs) (part-above es x set (ascending-skip x e.0 (stations es) a))
+
+-- an entry off the set
+part-off : (s : ℕ) (o : Option ℕ) (es : List (ℕ × ℕ)) (set : List ℕ) → is_in set s ≡ false → restricted (with_own s o es) set ≡ restricted es set
+part-off s None es set h = refl
+part-off s (Some c) es set h = cond-false (is_in set s) ((s, c) ∷ restricted es set) (restricted es set) h
+
+left-ascends : (set : List ℕ) (i : ℕ) → is_ascending set ≡ true → i < length set → is_ascending (get_or set i 0 ∷ drop (i + 1) set) ≡ true
+left-ascends set i a l =
+    subst (λ xs. is_ascending xs ≡ true) (drop_more set i 0 l) (rw (map-id) at (ascending-drop (λ x. x) i set (rw map-id a)))
+
+-- what is below the first of those left is below all of them
+below-left : (x : ℕ) (xs : List ℕ) (i : ℕ) → is_ascending xs ≡ true → i < length xs → x < get_or xs i 0 → is_ascending (x ∷ drop i xs) ≡ true
+below-left x xs i a l less =
+    subst (λ ys. is_ascending (x ∷ ys) ≡ true) (sym (drop_more xs i 0 l))
+    (and_from (nat_lt x (get_or xs i 0)) (is_ascending (get_or xs i 0 ∷ drop (i + 1) xs)) (lt-ltb x (get_or xs i 0) less) (left-ascends xs i a l))
+
+-- the entries of the places that are left on the stations of the set that are left
+abbrev pub left_on : List ℕ → List (Option ℕ) → List ℕ → ℕ → ℕ → List (ℕ × ℕ)
+left_on ss cs set i j = restricted (placed_entries (drop i ss) (drop i cs)) (drop j set)
+
+-- the set's station stands at no place
+pub set-behind : (ss : List ℕ) (cs : List (Option ℕ)) (set : List ℕ) (done all : List (ℕ × ℕ)) (i j : ℕ) → is_ascending ss ≡ true → i < length ss → j < length set → get_or set j 0 < get_or ss i 0 → done ++ left_on ss cs set i j ≡ all → done ++ left_on ss cs set i (j + 1) ≡ all
+set-behind ss cs set done all i j a l m less h =
+    let es : List (ℕ × ℕ) = placed_entries (drop i ss) (drop i cs) in
+    let x : ℕ = get_or set j 0 in
+    ap (λ xs. done ++ xs) (sym (ap (restricted es) (drop_more set j 0 m) ∙ part-above es x (drop (j + 1) set) (placed-above x (drop i ss) (drop i cs) (below-left x ss i a l less)))) ∙ h
+
+-- the place's station isn't of the set
+pub place-behind : (ss : List ℕ) (cs : List (Option ℕ)) (set : List ℕ) (done all : List (ℕ × ℕ)) (i j : ℕ) → is_ascending set ≡ true → length cs ≡ length ss → i < length ss → j < length set → get_or ss i 0 < get_or set j 0 → done ++ left_on ss cs set i j ≡ all → done ++ left_on ss cs set (i + 1) j ≡ all
+place-behind ss cs set done all i j b e l m less h =
+    let s : ℕ = get_or ss i 0 in
+    let o : Option ℕ = get_or cs i None in
+    let out : is_in (drop j set) s ≡ false = not-above s (drop j set) (below-left s set j b m less) in
+    let more = places-more ss cs i o e l (get_or_default cs i None o (omega arith)) in
+    ap (λ xs. done ++ xs) (sym (ap (λ es. restricted es (drop j set)) more ∙ part-off s o (placed_entries (drop (i + 1) ss) (drop (i + 1) cs)) (drop j set) out)) ∙ h
+
+-- no place is left, or no station of the set
+pub walk-done : (ss : List ℕ) (cs : List (Option ℕ)) (set : List ℕ) (done all : List (ℕ × ℕ)) (i j : ℕ) → (length ss ≤ i) ⊎ (length set ≤ j) → done ++ left_on ss cs set i j ≡ all → done ≡ all
+walk-done ss cs set done all i j (inl l) h =
+    sym (append-nil done) ∙ ap (λ xs. done ++ xs) (sym (ap (λ xs. restricted (placed_entries xs (drop i cs)) (drop j set)) (drop_of_length-le ss l))) ∙ h
+walk-done ss cs set done all i j (inr l) h =
+    let es : List (ℕ × ℕ) = placed_entries (drop i ss) (drop i cs) in
+    sym (append-nil done) ∙ ap (λ xs. done ++ xs) (sym (ap (restricted es) (drop_of_length-le set l) ∙ none-of es)) ∙ h
+
+-- ---- all the entries, place by place
 
 pub place-passed : (ss : List ℕ) (cs : List (Option ℕ)) (done all : List (ℕ × ℕ)) (i : ℕ) (o : Option ℕ) → length cs ≡ length ss → i < length ss → o ≡ get_or cs i o → o ≡ None → done ++ placed_entries (drop i ss) (drop i cs) ≡ all → done ++ placed_entries (drop (i + 1) ss) (drop (i + 1) cs) ≡ all
 place-passed ss cs done all i o e l is none h =

@@ -1,24 +1,31 @@
 -- The standing query is one that a solver may be asked; and what is left once it is answered.
-use Rattle.std.proofs.Common.{◌≡◌, ◌∙◌, ℕ, ◌+◌, ◌<◌, ◌≤◌, Bool, true, false, not, cond, ◌&&◌, ◌||◌, ◌==◌, inl, inr, List, [], ◌∷◌, length, map, find, Option, Some, None, is_none, option_map, refl, sym, ap, subst, arith, Contains, MatchOption}
+use Rattle.std.proofs.Common.{◌≡◌, ◌∙◌, ℕ, ◌+◌, ◌<◌, ◌≤◌, Bool, true, false, not, cond, ◌&&◌, ◌||◌, ◌==◌, ◌⊎◌, inl, inr, List, [], ◌∷◌, length, map, find, Option, Some, None, is_none, option_map, refl, sym, ap, subst, arith, Contains, MatchOption}
 use Rattle.std.specs.Prelude.{⊤}
 use Rattle.std.specs.List.{list_all}
-use Rattle.std.specs.Option.{option_map_or}
-use Rattle.std.proofs.lemmas.Bool.{and_from, cases_Bool, eqb-true, or_cases, true≢false}
+use Rattle.std.specs.Option.{option_map_or, option_or}
+use Rattle.std.proofs.lemmas.Bool.{and_from, cases_Bool, eq-eqb, eqb-true, or_cases, or_left, or_right, true≢false}
+use Rattle.pack_defs.specs.declared.pair.Pair.{Pair}
 use Rattle.pack_defs.specs.declared.scenario.Scenario.{Scenario}
 use Rattle.pack_defs.specs.Book.{BookView, domain_of}
 use Rattle.pack_defs.specs.Components.{component}
-use Rattle.pack_defs.specs.Lists.{is_ascending, is_empty, is_in}
+use Rattle.pack_defs.specs.Lists.{has_station, is_ascending, is_empty, is_in}
 use Rattle.pack_defs.specs.Packing.{IsClean}
 use Rattle.pack_defs.specs.Prices.{declines, start_set}
 use Rattle.pack_defs.specs.Scenario.{facilities}
 use Rattle.pack_defs.specs.ClockRule.{ClockTest, asked_set, clock_tests, is_active, is_on_air, on_air_set}
-use Rattle.pack_defs.proofs.Members.{Contains-from_filter, Contains-from_map, Contains-nil, is_in-from, is_in-gives, list_all-from}
+use Rattle.pack_defs.proofs.Members.{Contains-filter, Contains-from_filter, Contains-from_map, Contains-nil, is_in-from, is_in-gives, list_all-from, list_any-from}
 use Rattle.pack_defs.proofs.Words.{ascending-from}
-use Rattle.cert_types.specs.Query.{IsQuery as MayBeAsked, has_channels, is_on_domains, is_query}
+use Rattle.assign_check.specs.declared.fault.MapFault.TheVariants.{Violates}
+use Rattle.assign_check.specs.Fault.{extra, first_fault, is_violated, missing, off_domain, violation}
+use Rattle.assign_check.proofs.Faultless.{faultless, on-stations}
+use Rattle.cert_types.specs.Query.{IsQuery as MayBeAsked, has_channels, has_others, is_on_domains}
+use Rattle.cert_types.proofs.QueryLaws.{query-of}
 use Rattle.auction_core.specs.declared.record.Shown.{Shown}
 use Rattle.auction_core.specs.declared.record.Shown.TheVariants.{Empty, NoChannel, Same}
+use Rattle.auction_core.specs.Clockwork.{ClockworkView, IsClockwork}
+use Rattle.auction_core.specs.Course.{CourseView, core_state, is_roomy}
 use Rattle.auction_core.specs.Rule.{IsQuery as IsNext, KeepsTheRule}
-use Rattle.auction_core.specs.Setup.{IsOfAuction}
+use Rattle.auction_core.specs.Setup.{IsOfAuction, SetupView}
 use Rattle.auction_core.specs.State.{CoreState, answered, first_task, go_on, has_ended, is_same, past_first, queries_left, restricted, settled, settled_unasked, shows_room, start_task, start_unasked, started, task_of, test_task}
 use Rattle.auction_core.proofs.Answers.{component-ascending, filter-ascending, filter-in, in-filter}
 use Rattle.auction_core.proofs.ClockworkLemmas.{first_state, go_on-fewer, started-start}
@@ -49,15 +56,46 @@ start-channels sc book h =
     ] in
     none-bare (λ s. is_empty (domain_of book s)) (start_set sc) (outer (is_empty (start_set sc)) h)
 
-from-parts : (book : BookView) (n r : ℕ) (o : Option ℕ) (set : List ℕ) (last : List (ℕ × ℕ)) → is_ascending set ≡ true → has_channels book set ≡ true → is_on_domains book set last ≡ true → MayBeAsked book (record { number = n; round = r; station = o; set = set; last = last })
-unfolding is_query
-from-parts book n r o set last a c d = record { holds = and_from (is_ascending set) (has_channels book set && is_on_domains book set last) a (and_from (has_channels book set) (is_on_domains book set last) c d) }
+from-parts : (book : BookView) (n r : ℕ) (o : Option ℕ) (set : List ℕ) (last : List (ℕ × ℕ)) → is_ascending set ≡ true → has_channels book set ≡ true → is_on_domains book set last ≡ true → violation book last ≡ None → has_others o set last ≡ true → MayBeAsked book (record { number = n; round = r; station = o; set = set; last = last })
+from-parts book n r o set last a c d v h = query-of book (record { number = n; round = r; station = o; set = set; last = last }) (record { rises = a; channels = c; domains = d; clean = v; others = h })
+
+-- no pair has both its entries in an empty map
+none-violated : (ps : List Pair) → find (is_violated []) ps ≡ None
+none-violated [] = refl
+none-violated (p ∷ ps) = none-violated ps
 
 start-query : (sc : Scenario) (book : BookView) (state : CoreState) → IsOfAuction sc book → start_unasked sc book ≡ None → MayBeAsked book (start_task sc state.number)
 start-query sc book state a h =
-    from-parts book state.number 0 None (start_set sc) [] (filter-ascending (λ f. declines sc f 0) (facilities sc) (ascending-from (facilities sc) a.limits.ascend)) (start-channels sc book h) refl
+    from-parts book state.number 0 None (start_set sc) [] (filter-ascending (λ f. declines sc f 0) (facilities sc) (ascending-from (facilities sc) a.limits.ascend)) (start-channels sc book h) refl (ap (option_map Violates) (none-violated book.pairs)) refl
 
 -- ---- the query of a test
+
+-- a map stays clean on a part of its stations
+part-clean : (book : BookView) (m : List (ℕ × ℕ)) (set : List ℕ) → IsClean book m → IsClean book (restricted m set)
+part-clean book m set clean = record {
+  on_domain = λ x k. clean.on_domain x (Contains-from_filter (λ (e : ℕ × ℕ). is_in set e.0) m x k).0;
+  apart = λ x y k l. clean.apart x y (Contains-from_filter (λ (e : ℕ × ℕ). is_in set e.0) m x k).0 (Contains-from_filter (λ (e : ℕ × ℕ). is_in set e.0) m y l).0;
+}
+
+second-none : {A : Type 0} (a b : Option A) → option_or a b ≡ None → b ≡ None
+second-none None b e = e
+second-none (Some x) b e = cc
+
+-- and a clean map violates no pair
+none-violates : (book : BookView) (m : List (ℕ × ℕ)) → IsClean book m → violation book m ≡ None
+unfolding first_fault
+none-violates book m clean =
+    let set : List ℕ = map (λ x. x.0) m in
+    second-none (off_domain book m) (violation book m)
+    (second-none (extra set m) (option_or (off_domain book m) (violation book m))
+    (second-none (missing set m) (option_or (extra set m) (option_or (off_domain book m) (violation book m)))
+    (faultless book set m (on-stations book set m refl clean))))
+
+-- a station of the set that the map has is one of its part there
+part-has : (m : List (ℕ × ℕ)) (set : List ℕ) (s : ℕ) → is_in set s ≡ true → is_in (map (λ x. x.0) m) s ≡ true → has_station (restricted m set) s ≡ true
+part-has m set s own h =
+    let (x, listed, is) = Contains-from_map (λ (e : ℕ × ℕ). e.0) m s (is_in-gives (map (λ (e : ℕ × ℕ). e.0) m) s h) in
+    list_any-from (λ (e : ℕ × ℕ). e.0 == s) (restricted m set) x (Contains-filter (λ (e : ℕ × ℕ). is_in set e.0) m x listed (subst (λ z. is_in set z ≡ true) (sym is) own)) (eq-eqb x.0 s is)
 
 some-channel : (xs : List ℕ) (c : ℕ) → Contains xs c → is_empty xs ≡ false
 some-channel [] c h = absurd (Contains-nil c h)
@@ -69,13 +107,29 @@ on-map book m s clean h =
     let (x, listed, is) = Contains-from_map (λ (e : ℕ × ℕ). e.0) m s (is_in-gives (map (λ (e : ℕ × ℕ). e.0) m) s h) in
     some-channel (domain_of book s) x.1 (subst (λ z. Contains (domain_of book z) x.1) is (clean.on_domain x listed))
 
--- so has each station that a test asks about
-asked-channel : (sc : Scenario) (book : BookView) (state : CoreState) (t : ClockTest) (s : ℕ) → IsClean book state.map → map (λ x. x.0) state.map ≡ on_air_set sc state.clock → is_empty (domain_of book t.station) ≡ false → is_in (component book (asked_set sc state.clock t.station) t.station) s ≡ true → is_empty (domain_of book s) ≡ false
-asked-channel sc book state t s clean stations own h =
+-- each station that a test asks about is the tested one or on air
+asked-on_air : (sc : Scenario) (book : BookView) (state : CoreState) (t : ClockTest) (s : ℕ) → map (λ x. x.0) state.map ≡ on_air_set sc state.clock → is_in (component book (asked_set sc state.clock t.station) t.station) s ≡ true → (is_in (map (λ x. x.0) state.map) s ≡ true) ⊎ ((s == t.station) ≡ true)
+asked-on_air sc book state t s stations h =
     let parts = filter-in (λ f. is_on_air state.clock f || (f == t.station)) (facilities sc) s (in-component book (asked_set sc state.clock t.station) t.station s h) in
     elim (or_cases (is_on_air state.clock s) (s == t.station) parts.1) [
-      | inl air ↦ on-map book state.map s clean (subst (λ xs. is_in xs s ≡ true) (sym stations) (in-filter (λ f. is_on_air state.clock f) (facilities sc) s parts.0 air))
+      | inl air ↦ inl (subst (λ xs. is_in xs s ≡ true) (sym stations) (in-filter (λ f. is_on_air state.clock f) (facilities sc) s parts.0 air))
+      | inr same ↦ inr same
+    ]
+
+-- so it has a channel
+asked-channel : (sc : Scenario) (book : BookView) (state : CoreState) (t : ClockTest) (s : ℕ) → IsClean book state.map → map (λ x. x.0) state.map ≡ on_air_set sc state.clock → is_empty (domain_of book t.station) ≡ false → is_in (component book (asked_set sc state.clock t.station) t.station) s ≡ true → is_empty (domain_of book s) ≡ false
+asked-channel sc book state t s clean stations own h =
+    elim (asked-on_air sc book state t s stations h) [
+      | inl air ↦ on-map book state.map s clean air
       | inr same ↦ subst (λ z. is_empty (domain_of book z) ≡ false) (sym (eqb-true s t.station same)) own
+    ]
+
+-- and is the tested one or stands in the last map
+asked-there : (sc : Scenario) (book : BookView) (state : CoreState) (t : ClockTest) (set : List ℕ) (s : ℕ) → map (λ x. x.0) state.map ≡ on_air_set sc state.clock → set ≡ component book (asked_set sc state.clock t.station) t.station → is_in set s ≡ true → ((s == t.station) || has_station (restricted state.map set) s) ≡ true
+asked-there sc book state t set s stations is h =
+    elim (asked-on_air sc book state t s stations (subst (λ xs. is_in xs s ≡ true) is h)) [
+      | inl air ↦ or_right (s == t.station) (has_station (restricted state.map set) s) (part-has state.map set s h air)
+      | inr same ↦ or_left (s == t.station) (has_station (restricted state.map set) s) same
     ]
 
 -- a station whose test needs a query has a channel
@@ -95,7 +149,8 @@ test-query sc book state t a clean stations own =
     let on : is_on_domains book set (restricted state.map set) ≡ true = list_all-from (λ (x : ℕ × ℕ). is_in set x.0 && is_in (domain_of book x.0) x.1) (restricted state.map set) (λ x listed.
     let parts = Contains-from_filter (λ (x : ℕ × ℕ). is_in set x.0) state.map x listed in
     and_from (is_in set x.0) (is_in (domain_of book x.0) x.1) parts.1 (is_in-from (domain_of book x.0) x.1 (clean.on_domain x parts.0))) in
-    from-parts book state.number t.round (Some t.station) set (restricted state.map set) rises channels on
+    let others : has_others (Some t.station) set (restricted state.map set) ≡ true = list_all-from (λ s. (s == t.station) || has_station (restricted state.map set) s) set (λ s listed. asked-there sc book state t set s stations refl (is_in-from set s listed)) in
+    from-parts book state.number t.round (Some t.station) set (restricted state.map set) rises channels on (none-violates book (restricted state.map set) (part-clean book state.map set clean)) others
 
 -- ---- the standing query
 
@@ -120,6 +175,12 @@ task-query sc book state a k =
       ]
     ] in
     subst (λ o. MatchOption o ⊤ (MayBeAsked book)) (sym (task-is sc book state state.start state.left refl refl)) (go state.start state.left refl refl (rule-kept sc book state k).stands)
+
+-- so of what the program keeps
+pub clockwork-query : (s : SetupView) (c : CourseView) (number : ℕ) (v : ClockworkView) → IsClockwork s c number → record { scenario = s.scenario; book = s.book; state = core_state s c number; ready = is_roomy s c } ≡ v → MatchOption (task_of v.scenario v.book v.state) ⊤ (MayBeAsked v.book)
+clockwork-query s c number v h e =
+    subst (λ (w : ClockworkView). MatchOption (task_of w.scenario w.book w.state) ⊤ (MayBeAsked w.book)) e
+    (task-query s.scenario s.book (core_state s c number) h.course.sound.auction h.rule)
 
 -- ---- the number of the query
 

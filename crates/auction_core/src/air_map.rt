@@ -73,7 +73,7 @@ impl AirMap {
         self.channels[place] = Some(channel);
     }
 
-    /// The map on the stations of a set. It costs a search by halves for each of these. The only error is want of memory.
+    /// The map on the stations of a set, by one pass over the places and these. The only error is want of memory.
     pub fn on(&self, alloc: Global, set: &[u32]) -> Result<ChannelMap, NoMemory>
         requires { IsTrue (is_ascending set.now) }
         ensures { IfOk result (λ m. m ≡ restricted self.now.entries set.now) }
@@ -133,7 +133,7 @@ fn channel_at(stations: &[u32], channels: &[Option<u8>], station: u32) -> Option
     channels[place]
 }
 
-// The entries of those stations of a set that have a channel at their place.
+// The entries of those stations of a set that have a channel at their place, by one walk along the places and the set.
 fn placed_on(
     alloc: Global,
     stations: &[u32],
@@ -145,12 +145,24 @@ fn placed_on(
     requires set { IsTrue (is_ascending set.now) }
     ensures { IfOk result (λ entries. (entries.items ≡ restricted (placed_entries stations.now channels.now) set.now) × IsAscending entries.items) }
 {
-    let mut entries = Vec::new(alloc);
-    for station in set {
-        let Some(channel) = channel_at(stations, channels, *station) else {
+    let mut entries = Vec::with_capacity(alloc, set.len())?;
+    let mut place = 0;
+    let mut next = 0;
+    while place < stations.len() && next < set.len() {
+        let station = stations[place];
+        if set[next] < station {
+            next += 1;
+            continue;
+        }
+        let channel = channels[place];
+        place += 1;
+        if station < set[next] {
+            continue;
+        }
+        let Some(channel) = channel else {
             continue;
         };
-        entries.push((*station, channel))?;
+        entries.push((station, channel))?;
     }
     Ok(entries)
 }

@@ -156,9 +156,8 @@ impl Auction {
         self.history.len() as u64
     }
 
-    /// The standing query; none where the auction has ended. It costs the tested station's pairs, one pass over the
-    /// stations, and a search by halves for each station of the query. The only error is want of memory. A solver may be
-    /// asked it, and an answer to it may be checked.
+    /// The standing query; none where the auction has ended. It costs the tested station's pairs and two passes over the
+    /// stations. The only error is want of memory. A solver may be asked it, and an answer to it may be checked.
     pub fn task(&self, alloc: Global) -> Result<Option<Task>, NoMemory>
         ensures task { IfOk result (λ task. task ≡ task_of self.now.scenario self.now.book self.now.state) }
         ensures checked { IfOk result (λ task. MatchOption task ⊤ (IsTaskOf self.now.book)) }

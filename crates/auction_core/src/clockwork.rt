@@ -1,7 +1,8 @@
 //! An auction between two queries, whoever answers them.
 
 ghost use Rattle.std.specs.Arc.{arc_value};
-ghost use Rattle.std.specs.Prelude.{◌≡◌, ◌≢◌, ℕ, None, Some, IfOk, OnOk, false, true};
+ghost use Rattle.std.specs.Prelude.{◌≡◌, ◌≢◌, ℕ, None, Some, IfOk, MatchOption, OnOk, ⊤, false, true};
+ghost use Rattle.cert_types.specs.Query.{IsQuery};
 ghost use Rattle.auction_core.specs.Backed.{IsBacked, record_of};
 ghost use Rattle.auction_core.specs.Course.{IsAtRest, IsCourse, core_state};
 ghost use Rattle.auction_core.specs.Rule.{SettlesQuery};
@@ -123,10 +124,11 @@ impl Clockwork {
         }
     }
 
-    /// The standing query; none where the auction has ended. It costs the tested station's pairs, one pass over the
-    /// stations, and a search by halves for each station of the query. The only error is want of memory.
+    /// The standing query; none where the auction has ended. It costs the tested station's pairs and two passes over the
+    /// stations. The only error is want of memory. A solver may be asked it, and an answer to it may be checked.
     pub fn task(&self, alloc: Global) -> Result<Option<Task>, NoMemory>
-        ensures { IfOk result (λ task. task ≡ task_of self.now.scenario self.now.book self.now.state) }
+        ensures task { IfOk result (λ task. task ≡ task_of self.now.scenario self.now.book self.now.state) }
+        ensures query { IfOk result (λ task. MatchOption task ⊤ (IsQuery self.now.book)) }
     {
         if self.course.start().is_none() {
             return Ok(Some(self.start_task(alloc)?));

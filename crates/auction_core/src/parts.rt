@@ -94,15 +94,30 @@ impl Parts {
         self.marked(alloc, station, &marks)
     }
 
-    // The label of each first station of these pairs is marked.
+    // The label of each first station of these pairs is marked. Pairs to one station ascend by their first one, so each of
+    // these is looked up once.
     fn mark_firsts(&self, pairs: &[Pair], marks: &mut Vec<bool>)
         requires { (z : ℕ) → label_of self.now z < length marks.old.items }
         ensures { marks.new.items ≡ marked (label_of self.now) (map (λ p. p.f) pairs.now) marks.old.items }
     {
+        let mut first = 0;
+        let mut label = self.label(first);
         for p in pairs {
-            let label = self.label(p.f) as usize;
-            marks[label] = true;
+            label = self.label_beside(p.f, first, label);
+            first = p.f;
+            marks[label as usize] = true;
         }
+    }
+
+    // The label of a station, beside that of another one, which may be the same.
+    fn label_beside(&self, station: u32, other: u32, label: u32) -> u32
+        requires { label ≡ label_of self.now other }
+        ensures { result ≡ label_of self.now station }
+    {
+        if station == other {
+            return label;
+        }
+        self.label(station)
     }
 
     // The label of each second station of these pairs is marked.

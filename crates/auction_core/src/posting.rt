@@ -5,7 +5,7 @@ use cert_types::certified::Certified;
 use std::marker::Model;
 use std::snapshot::Snapshot;
 
-/// What a worker posts for a query, once its answer was looked at.
+/// What a worker posts for a query, once its answer is known to be valid, or where it is first at fault.
 #[derive(Drop)]
 pub struct Posting {
     /// The worker, from 0.
@@ -15,12 +15,12 @@ pub struct Posting {
     pub said: Said,
 }
 
-/// An answer that was looked at.
+/// What is known of an answer.
 #[derive(Drop)]
 pub enum Said {
-    /// It was let through.
+    /// It is valid.
     Good(Certified),
-    /// It was not: its first place at fault.
+    /// It isn't: its first place at fault.
     Bad(Place),
 }
 

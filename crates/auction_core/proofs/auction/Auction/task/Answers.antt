@@ -1,13 +1,10 @@
--- The query doesn't depend on what is noted, is one that a solver may be asked, and its set ascends.
+-- The query doesn't depend on what is noted, and its set ascends.
 use Rattle.std.proofs.Common.{◌≡◌, MatchOption, subst, sym}
 use Rattle.std.proofs.lemmas.Result.{IfOk-weaker}
 use Rattle.std.specs.Prelude.{IfOk, ⊤}
 use Rattle.cert_types.specs.Certificate.{IsTaskOf}
 use Rattle.cert_types.specs.Query.{IsQuery}
-use Rattle.auction_core.specs.Auction.{state_at}
 use Rattle.auction_core.specs.State.{task_of}
-use Rattle.auction_core.proofs.AuctionLemmas.{replayed-rule}
-use Rattle.auction_core.proofs.QueryLemmas.{task-query}
 use Rattle.auction_core.proofs.TakingLemmas.{task-noted}
 use Rattle.auction_core.proofs.TaskLemmas.{task-ascends}
 use Rattle.auction_core.proofs.auction.Auction.task.Goals as goal
@@ -16,20 +13,13 @@ pub returns-clause-task : goal.returns-clause-task
 returns-clause-task c =
     let a = c.self.inside in
     subst (λ v. IfOk c.task.result (λ task. task ≡ task_of v.scenario v.book v.state)) c.self.view_is
-    (subst (λ o. IfOk c.task.result (λ task. task ≡ o)) (sym (task-noted a.clockwork.scenario a.clockwork.book a.clockwork.state a.notes.noted)) c.task.ensures)
+    (subst (λ o. IfOk c.task.result (λ task. task ≡ o)) (sym (task-noted a.clockwork.scenario a.clockwork.book a.clockwork.state a.notes.noted)) c.task.ensures.task)
 
 pub returns-clause-checked : goal.returns-clause-checked
 returns-clause-checked c =
     let w = c.self.inside.clockwork in
     subst (λ v. IfOk c.task.result (λ task. MatchOption task ⊤ (IsTaskOf v.book))) c.self.view_is
-    (IfOk-weaker c.task.result _ _ (λ task e. subst (λ o. MatchOption o ⊤ (IsTaskOf w.book)) (sym e) (task-ascends w.scenario w.book w.state c.self.invariant.replayed.auction)) c.task.ensures)
+    (IfOk-weaker c.task.result _ _ (λ task e. subst (λ o. MatchOption o ⊤ (IsTaskOf w.book)) (sym e) (task-ascends w.scenario w.book w.state c.self.invariant.replayed.auction)) c.task.ensures.task)
 
 pub returns-clause-query : goal.returns-clause-query
-returns-clause-query c =
-    let a = c.self.inside in
-    let w = a.clockwork in
-    let rule = replayed-rule w.scenario w.book a.history.items (state_at w a.notes) c.self.invariant.replayed in
-    let query : MatchOption (task_of w.scenario w.book w.state) ⊤ (IsQuery w.book) =
-    subst (λ o. MatchOption o ⊤ (IsQuery w.book)) (task-noted w.scenario w.book w.state a.notes.noted) (task-query w.scenario w.book (state_at w a.notes) c.self.invariant.replayed.auction rule) in
-    subst (λ v. IfOk c.task.result (λ task. MatchOption task ⊤ (IsQuery v.book))) c.self.view_is
-    (IfOk-weaker c.task.result _ _ (λ task e. subst (λ o. MatchOption o ⊤ (IsQuery w.book)) (sym e) query) c.task.ensures)
+returns-clause-query c = subst (λ v. IfOk c.task.result (λ task. MatchOption task ⊤ (IsQuery v.book))) c.self.view_is c.task.ensures.query
