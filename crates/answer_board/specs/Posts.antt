@@ -14,7 +14,6 @@ use Rattle.turn_lock.specs.Turns.{StartsWith}
 use Rattle.pack_defs.specs.declared.worker.Worker.{Worker}
 use Rattle.cert_types.specs.declared.answer.Answer.{Answer}
 use Rattle.cert_types.specs.declared.task.Task.{Task as Query}
-use Rattle.cert_types.specs.Certificate.{IsTaskOf}
 use Rattle.auction_core.specs.declared.posting.Posting.{Posting}
 use Rattle.auction_core.specs.Said.{StandsFor}
 use Rattle.answer_board.specs.declared.post.Met.{Met}
@@ -89,7 +88,7 @@ StandsOn raised seen posting answer =
 -- the query stands, and the worker of this number is to be judged for it
 pub record IsAsked (now : AuctionView) (w n : ℕ) (task : Query) (of : Worker) : Type 0 where
   pub stands : task_of now.scenario now.book now.state ≡ Some task
-  pub checked : IsTaskOf now.book task
+  pub query : IsQuery now.book task
   pub worker : slice_get now.scenario.workers w ≡ Some of
   pub number : n ≡ task.number
 
@@ -102,7 +101,7 @@ HasMet old new w number (Asked task worker) = StaysAs old new × IsAsked old w n
 pub record IsAskedOn (raised : AuctionView) (w n : ℕ) (old new : Known EntryView) (task : Query) (of : Worker) : Type 0 where
   pub mine : new.mine ≡ old.mine
   pub stood : HasStood raised new.seen task
-  pub checked : IsTaskOf raised.book task
+  pub query : IsQuery raised.book task
   pub worker : slice_get raised.scenario.workers w ≡ Some of
   pub number : n ≡ task.number
 

@@ -1,7 +1,7 @@
 //! How an answer is posted on a board: nobody has the turn while an answer is looked at.
 
 ghost use Rattle.std.specs.Prelude.{◌≡◌, IfErr, IfOk, Some, slice_get, true};
-ghost use Rattle.cert_types.specs.Certificate.{IsTaskOf};
+ghost use Rattle.cert_types.specs.Query.{IsQuery};
 ghost use Rattle.cert_types.specs.Valid.{answer_fault};
 ghost use Rattle.turn_lock.specs.Passes.{IsIdle, IsLegal, known_of, mine_of, number_of, seen_of, standing};
 ghost use Rattle.turn_lock.specs.Turns.{StartsWith};
@@ -13,7 +13,7 @@ use crate::post::{Met, Unposted, meets, tells};
 use auction_core::posting::{Reply, Said};
 use cert_types::answer::{Answer, CertifyWhy, Place};
 use cert_types::certified::Certified;
-use cert_types::certify::certify;
+use cert_types::certify::certify_query;
 use cert_types::task::Task;
 use pack_defs::worker::Worker;
 use std::alloc::{AllocError as NoMemory, Global};
@@ -21,9 +21,10 @@ use std::snapshot::Snapshot;
 use std::sync::Wait;
 
 impl Board {
-    /// Posts an answer for the query of a number, and answers what it is told. Unless the posting is turned away, the answer
-    /// is looked at for the query that stands, outside any turn, and posted in a second one. It waits for its turns. The only
-    /// error is want of memory: the answer comes back, the pass's own postings stand, and the same may be posted again.
+    /// Posts an answer for the query of a number, whoever it comes from, and answers what it is told. Unless the posting is
+    /// turned away, the answer is judged by `certify_query` for the query that stands, outside any turn, and posted in a second
+    /// one. It waits for its turns. The only error is want of memory: the answer comes back, the pass's own postings stand, and
+    /// the same may be posted again.
     pub fn post<R: Wait>(
         &self,
         rt: &R,
@@ -52,10 +53,11 @@ impl Board {
         }
     }
 
-    /// Posts an answer that was let through, and answers what it is told: nothing of it is looked at again. The pass has seen
-    /// the query that it was let through for stand, whose number is given beside it, and it was let through for the pass's
-    /// worker: so it may come too late, but it is never told that it is a stranger's or at fault. It waits for its turn. The
-    /// only error is want of memory: the answer comes back, the pass's own postings stand, and the same may be posted again.
+    /// Posts an answer that was let through, by a look at it or since its solver's contract says that it is valid, and answers
+    /// what it is told: nothing of it is looked at again. The pass has seen the query that it was let through for stand, whose
+    /// number is given beside it, and it was let through for the pass's worker: so it may come too late, but it is never told
+    /// that it is a stranger's or at fault. It waits for its turn. The only error is want of memory: the answer comes back, the
+    /// pass's own postings stand, and the same may be posted again.
     pub fn post_certified<R: Wait>(
         &self,
         rt: &R,
@@ -130,7 +132,7 @@ impl Board {
         requires own { IsPassOn self.now pass.old }
         requires idle { IsIdle pass.old }
         requires legal { IsLegal pass.old }
-        requires checked { IsTaskOf (raised self.now).book task.now }
+        requires query { IsQuery (raised self.now).book task.now }
         requires worker { slice_get (raised self.now).scenario.workers (number_of pass.old) ≡ Some worker.now }
         requires stood { HasStood (raised self.now) (seen_of pass.old) task.now }
         ensures own { IsPassOn self.now pass.new }
@@ -142,7 +144,7 @@ impl Board {
         ensures back { IfErr result (λ unposted. unposted.answer ≡ answer) }
         ensures mine { IfErr result (λ unposted. mine_of pass.new ≡ mine_of pass.old) }
     {
-        match certify(alloc, &self.book, task, worker, answer) {
+        match certify_query(alloc, &self.book, task, worker, answer) {
             Ok(certified) => self.post_certified(rt, pass, task.number, certified),
             Err(fault) => match fault.why {
                 CertifyWhy::Rejected(place) => {

@@ -1,5 +1,5 @@
 -- A history that goes on leaves no more queries.
-use Rattle.std.proofs.Common.{length, ◌≡◌, ◌∙◌, ℕ, ◌<◌, ◌==◌, Bool, true, false, not, nat_le, if◌then◌else◌, List, [], ◌∷◌, ◌++◌, Option, Some, None, option_and_then, refl, sym, ap, subst, arith, inl, inr, ◌⊎◌}
+use Rattle.std.proofs.Common.{length, ◌≡◌, ◌∙◌, ℕ, ◌<◌, ◌==◌, Bool, true, false, not, nat_le, if◌then◌else◌, List, [], ◌∷◌, ◌++◌, Option, Some, None, option_and_then, refl, sym, ap, subst, arith, inl, inr}
 use Rattle.std.proofs.lemmas.Bool.{cases_Bool, true≢false}
 use Rattle.pack_defs.specs.Book.{BookView}
 use Rattle.pack_defs.specs.declared.order.Order.{Order}
@@ -15,11 +15,10 @@ use Rattle.auction_core.specs.State.{CoreState, has_ended, opening, queries_left
 use Rattle.auction_core.specs.Take.{PostingView, is_noted, take, turned_away}
 use Rattle.auction_core.proofs.Cases.{all_spent, noted_as, take-cases}
 use Rattle.auction_core.proofs.QueryLemmas.{answered-fewer}
-use Rattle.turn_lock.specs.Turns.{StartsWith}
 use Rattle.answer_board.specs.Boards.{setup_of}
 use Rattle.answer_board.specs.Entries.{entries_of, numbered}
 use Rattle.answer_board.proofs.PostLemmas.{entries-numbered}
-use Rattle.race_wave.specs.Turns.{GoesOn, IsIdle, IsPast, MovesOn}
+use Rattle.race_wave.specs.Turns.{GoesOn, IsIdle, MovesOn}
 
 goes-then : (sc : Scenario) (a b c : CoreState) → GoesOn sc a b → GoesOn sc b c → GoesOn sc a c
 goes-then sc a b c (inl h) (inl k) = inl (omega (arith, h, k))

@@ -15,8 +15,6 @@ use Rattle.answer_board.specs.contracts.kept.KeptChronicle.TheImpl.{ghosts}
 use Rattle.answer_board.specs.declared.board.Board.{Board}
 use Rattle.answer_board.specs.declared.kept.Kept.{Kept}
 use Rattle.turn_lock.specs.declared.lock.Pass.{Pass}
-use Rattle.pack_defs.specs.Book.{BookView}
-use Rattle.pack_defs.specs.declared.scenario.Scenario.{Scenario}
 use Rattle.auction_core.specs.Auction.{AuctionView}
 use Rattle.answer_board.specs.Boards.{AreAllOn, IsPassOn, kept_base, kept_entries, raised}
 use Rattle.answer_board.specs.Entries.{numbered}

@@ -1,7 +1,5 @@
 -- A poll may come to itself, and goes on.
 use Rattle.std.proofs.Common.{◌∙◌, ◌++◌, [], List, refl, sym, ap, append-nil, append_assoc}
-use Rattle.pack_defs.specs.Book.{BookView}
-use Rattle.pack_defs.specs.declared.scenario.Scenario.{Scenario}
 use Rattle.auction_core.specs.Replay.{EntryView}
 use Rattle.auction_core.specs.Setup.{SetupView}
 use Rattle.turn_lock.specs.declared.chronicle.Chronicle.{Ghosts}

@@ -1,7 +1,5 @@
 -- What a worker's poll may come to.
 use Rattle.std.specs.Prelude.{◌≡◌, ℕ, List, Some, option_map}
-use Rattle.pack_defs.specs.Book.{BookView}
-use Rattle.pack_defs.specs.declared.scenario.Scenario.{Scenario}
 use Rattle.auction_core.specs.Replay.{EntryView}
 use Rattle.auction_core.specs.Setup.{SetupView}
 use Rattle.turn_lock.specs.declared.chronicle.Chronicle.{Ghosts}

@@ -1,7 +1,6 @@
 -- The workers of a wave.
 use Rattle.std.specs.Prelude.{◌≡◌, ◌⊎◌, ◌++◌, ℕ, Bool, List, true, false, Some, slice_get, ⊤}
 use Rattle.pack_defs.specs.Book.{BookView}
-use Rattle.pack_defs.specs.declared.scenario.Scenario.{Scenario}
 use Rattle.pack_defs.specs.declared.worker.Worker.{Worker}
 use Rattle.cert_types.specs.Valid.{IsValid}
 use Rattle.cert_types.specs.declared.poll.Attempt.{Attempt}

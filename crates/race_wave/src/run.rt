@@ -28,8 +28,8 @@ use std::alloc::{AllocError as NoMemory, Global};
 use std::sync::Wait;
 use std::thread::Threads;
 
-// A racer for each worker, in order.
-pub(crate) fn racers_of(alloc: Global, workers: &[Worker]) -> Result<Vec<RacerKind>, NoMemory>
+/// A racer for each worker, in order: a solver of its kind, with its budget and its seed. The only error is want of memory.
+pub fn racers_of(alloc: Global, workers: &[Worker]) -> Result<Vec<RacerKind>, NoMemory>
     ensures { IfOk result (λ racers. map worker_of racers.items ≡ workers.now) }
 {
     let mut racers = Vec::new(alloc);

@@ -15,7 +15,6 @@ ghost use Rattle.race_wave.specs.Watches.{IsNumberAfter};
 ghost use Rattle.race_wave.specs.Waves.{HasRaced, IsDone, IsRunner, IsSamePass, SaysValid, is_last};
 
 use crate::runner::Runner;
-use crate::serial::let_through;
 use crate::watch::Watch;
 use answer_board::board::{Board, Pass};
 use answer_board::look::Look;
@@ -35,8 +34,9 @@ use std::thread::Threads;
 
 /// The workers try the queries of the auction on the board, each in a thread of its own where one can be made: each looks what
 /// stands, tries it, and posts its answer, until the auction has ended, its receipt is noted on the standing query, or memory
-/// runs out for it. No worker has the turn while it tries a query, while its answer is looked at, or while it stands at the
-/// gate. An error comes exactly where there are workers and memory ran out for each; what was posted stands.
+/// runs out for it. An answer of a racer isn't looked at again, since the racer's contract says that it is valid. No worker has
+/// the turn while it tries a query or stands at the gate. An error comes exactly where there are workers and memory ran out for
+/// each; what was posted stands.
 pub fn wave<R: Racer + Send, G: Gate + Sync, W: Threads + Wait + Sync>(
     rt: &W,
     alloc: Global,
@@ -184,7 +184,7 @@ fn tries<R: Racer, G: Gate, W: Wait>(
 {
     match attempted(rt, alloc, board, book, pass, racer, task) {
         Ok(Attempt::Said(answer)) => {
-            let certified = judged(alloc, board, book, pass, task, answer)?;
+            let certified = of_worker(board, book, pass, task, answer);
             posts(rt, board, pass, gate, task.number, certified)
         }
         Ok(Attempt::Moved { now: _ }) => Ok(Onward::Looks),
@@ -192,23 +192,15 @@ fn tries<R: Racer, G: Gate, W: Wait>(
     }
 }
 
-// The answer of the pass's worker, let through.
-fn judged(
-    alloc: Global,
-    board: &Board,
-    book: &Book,
-    pass: &Pass,
-    task: &Task,
-    answer: Answer,
-) -> Result<Certified, NoMemory>
-    requires query { IsQuery book.now task.now }
+// The answer of the pass's worker, let through without a look: it is valid, as its racer's contract says.
+fn of_worker(board: &Board, book: &Book, pass: &Pass, task: &Task, answer: Answer) -> Certified
     requires valid { (worker : Worker) × (slice_get (raised board.now).scenario.workers (number_of pass.now) ≡ Some worker) × IsValid book.now task.now worker answer }
-    ensures book { IfOk result (λ certified. certified.book ≡ book.now) }
-    ensures task { IfOk result (λ certified. certified.task ≡ task.now) }
-    ensures worker { IfOk result (λ certified. slice_get (raised board.now).scenario.workers (number_of pass.now) ≡ Some certified.worker) }
+    ensures book { result.book ≡ book.now }
+    ensures task { result.task ≡ task.now }
+    ensures worker { slice_get (raised board.now).scenario.workers (number_of pass.now) ≡ Some result.worker }
 {
     let worker = &board.workers()[pass.number() as usize];
-    let_through(alloc, book, task, worker, answer)
+    Certified::of_valid(book, task, worker, answer)
 }
 
 // The racer tries a query, while the pass asks whether it stands still.

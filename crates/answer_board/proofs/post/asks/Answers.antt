@@ -1,6 +1,6 @@
 use Rattle.std.proofs.Common.{◌≡◌, ◌∙◌, refl, sym, subst, MatchOption}
 use Rattle.std.specs.Prelude.{⊤}
-use Rattle.cert_types.specs.Certificate.{IsTaskOf}
+use Rattle.cert_types.specs.Query.{IsQuery}
 use Rattle.auction_core.proofs.TaskLemmas.{no-task, task-has}
 use Rattle.answer_board.proofs.PostLemmas.{looked-at}
 use Rattle.answer_board.proofs.StandLemmas.{same-number}
@@ -24,7 +24,7 @@ returns c =
       record { setup = refl; history = refl },
       record {
         stands = stands;
-        checked = subst (λ o. MatchOption o ⊤ (IsTaskOf now.book)) c.in-Ok-Some.field-0-is c.in-Ok-Some.ensures.checked;
+        query = subst (λ o. MatchOption o ⊤ (IsQuery now.book)) c.in-Ok-Some.field-0-is c.in-Ok-Some.ensures.query;
         worker = c.worker_at.ensures;
         number = same-number now.scenario now.state c.args.worker c.args.number c.requires ∙ sym (task-has now.scenario now.book now.state (λ t. t.number ≡ now.state.number) refl (λ t. refl) c.in-Ok-Some.task stands);
       },

@@ -1,7 +1,7 @@
 use Rattle.std.proofs.Common.{◌≡◌, ◌∙◌, ◌++◌, ◌∷◌, [], Some, ap, sym, subst, append_assoc}
 use Rattle.std.specs.Prelude.{slice_get}
 use Rattle.cert_types.specs.declared.answer.Answer.TheVariants.{Fit}
-use Rattle.cert_types.specs.Certificate.{IsTaskOf}
+use Rattle.cert_types.specs.Query.{IsQuery}
 use Rattle.auction_core.specs.Replay.{EntryView, entry_of}
 use Rattle.auction_core.specs.Setup.{SetupView}
 use Rattle.auction_core.specs.State.{task_of}
@@ -84,7 +84,7 @@ returns-in-Ok-Asked-clause-met g c =
         replays = seen-replays made value _ base (c.enter-turn.ensures.value ∙ sym (ap (λ k. k.seen) left)) c.posted.ensures.replays;
         stands = subst (λ (s : SetupView). task_of s.scenario s.book value.state ≡ Some c.in-Ok-Asked.task) base asked.stands;
       };
-      checked = subst (λ (s : SetupView). IsTaskOf s.book c.in-Ok-Asked.task) base asked.checked;
+      query = subst (λ (s : SetupView). IsQuery s.book c.in-Ok-Asked.task) base asked.query;
       worker = subst (λ (s : SetupView). slice_get s.scenario.workers (number_of c.args.pass.now) ≡ Some c.in-Ok-Asked.worker) base (subst (λ w. slice_get value.scenario.workers w ≡ Some c.in-Ok-Asked.worker) c.number-worker.ensures asked.worker);
       number = asked.number;
     }
