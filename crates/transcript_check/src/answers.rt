@@ -1,7 +1,7 @@
 //! The check of what one query was settled by: a fit, a worker's refutation, a proof from outside.
 
 ghost use Rattle.std.specs.Prelude.{◌≡◌, IfErr, IfOk, None, Some, length, option_map, slice_get};
-ghost use Rattle.cert_types.specs.Certificate.{IsTaskOf};
+ghost use Rattle.cert_types.specs.Query.{IsQuery};
 ghost use Rattle.cert_types.specs.Valid.{answer_fault, fit_fault};
 ghost use Rattle.transcript_check.specs.Checked.{Tells};
 ghost use Rattle.transcript_check.specs.NotShown.{one_log_fault, outside_fault, refuted_fault};
@@ -10,7 +10,7 @@ ghost use Rattle.transcript_check.specs.declared.error.ShownWhy.TheVariants.{Not
 use crate::numbers::is_first;
 use crate::step_err::{StepErr, not_valid, numbered, why_of};
 use cert_types::answer::{Answer, Place, Refutation};
-use cert_types::certify::certify;
+use cert_types::certify::certify_query;
 use cert_types::outside::OutsideProof;
 use cert_types::task::Task;
 use cnf_encode::count::clause_count;
@@ -36,12 +36,12 @@ pub(crate) fn let_through(
     worker: &Worker,
     answer: Answer,
 ) -> Result<Answer, StepErr>
-    requires { IsTaskOf book.now task.now }
+    requires { IsQuery book.now task.now }
     ensures same { IfOk result (λ a. a ≡ answer) }
     ensures valid { IfOk result (λ a. answer_fault book.now task.now worker.now answer ≡ None) }
     ensures why { IfErr result (λ e. Tells e (option_map NotValid (answer_fault book.now task.now worker.now answer))) }
 {
-    match certify(alloc, book, task, worker, answer) {
+    match certify_query(alloc, book, task, worker, answer) {
         Ok(certified) => Ok(certified.into_answer()),
         Err(fault) => Err(why_of(fault.why)),
     }
@@ -55,7 +55,7 @@ pub(crate) fn fit(
     task: &Task,
     delta: ChannelMap,
 ) -> Result<ChannelMap, StepErr>
-    requires { IsTaskOf book.now task.now }
+    requires { IsQuery book.now task.now }
     ensures same { IfOk result (λ d. d ≡ delta) }
     ensures valid { IfOk result (λ d. fit_fault book.now task.now delta ≡ None) }
     ensures why { IfErr result (λ e. Tells e (option_map NotValid (fit_fault book.now task.now delta))) }
@@ -76,7 +76,7 @@ pub(crate) fn refuted(
     worker: u32,
     how: Refutation,
 ) -> Result<Refutation, StepErr>
-    requires { IsTaskOf book.now task.now }
+    requires { IsQuery book.now task.now }
     ensures same { IfOk result (λ h. h ≡ how) }
     ensures valid { IfOk result (λ h. refuted_fault book.now task.now (slice_get workers.now worker) how ≡ None) }
     ensures why { IfErr result (λ e. Tells e (option_map NotValid (refuted_fault book.now task.now (slice_get workers.now worker) how))) }
@@ -98,7 +98,7 @@ fn refuting(
     task: &Task,
     proof: OutsideProof,
 ) -> Result<OutsideProof, StepErr>
-    requires { IsTaskOf book.now task.now }
+    requires { IsQuery book.now task.now }
     ensures same { IfOk result (λ p. p ≡ proof) }
     ensures valid { IfOk result (λ p. outside_fault book.now task.now proof.log.lines ≡ None) }
     ensures why { IfErr result (λ e. Tells e (option_map NotValid (outside_fault book.now task.now proof.log.lines))) }
@@ -122,7 +122,7 @@ pub(crate) fn outside(
     proof: OutsideProof,
     firsts: &[u64],
 ) -> Result<OutsideProof, StepErr>
-    requires { IsTaskOf book.now task.now }
+    requires { IsQuery book.now task.now }
     ensures same { IfOk result (λ p. p ≡ proof) }
     ensures valid { IfOk result (λ p. one_log_fault book.now task.now proof.log.lines firsts.now ≡ None) }
     ensures why { IfErr result (λ e. Tells e (option_map NotValid (one_log_fault book.now task.now proof.log.lines firsts.now))) }

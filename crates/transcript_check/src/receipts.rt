@@ -1,7 +1,7 @@
 //! The check of the receipts of a test that was left open.
 
 ghost use Rattle.std.specs.Prelude.{◌≡◌, IfErr, IfOk, None, Some, length, option_map};
-ghost use Rattle.cert_types.specs.Certificate.{IsTaskOf};
+ghost use Rattle.cert_types.specs.Query.{IsQuery};
 ghost use Rattle.cert_types.specs.Valid.{answer_fault};
 ghost use Rattle.cert_types.specs.declared.answer.Answer.TheVariants as Answer;
 ghost use Rattle.transcript_check.specs.Checked.{Tells, numbered_fault};
@@ -28,7 +28,7 @@ fn receipt_step(
     receipt: Receipt,
     right: bool,
 ) -> Result<Receipt, StepErr>
-    requires { IsTaskOf book.now task.now }
+    requires { IsQuery book.now task.now }
     ensures same { IfOk result (λ x. x ≡ receipt) }
     ensures valid { IfOk result (λ x. numbered_fault right (answer_fault book.now task.now worker.now (Answer.Spent receipt)) ≡ None) }
     ensures why { IfErr result (λ e. Tells e (option_map NotValid (numbered_fault right (answer_fault book.now task.now worker.now (Answer.Spent receipt))))) }
@@ -54,7 +54,7 @@ fn receipts(
     receipts: Vec<Receipt>,
     firsts: &[u64],
 ) -> Result<Vec<Receipt>, StepErr>
-    requires task { IsTaskOf book.now task.now }
+    requires query { IsQuery book.now task.now }
     requires workers { length receipts.items ≡ length workers.now }
     requires firsts { length firsts.now ≡ length workers.now }
     ensures same { IfOk result (λ xs. xs.items ≡ receipts.items) }
@@ -84,7 +84,7 @@ pub(crate) fn undecided(
     all: Items<Receipt>,
     firsts: &[u64],
 ) -> Result<Items<Receipt>, StepErr>
-    requires { IsTaskOf book.now task.now }
+    requires { IsQuery book.now task.now }
     ensures same { IfOk result (λ xs. xs ≡ all) }
     ensures valid { IfOk result (λ xs. receipts_fault book.now task.now workers.now all firsts.now ≡ None) }
     ensures why { IfErr result (λ e. Tells e (option_map NotValid (receipts_fault book.now task.now workers.now all firsts.now))) }

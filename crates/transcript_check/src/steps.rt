@@ -3,7 +3,7 @@
 ghost use Rattle.std.specs.Prelude.{◌≡◌, ◌==◌, ◌&&◌, IfErr, IfOk, OnOk, None, option_map};
 ghost use Rattle.auction_core.specs.Setup.{IsOfAuction};
 ghost use Rattle.auction_core.specs.State.{answered};
-ghost use Rattle.cert_types.specs.Certificate.{IsTaskOf};
+ghost use Rattle.cert_types.specs.Query.{IsQuery};
 ghost use Rattle.pack_defs.specs.declared.scenario.Scenario.{Scenario};
 ghost use Rattle.transcript_check.specs.Checked.{Tells, is_about, line_told, query_told, shows_so, step_leaves, step_told};
 ghost use Rattle.transcript_check.specs.NotShown.{is_bare, is_like_before, query_fault};
@@ -73,7 +73,7 @@ fn settling(
     shown: Shown,
     firsts: &[u64],
 ) -> Result<Shown, StepErr>
-    requires { IsTaskOf book.now task.now }
+    requires { IsQuery book.now task.now }
     ensures same { IfOk result (λ x. x ≡ shown) }
     ensures valid { IfOk result (λ x. (sc : Scenario) → sc.workers ≡ workers.now → query_fault sc book.now task.now shown firsts.now ≡ None) }
     ensures why { IfErr result (λ e. (sc : Scenario) → sc.workers ≡ workers.now → Tells e (option_map NotValid (query_fault sc book.now task.now shown firsts.now))) }

@@ -1,24 +1,23 @@
 -- The transcript of a backed record that was carried through can be written.
-use Rattle.std.proofs.Common.{◌≡◌, ◌<◌, ◌≤◌, ◌+◌, ◌∙◌, ◌∷◌, ◌++◌, [], ℕ, zero, suc, List, Bool, true, false, ◌==◌, if◌then◌else◌, Option, Some, None, MatchOption, Contains, inl, inr, ◌⊎◌, refl, ap, subst, arith, length, map, eqb-true, eq-eqb}
+use Rattle.std.proofs.Common.{◌≡◌, ◌<◌, ◌≤◌, ◌+◌, ◌∷◌, ◌++◌, [], ℕ, zero, suc, List, Bool, true, false, ◌==◌, if◌then◌else◌, Option, Some, None, MatchOption, Contains, inl, inr, ◌⊎◌, refl, ap, subst, arith, length, map, eqb-true, eq-eqb}
 use Rattle.std.specs.Prelude.{nat_lt, slice_get}
-use Rattle.std.specs.Option.{option_or}
 use Rattle.std.specs.List.{All, AllByRecursion, list_all}
 use Rattle.std.proofs.lemmas.Bool.{and_parts, or_cases, or_left, or_right}
 use Rattle.std.proofs.lemmas.List.{length-map}
 use Rattle.std.proofs.lemmas.List.Elements.{All-tail}
 use Rattle.clause_db.specs.declared.lit.Lit.{Lit}
 use Rattle.pack_defs.specs.Book.{BookView, domain_of}
-use Rattle.pack_defs.specs.ChannelMap.{IsAscending, channel_of, overlaid, put}
+use Rattle.pack_defs.specs.ChannelMap.{IsAscending, overlaid, put}
 use Rattle.pack_defs.specs.Lists.{has_entry, has_station, is_ascending, is_in, is_only, same_entry}
 use Rattle.pack_defs.specs.Scenario.{IsWithinLimits, IsWorkerWithinLimits, facilities}
 use Rattle.pack_defs.specs.declared.scenario.Scenario.{Scenario}
 use Rattle.pack_defs.specs.declared.station.Station.{Station}
 use Rattle.pack_defs.specs.declared.worker.Worker.{Worker}
-use Rattle.pack_defs.proofs.MapLemmas.{overlaid-none}
 use Rattle.pack_defs.proofs.BookLemmas.{channels_in-ascend}
 use Rattle.pack_defs.proofs.Members.{Contains-here, Contains-there, is_in-from}
 use Rattle.pack_defs.proofs.Words.{ascending-rest, same_entry-itself, same_entry-same}
 use Rattle.assign_check.specs.Fault.{IsCleanOn}
+use Rattle.assign_check.proofs.Overlays.{change-stands}
 use Rattle.cnf_encode.specs.Formula.{packing_formula, variables_in}
 use Rattle.rup_check.specs.declared.line.Line.{Line}
 use Rattle.rup_check.specs.Follows.{Follows, lines_fault}
@@ -38,7 +37,6 @@ use Rattle.cert_types.proofs.WalkLemmas.{troubled-there}
 use Rattle.auction_core.specs.declared.record.Shown.{Shown}
 use Rattle.auction_core.specs.declared.record.Shown.TheVariants.{Empty, Fits, Same, NoChannel, Refuted, Outside, Undecided}
 use Rattle.auction_core.specs.Backed.{AreReceipts, IsSettledBy}
-use Rattle.auction_core.proofs.Overlay.{channel-from_entry, entry-from_channel, overlaid-channel}
 use Rattle.lrat_text.specs.LogText.{AreSpelled, IsBefore}
 use Rattle.lrat_text.proofs.Named.{follows-spelled}
 use Rattle.transcript_text.specs.Fields.{greatest_u32, is_above, most_counted}
@@ -125,16 +123,9 @@ entry-there (y ∷ ys) x h = elim (or_cases (same_entry y x) (has_entry ys x) h)
   | inr there ↦ Contains-there y x ys (entry-there ys x there)
 ]
 
--- an entry of a fit stands in the map that it makes of the last one
-fit-has : (last delta : List (ℕ × ℕ)) (x : ℕ × ℕ) → IsAscending delta → has_entry delta x ≡ true → has_entry (overlaid last delta) x ≡ true
-fit-has last delta x a m =
-    let own : channel_of x.0 delta ≡ Some x.1 = channel-from_entry delta x.0 x.1 a m in
-    entry-from_channel (overlaid last delta) x.0 x.1
-    (overlaid-channel x.0 last delta ∙ ap (λ (d : List (ℕ × ℕ)). option_or (channel_of x.0 d) (channel_of x.0 last)) (overlaid-none delta a) ∙ ap (λ (o : Option ℕ). option_or o (channel_of x.0 last)) own)
-
 fit-entry : (sc : Scenario) (book : BookView) (set : List ℕ) (last delta : List (ℕ × ℕ)) → IsNamed sc book → IsKnown sc set → IsCleanOn book set (overlaid last delta) → IsAscending delta → (x : ℕ × ℕ) → has_entry delta x ≡ true → IsEntry sc x
 fit-entry sc book set last delta n k clean a x m =
-    let there = fit-has last delta x a m in
+    let there = change-stands last delta x a m in
     let station = k.known x.0 (clean.only x there) in
     let channel = is_in-from (domain_of book x.0) x.1 (clean.clean.on_domain x (entry-there (overlaid last delta) x there)) in
     (station-of sc book x.0 n station, n.channels x.0 x.1 channel)

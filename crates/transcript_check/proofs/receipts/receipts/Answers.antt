@@ -1,10 +1,16 @@
--- A receipt that is not let through tells the first fault of all.
-use Rattle.std.proofs.Common.{◌≡◌, ◌+◌, ◌<◌, ◌∙◌, ap, arith, rules, length, drop}
+-- The set of a query ascends; and a receipt that is not let through tells the first fault of all.
+use Rattle.std.proofs.Common.{◌≡◌, ◌+◌, ◌<◌, ◌∙◌, true, ap, arith, rules, length, drop, subst, sym}
+use Rattle.pack_defs.specs.Lists.{is_ascending}
+use Rattle.cert_types.proofs.QueryLaws.{query-task}
 use Rattle.cert_types.specs.declared.answer.Receipt.{Receipt}
 use Rattle.transcript_text.specs.Spelling.{clauses_in}
 use Rattle.transcript_check.specs.NotShown.{each_fault}
 use Rattle.transcript_check.proofs.ReceiptLemmas.{err-told}
 use Rattle.transcript_check.proofs.receipts.receipts.Goals as goal
+
+pub clause_count-clauses-requires : goal.clause_count-clauses-requires
+clause_count-clauses-requires c =
+    subst (λ xs. is_ascending xs ≡ true) (sym c.as_slice.ensures) (query-task c.args.book.now c.args.task.now c.requires.query).rises
 
 pub returns-in-Err-clause-why : goal.returns-in-Err-clause-why
 returns-in-Err-clause-why c =
