@@ -1,14 +1,10 @@
 //! A test of two workers that meet at each query, held by a gate.
 
-use crate::samples::{learner, three_bids};
+use crate::samples::{comes, learner, three_bids};
 use crate::tests::{By, freezes};
 use solver_gate::gate::{Gate, Spot};
 use std::sync::atomic::{AtomicU64, Ordering};
 use std::test::Fail;
-use std::thread;
-
-// For how many turns of yielding a worker is held at most.
-const TURNS: u32 = 10_000_000;
 
 // A gate at which two workers meet at each query: the second may post once the first stands before its own posting, and the
 // first once the second was answered.
@@ -21,17 +17,6 @@ struct Meeting {
     // At how many queries each was let go in time.
     first: AtomicU64,
     second: AtomicU64,
-}
-
-// Whether the number came to this one in time.
-fn comes(word: &AtomicU64, number: u64) -> bool {
-    for _ in 0..TURNS {
-        if word.load(Ordering::SeqCst) >= number {
-            return true;
-        }
-        thread::yield_now();
-    }
-    false
 }
 
 impl Gate for Meeting {
