@@ -1,7 +1,7 @@
 -- When the literals of a line are bad, read from the front.
 use Rattle.std.proofs.Common.{◌≡◌, ℕ, ◌+◌, ◌<◌, Bool, true, false, not, ◌&&◌, ◌||◌, ◌==◌, if◌then◌else◌, nat_lt, List, [], ◌∷◌, ◌++◌, map, length, take, drop, get_or, refl, sym, ap, ◌∙◌, subst, eqb-true, eq-eqb, ⊎_elim, drop-cons, add-one, arith, ◌≤◌}
 use Rattle.std.specs.List.{list_any}
-use Rattle.std.proofs.lemmas.Bool.{or_left, or_right, or_from, or_parts, or_cases, both_ways, false_from_ne_true, ltb-true}
+use Rattle.std.proofs.lemmas.Bool.{or_left, or_right, or_from, or_parts, or_cases, both_ways, false_from_ne_true, lt-ltb, ltb-true}
 use Rattle.std.proofs.lemmas.List.{take-append-drop}
 use Rattle.clause_db.specs.declared.lit.Lit.{Lit}
 use Rattle.clause_db.specs.Clause.{opposite, same_lit, has_lit}
@@ -104,6 +104,12 @@ used-stated known lits l m e o h = sym (used-either known lits l e) ∙ or_right
 
 pub unused : (known lits : List Lit) (l m : Lit) → known ≡ map opposite lits → m ≡ opposite l → has_lit known l ≡ false → has_lit known m ≡ false → is_used lits l.var ≡ false
 unused known lits l m e o h k = sym (used-either known lits l e) ∙ or_from (has_lit known l) (has_lit known (opposite l)) h (ap (has_lit known) (sym o) ∙ k)
+
+pub out-nought : (vars : ℕ) (l : Lit) → l.var ≡ 0 → is_out vars l ≡ true
+out-nought vars l e = or_left (l.var == 0) (nat_lt vars l.var) (eq-eqb l.var 0 e)
+
+pub out-above : (vars : ℕ) (l : Lit) → vars < l.var → is_out vars l ≡ true
+out-above vars l h = or_right (l.var == 0) (nat_lt vars l.var) (lt-ltb vars l.var h)
 
 pub in-range : (vars : ℕ) (l : Lit) → (l.var ≡ 0 → ⊥) → l.var ≤ vars → is_out vars l ≡ false
 in-range vars l n b = or_from (l.var == 0) (nat_lt vars l.var) (false_from_ne_true (l.var == 0) (λ e. n (eqb-true l.var 0 e))) (false_from_ne_true (nat_lt vars l.var) (λ e. let h = ltb-true vars l.var e in absurd (omega arith)))

@@ -1,7 +1,7 @@
 -- What is left of a list of hints or lines decides as the whole does.
 use Rattle.std.proofs.Common.{◌≡◌, ℕ, ◌+◌, ◌-◌, ◌<◌, ◌≤◌, Bool, true, false, not, cond, ◌==◌, if◌then◌else◌, List, [], ◌∷◌, ◌++◌, map, length, take, drop, get_or, Option, Some, None, Result, Ok, Err, refl, sym, ap, ◌∙◌, subst, arith, eqb-true, append_assoc}
-use Rattle.std.proofs.lemmas.Bool.{false_from_ne_true}
-use Rattle.std.proofs.lemmas.List.{length-map, get_or-map, take_more}
+use Rattle.std.proofs.lemmas.Bool.{eq-eqb, false_from_ne_true}
+use Rattle.std.proofs.lemmas.List.{length-drop, length-map, get_or-map, take_more}
 use Rattle.clause_db.proofs.Cutting.{clause_at-get}
 use Rattle.clause_db.proofs.Literals.{drop-from}
 use Rattle.clause_db.proofs.Numbering.{clause_at-after}
@@ -14,15 +14,8 @@ use Rattle.rup_check.specs.declared.error.LineErr.TheVariants.{BadLits, NoSuchCl
 use Rattle.rup_check.specs.declared.error.LogErr.{LogErr}
 use Rattle.rup_check.specs.declared.error.LogErr.TheVariants.{BadLine}
 use Rattle.rup_check.specs.Answers.{LineAnswer}
+use Rattle.rup_check.specs.Packed.{line_at, no_line}
 use Rattle.rup_check.specs.Follows.{has_bad_lits, after_hint, clauses_before, fault_or, hints_fault, line_fault, line_or, lines_fault, ends_empty}
-
-pub empty-length : (lits : List Lit) → is_empty_clause lits ≡ (length lits == 0)
-empty-length [] = refl
-empty-length (l ∷ ls) = sym (false_from_ne_true (length (l ∷ ls) == 0) (λ e. let z = eqb-true (length (l ∷ ls)) 0 e in absurd (omega arith)))
-
-pub ends-more : (line : Line) (xs : List Line) (last : Line) → ends_empty (line ∷ (xs ++ last ∷ [])) ≡ (if is_empty_clause line.lits then false else ends_empty (xs ++ last ∷ []))
-ends-more line [] last = refl
-ends-more line (x ∷ xs) last = refl
 
 if_true : {A : Type 0} (b : Bool) (x y : A) → b ≡ true → (if b then x else y) ≡ x
 if_true true x y e = refl
@@ -32,11 +25,37 @@ if_false : {A : Type 0} (b : Bool) (x y : A) → b ≡ false → (if b then x el
 if_false true x y e = cc
 if_false false x y e = refl
 
-pub ends-early : (line : Line) (xs : List Line) (last : Line) → is_empty_clause line.lits ≡ true → ends_empty (line ∷ (xs ++ last ∷ [])) ≡ false
-ends-early line xs last e = ends-more line xs last ∙ if_true (is_empty_clause line.lits) false (ends_empty (xs ++ last ∷ [])) e
+both-ways : (x y : Bool) → (x ≡ true → y ≡ true) → (y ≡ true → x ≡ true) → x ≡ y
+both-ways true true f g = refl
+both-ways true false f g = sym (f refl)
+both-ways false true f g = g refl
+both-ways false false f g = refl
 
-pub ends-later : (line : Line) (xs : List Line) (last : Line) → is_empty_clause line.lits ≡ false → ends_empty (line ∷ (xs ++ last ∷ [])) ≡ ends_empty (xs ++ last ∷ [])
-ends-later line xs last e = ends-more line xs last ∙ if_false (is_empty_clause line.lits) false (ends_empty (xs ++ last ∷ [])) e
+-- none is left behind a place exactly where it is the last
+none-behind : (i n : ℕ) → i < n → (n - (i + 1) == 0) ≡ (i + 1 == n)
+none-behind i n h =
+    both-ways (n - (i + 1) == 0) (i + 1 == n)
+    (λ e. let z : n - (i + 1) ≡ 0 = eqb-true (n - (i + 1)) 0 e in eq-eqb (i + 1) n (omega (arith, h, z)))
+    (λ e. let z : i + 1 ≡ n = eqb-true (i + 1) n e in eq-eqb (n - (i + 1)) 0 (omega (arith, z)))
+
+ends-first : (line : Line) (rest : List Line) → is_empty_clause line.lits ≡ true → ends_empty (line ∷ rest) ≡ (length rest == 0)
+ends-first line [] e = e
+ends-first line (x ∷ xs) e = if_true (is_empty_clause line.lits) false (ends_empty (x ∷ xs)) e ∙ sym (false_from_ne_true (length (x ∷ xs) == 0) (λ h. let z = eqb-true (length (x ∷ xs)) 0 h in absurd (omega arith)))
+
+ends-rest : (line : Line) (rest : List Line) → is_empty_clause line.lits ≡ false → ends_empty (line ∷ rest) ≡ ends_empty rest
+ends-rest line [] e = e
+ends-rest line (x ∷ xs) e = if_false (is_empty_clause line.lits) false (ends_empty (x ∷ xs)) e
+
+-- the first line without a literal decides, by its place
+pub ends-early : (lines : List Line) (i : ℕ) → i < length lines → is_empty_clause (line_at lines i).lits ≡ true → ends_empty (drop i lines) ≡ (i + 1 == length lines)
+ends-early lines i h e =
+    ap ends_empty (drop-from lines i no_line h)
+    ∙ ends-first (line_at lines i) (drop (i + 1) lines) e
+    ∙ ap (λ (n : ℕ). n == 0) (length-drop (i + 1) lines)
+    ∙ none-behind i (length lines) h
+
+pub ends-later : (lines : List Line) (i : ℕ) → i < length lines → is_empty_clause (line_at lines i).lits ≡ false → ends_empty (drop i lines) ≡ ends_empty (drop (i + 1) lines)
+ends-later lines i h e = ap ends_empty (drop-from lines i no_line h) ∙ ends-rest (line_at lines i) (drop (i + 1) lines) e
 
 pub hints-more : (clauses : List (List Lit)) (known : List Lit) (place h : ℕ) (xs : List ℕ) (last : ℕ) → hints_fault clauses known place (h ∷ (xs ++ last ∷ [])) ≡ fault_or (after_hint known place (clause_at clauses h)) (λ more. hints_fault clauses more (place + 1) (xs ++ last ∷ []))
 hints-more clauses known place h [] last = refl
@@ -147,3 +166,10 @@ fault-answered fault (NoSuchClause hint) a n = a
 fault-answered fault (NotUnit hint) a n = a
 fault-answered fault NotFalsified a n = a
 fault-answered fault NoMemory a n = absurd (n refl)
+
+-- what a cursor takes from the items from a place on
+pub taken : {X : Type 0} (xs left : List X) (i : ℕ) (x d : X) → drop i xs ≡ x ∷ left → (i < length xs) × (get_or xs i d ≡ x) × (left ≡ drop (i + 1) xs)
+taken {X = X} xs left i x d e =
+    let there : i < length xs = omega (arith, ap length e, length-drop i xs) in
+    let both : x ∷ left ≡ get_or xs i d ∷ drop (i + 1) xs = sym e ∙ drop-from xs i d there in
+    (there, sym (ap (λ (z : List X). get_or z 0 d) both), ap (drop 1) both)

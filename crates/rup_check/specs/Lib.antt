@@ -1,3 +1,4 @@
 pub mod Answers
 pub mod Follows
 pub mod Known
+pub mod Packed

@@ -1,13 +1,15 @@
 //! The check of a proof log: whether each of its lines follows from what stands before it.
 
-ghost use Rattle.std.specs.Prelude.{◌≡◌, []};
+ghost use Rattle.std.specs.Prelude.{◌≡◌, ◌<◌, [], length, take};
 ghost use Rattle.rup_check.specs.Answers.{LineAnswer, LogAnswer};
 ghost use Rattle.rup_check.specs.Follows.{clauses_before, line_fault, log_fault};
+ghost use Rattle.rup_check.specs.Packed.{line_at};
 
 use crate::error::{LineErr, LogErr};
 use crate::hints::{check_hints, deny};
 use crate::known::Known;
 use crate::line::{Line, Log};
+use crate::lines::Lines;
 use clause_db::list::ClauseList;
 use std::alloc::Global;
 
@@ -21,7 +23,9 @@ pub fn check_line(alloc: Global, clauses: &ClauseList, line: &Line) -> Result<()
     ensures { LineAnswer (line_fault clauses.now.vars clauses.now.list line.now) result }
 {
     let mut known = Known::new(alloc, clauses.vars())?;
-    check_after(&mut known, clauses, &[], line)
+    let mut lines = Lines::new(alloc);
+    lines.push(line.lits.as_slice(), line.hints.as_slice())?;
+    check_at(&mut known, clauses, &lines, 0)
 }
 
 /// Whether each line of a log follows from the clauses and the lines before it. Ok exactly where each does; otherwise the
@@ -34,9 +38,9 @@ pub fn check_log(alloc: Global, clauses: &ClauseList, log: &Log) -> Result<(), L
     ensures { LogAnswer (log_fault clauses.now.vars clauses.now.list log.now.lines) result }
 {
     let mut known = Known::new(alloc, clauses.vars())?;
-    let lines = log.lines.as_slice();
-    for (i, line) in lines.iter().enumerate() {
-        if let Err(why) = check_after(&mut known, clauses, &lines[..i], line) {
+    let lines = &log.lines;
+    for i in 0..lines.len() {
+        if let Err(why) = check_at(&mut known, clauses, lines, i) {
             match why {
                 LineErr::NoMemory => return Err(LogErr::NoMemory),
                 _ => {
@@ -50,20 +54,21 @@ pub fn check_log(alloc: Global, clauses: &ClauseList, log: &Log) -> Result<(), L
     Ok(())
 }
 
-// Whether a line follows from the clauses and these earlier lines, where nothing is known.
-fn check_after(
+// Whether the line at a place from 0 follows from the clauses and the lines before it, where nothing is known.
+fn check_at(
     known: &mut Known,
     clauses: &ClauseList,
-    earlier: &[Line],
-    line: &Line,
+    lines: &Lines,
+    place: usize,
 ) -> Result<(), LineErr>
+    requires there { place < length lines.now }
     requires same { known.old.vars ≡ clauses.now.vars }
     requires nothing { known.old.lits ≡ [] }
-    ensures answer { LineAnswer (line_fault clauses.now.vars (clauses_before clauses.now.list earlier.now) line.now) result }
+    ensures answer { LineAnswer (line_fault clauses.now.vars (clauses_before clauses.now.list (take place lines.now)) (line_at lines.now place)) result }
     ensures vars { known.new.vars ≡ known.old.vars }
 {
-    if !deny(known, line.lits.as_slice())? {
+    if !deny(known, lines.lits(place))? {
         return Err(LineErr::BadLits);
     }
-    check_hints(known, clauses, earlier, line.hints.as_slice())
+    check_hints(known, clauses, lines, place, lines.hints(place))
 }

@@ -3,6 +3,7 @@
 ghost use Rattle.std.specs.Prelude.{◌≡◌};
 ghost use Rattle.rup_check.specs.Follows.{ends_empty};
 
+use crate::lines::Lines;
 use clause_db::lit::Lit;
 use pack_defs::items::Items;
 
@@ -17,7 +18,7 @@ pub struct Line {
 /// A proof log.
 #[derive(Debug, Drop)]
 pub struct Log {
-    pub lines: Items<Line>,
+    pub lines: Lines,
 }
 
 impl Log {
@@ -25,14 +26,12 @@ impl Log {
     pub fn ends_empty(&self) -> bool
         ensures { result ≡ ends_empty self.now.lines }
     {
-        let Some((last, before)) = self.lines.as_slice().split_last() else {
-            return false;
-        };
-        for line in before {
-            if line.lits.as_slice().is_empty() {
-                return false;
+        let count = self.lines.len();
+        for i in 0..count {
+            if self.lines.is_empty_at(i) {
+                return i + 1 == count;
             }
         }
-        last.lits.as_slice().is_empty()
+        false
     }
 }

@@ -3,6 +3,7 @@
 use super::*;
 use crate::check::{check_line, check_log};
 use crate::line::{Line, Log};
+use crate::lines::Lines;
 use clause_db::list::ClauseList;
 use clause_db::lit::Lit;
 use pack_defs::items::Items;
@@ -28,10 +29,12 @@ fn line(alloc: Global, numbers: &[i64], hints: &[u64]) -> Result<Line, NoMemory>
     })
 }
 
-fn log(lines: Vec<Line>) -> Log {
-    Log {
-        lines: Items::from_vec(lines),
+fn log(alloc: Global, lines: &[Line]) -> Result<Log, NoMemory> {
+    let mut packed = Lines::new(alloc);
+    for line in lines {
+        packed.push(line.lits.as_slice(), line.hints.as_slice())?;
     }
+    Ok(Log { lines: packed })
 }
 
 // Three stations on two channels, each two of which interfere on each.
@@ -118,7 +121,7 @@ fn refutation_of_two_lines(rt: HostRuntime) -> Result<(), Fail> {
     let mut lines = Vec::new(alloc);
     lines.push(line(alloc, &[-1], &[7, 2, 8, 3, 12])?)?;
     lines.push(line(alloc, &[], &[13, 1, 9, 2, 10, 3, 11])?)?;
-    let log = log(lines);
+    let log = log(alloc, &lines)?;
     assert_eq!(rt; check_log(alloc, &clauses, &log), Ok(()));
     assert!(rt; log.ends_empty());
     Ok(())
@@ -133,7 +136,7 @@ fn line_that_names_itself(rt: HostRuntime) -> Result<(), Fail> {
     lines.push(line(alloc, &[], &[14])?)?;
     let why = LineErr::NoSuchClause { hint: 1 };
     assert_eq!(rt;
-        check_log(alloc, &clauses, &log(lines)),
+        check_log(alloc, &clauses, &log(alloc, &lines)?),
         Err(LogErr::BadLine { line: 2, why })
     );
     Ok(())
@@ -147,7 +150,7 @@ fn empty_line_in_the_middle_is_no_end(rt: HostRuntime) -> Result<(), Fail> {
     lines.push(line(alloc, &[-1], &[7, 2, 8, 3, 12])?)?;
     lines.push(line(alloc, &[], &[13, 1, 9, 2, 10, 3, 11])?)?;
     lines.push(line(alloc, &[], &[14])?)?;
-    let log = log(lines);
+    let log = log(alloc, &lines)?;
     assert_eq!(rt; check_log(alloc, &clauses, &log), Ok(()));
     assert!(rt; !log.ends_empty());
     Ok(())
@@ -157,7 +160,7 @@ fn empty_line_in_the_middle_is_no_end(rt: HostRuntime) -> Result<(), Fail> {
 fn empty_log_follows_and_refutes_nothing(rt: HostRuntime) -> Result<(), Fail> {
     let alloc = rt.alloc();
     let clauses = three_stations(alloc)?;
-    let log = log(Vec::new(alloc));
+    let log = log(alloc, &[])?;
     assert_eq!(rt; check_log(alloc, &clauses, &log), Ok(()));
     assert!(rt; !log.ends_empty());
     Ok(())
@@ -174,5 +177,60 @@ fn clauses_of_variables_past_the_last(rt: HostRuntime) -> Result<(), Fail> {
         answer(alloc, &clauses, &[], &[2, 2])?,
         Err(LineErr::NotFalsified)
     );
+    Ok(())
+}
+
+// Lines of these hints, each with one literal, by the DIMACS number of its place.
+fn lines_of(alloc: Global, numbers: &[i64], hints: &[u64]) -> Result<Lines, NoMemory> {
+    let mut lines = Lines::new(alloc);
+    for i in 0..numbers.len().min(hints.len()) {
+        let lits = lits(alloc, &numbers[i..i + 1])?;
+        lines.push(&lits, &hints[i..i + 1])?;
+    }
+    Ok(lines)
+}
+
+// Whether the line at a place has one literal, of this DIMACS number, and this hint alone.
+fn is_there(lines: &Lines, place: usize, number: i64, hint: u64) -> bool {
+    if place >= lines.len() {
+        return false;
+    }
+    let mut lits = lines.lits(place);
+    let mut hints = lines.hints(place);
+    let same = match lits.next() {
+        Some(lit) => lit.var == number.unsigned_abs() && lit.positive == (number > 0),
+        None => false,
+    };
+    same && hints.next() == Some(hint) && lits.next().is_none() && hints.next().is_none()
+}
+
+#[test]
+fn numbers_of_each_length_are_read_again(rt: HostRuntime) -> Result<(), Fail> {
+    let alloc = rt.alloc();
+    let numbers = [
+        1,
+        -63,
+        64,
+        -8191,
+        8192,
+        -1_048_576,
+        2_147_483_648,
+        -9_223_372_036_854_775_807,
+    ];
+    let hints = [0, 1, 127, 128, 16_383, 16_384, 4_294_967_296, u64::MAX];
+    let mut lines = lines_of(alloc, &numbers, &hints)?;
+    for i in 0..numbers.len() {
+        assert!(rt; is_there(&lines, i, numbers[i], hints[i]));
+    }
+    let too_great = Lit {
+        var: 9_223_372_036_854_775_808,
+        positive: true,
+    };
+    assert!(rt; lines.push(&[too_great], &[]).is_err());
+    assert_eq!(rt; lines.len(), 8);
+    lines.push(&[], &[])?;
+    assert!(rt; lines.is_empty_at(8));
+    lines.pop();
+    assert!(rt; is_there(&lines.fitted(), 7, numbers[7], hints[7]));
     Ok(())
 }

@@ -6,5 +6,5 @@ abbrev pub invariant-loop-i : goal.invariant-loop-i
 invariant-loop-i l = record {
   same : l.known.vars ≡ l.clauses.vars;
   nothing : l.known.lits ≡ [];
-  left : lines_fault l.clauses.vars (clauses_before l.clauses.list (take l.i l.lines)) (l.i + 1) (drop l.i l.lines) ≡ log_fault l.clauses.vars l.clauses.list l.log.lines;
+  left : lines_fault l.clauses.vars (clauses_before l.clauses.list (take l.i l.log.lines)) (l.i + 1) (drop l.i l.log.lines) ≡ log_fault l.clauses.vars l.clauses.list l.log.lines;
 }

@@ -1,0 +1,61 @@
+-- How the numbers of a log's lines stand in bytes: seven bits a byte, the least first, and 128 more on each byte but a
+-- number's last (LEB128).
+use Rattle.std.specs.Prelude.{ℕ, ◌+◌, ◌-◌, ◌*◌, ◌/◌, ◌%◌, ◌^◌, ◌==◌, ◌≡◌, ◌≤◌, nat_lt, if◌then◌else◌, List, [], ◌∷◌, ◌++◌, map, slice_index_or, slice_range}
+use Rattle.clause_db.specs.declared.lit.Lit.{Lit}
+use Rattle.rup_check.specs.declared.line.Line.{Line}
+use Rattle.rup_check.specs.declared.digits.Digits.{Digits}
+use Rattle.rup_check.specs.declared.lines.Span.{Span}
+
+-- nothing of a number is read
+abbrev pub no_digits : Digits
+no_digits = record { part = 0; weight = 1 }
+
+-- the part of a number once a digit more is read
+abbrev pub part_with : Digits → ℕ → ℕ
+part_with d digit = (d.part + (digit * d.weight) % 2 ^ 64) % 2 ^ 64
+
+-- what is read of a number with one digit more that isn't its last
+abbrev pub digits_with : Digits → ℕ → Digits
+digits_with d digit = record { part = part_with d digit; weight = (d.weight * 128) % 2 ^ 64 }
+
+-- the numbers that the bytes spell, where so much of the first is read
+abbrev pub numbers_from : Digits → List ℕ → List ℕ
+numbers_from d [] = []
+numbers_from d (b ∷ bs) =
+    if nat_lt b 128 then part_with d b ∷ numbers_from no_digits bs else numbers_from (digits_with d (b - 128)) bs
+
+-- the numbers that the bytes spell
+abbrev pub numbers_of : List ℕ → List ℕ
+numbers_of bytes = numbers_from no_digits bytes
+
+-- the bytes spell these numbers, whatever stands behind
+abbrev pub Spells : List ℕ → List ℕ → Type 0
+Spells bytes numbers = (behind : List ℕ) → numbers_of (bytes ++ behind) ≡ numbers ++ numbers_of behind
+
+-- the number that stands for a literal: twice its variable, and 1 more where it is positive
+abbrev pub number_of_lit : Lit → ℕ
+number_of_lit l = if l.positive then 2 * l.var + 1 else 2 * l.var
+
+-- the literal that a number stands for
+abbrev pub lit_of_number : ℕ → Lit
+lit_of_number n = record { var = n / 2; positive = n % 2 == 1 }
+
+-- the literals that the bytes spell
+abbrev pub lits_of : List ℕ → List Lit
+lits_of bytes = map lit_of_number (numbers_of bytes)
+
+-- the line whose literals and hints stand there
+abbrev pub line_in : List ℕ → Span → Line
+line_in bytes s = record { lits = lits_of (slice_range bytes s.lits s.hints); hints = numbers_of (slice_range bytes s.hints s.end) }
+
+-- the places are in order, and none is past the bytes
+abbrev pub IsWithin : ℕ → Span → Type 0
+IsWithin length s = (s.lits ≤ s.hints) × (s.hints ≤ s.end) × (s.end ≤ length)
+
+-- a line without literals and hints
+abbrev pub no_line : Line
+no_line = record { lits = []; hints = [] }
+
+-- the line at a place from 0, or one without literals and hints
+abbrev pub line_at : List Line → ℕ → Line
+line_at lines i = slice_index_or lines i no_line

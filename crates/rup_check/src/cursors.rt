@@ -1,0 +1,123 @@
+//! What is left of a line's literals or hints, taken one after the other.
+
+ghost use Rattle.std.specs.Prelude.{◌≡◌, ◌^◌, ◌<◌, ◌++◌, ◌∷◌, [], length, MatchOption, OnOk, ⊤};
+ghost use Rattle.rup_check.specs.Packed.{lit_of_number, number_of_lit};
+
+use crate::digits::first_number;
+use clause_db::lit::Lit;
+use std::alloc::AllocError as NoMemory;
+use std::marker::Model;
+
+/// The hints that are left of a line.
+#[derive(Debug, Drop)]
+pub struct Hints<'a> {
+    pub(crate) packed: &'a [u8],
+}
+
+impl<'a> Model for Hints<'a> {
+    ghost use Rattle.std.specs.Prelude.{List, ℕ};
+    ghost use Rattle.rup_check.specs.Packed.{numbers_of};
+
+    ghost Value = { List ℕ };
+
+    ghost view = { λ h. numbers_of h.packed.now };
+}
+
+impl<'a> Hints<'a> {
+    /// The next hint, if one is left.
+    pub fn next(&mut self) -> Option<u64>
+        ensures next { MatchOption result (self.old ≡ []) (λ hint. self.old ≡ hint ∷ self.new) }
+        ensures few { length self.old < 2 ^ 63 }
+    {
+        let (number, rest) = first_number(self.packed)?;
+        self.packed = rest;
+        Some(number)
+    }
+
+    /// Puts the hints that are left behind these. The only error is want of memory.
+    pub fn read_into(self, hints: &mut Vec<u64>) -> Result<(), NoMemory>
+        ensures { OnOk result (hints.new.items ≡ hints.old.items ++ self.entry) }
+    {
+        let mut left = self;
+        while let Some(hint) = left.next() {
+            hints.push(hint)?;
+        }
+        Ok(())
+    }
+}
+
+/// The literals that are left of a clause or a line.
+#[derive(Debug, Drop)]
+pub struct Literals<'a> {
+    // Those of a clause, and behind them those of a line: one or the other.
+    pub(crate) plain: &'a [Lit],
+    pub(crate) packed: &'a [u8],
+}
+
+impl<'a> Model for Literals<'a> {
+    ghost use Rattle.std.specs.Prelude.{List, ◌++◌};
+    ghost use Rattle.clause_db.specs.declared.lit.Lit.{Lit};
+    ghost use Rattle.rup_check.specs.Packed.{lits_of};
+
+    ghost Value = { List Lit };
+
+    ghost view = { λ l. l.plain.now ++ lits_of l.packed.now };
+}
+
+impl<'a> Literals<'a> {
+    /// The literals of a clause.
+    pub fn of_clause(clause: &'a [Lit]) -> Literals<'a>
+        ensures { result ≡ clause.now }
+    {
+        Literals {
+            plain: clause,
+            packed: &[],
+        }
+    }
+
+    /// The next literal, if one is left.
+    pub fn next(&mut self) -> Option<Lit>
+        ensures { MatchOption result (self.old ≡ []) (λ lit. self.old ≡ lit ∷ self.new) }
+    {
+        if let Some((first, rest)) = self.plain.split_first() {
+            self.plain = rest;
+            return Some(*first);
+        }
+        let (number, rest) = first_number(self.packed)?;
+        self.packed = rest;
+        Some(lit_of(number))
+    }
+
+    /// Puts the literals that are left behind these. The only error is want of memory.
+    pub fn read_into(self, lits: &mut Vec<Lit>) -> Result<(), NoMemory>
+        ensures { OnOk result (lits.new.items ≡ lits.old.items ++ self.entry) }
+    {
+        let mut left = self;
+        while let Some(lit) = left.next() {
+            lits.push(lit)?;
+        }
+        Ok(())
+    }
+}
+
+// The literal that a number stands for.
+fn lit_of(number: u64) -> Lit
+    ensures { result ≡ lit_of_number number }
+{
+    Lit {
+        var: number / 2,
+        positive: number % 2 == 1,
+    }
+}
+
+/// The number that stands for a literal, if there is one within 64 bits.
+pub(crate) fn number_of(lit: Lit) -> Option<u64>
+    ensures { MatchOption result ⊤ (λ n. n ≡ number_of_lit lit) }
+{
+    let twice = lit.var.checked_mul(2)?;
+    if lit.positive {
+        Some(twice + 1)
+    } else {
+        Some(twice)
+    }
+}

@@ -1,0 +1,73 @@
+//! Numbers in bytes: seven bits a byte, the least first, and 128 more on each byte but a number's last (LEB128).
+
+ghost use Rattle.std.specs.Prelude.{◌≡◌, ◌-◌, ◌++◌, ◌∷◌, [], List, ℕ, MatchOption, OnOk, nat_lt, true, false};
+ghost use Rattle.rup_check.specs.Packed.{Spells, digits_with, no_digits, numbers_of, part_with};
+
+use std::alloc::AllocError as NoMemory;
+
+/// What is read of a number: the part that its digits so far make, and what the next one counts.
+#[derive(Clone, Copy, Debug, PartialEq, Eq)]
+pub(crate) struct Digits {
+    pub(crate) part: u64,
+    pub(crate) weight: u64,
+}
+
+impl Digits {
+    // Nothing is read.
+    fn none() -> Digits
+        ensures { result ≡ no_digits }
+    {
+        Digits { part: 0, weight: 1 }
+    }
+
+    // Reads a byte: the number, where this is its last.
+    fn take(&mut self, byte: u8) -> Option<u64>
+        ensures { MatchOption result
+            ((nat_lt byte 128 ≡ false) × (self.new ≡ digits_with self.old (byte - 128)))
+            (λ n. (nat_lt byte 128 ≡ true) × (n ≡ part_with self.old byte)) }
+    {
+        let byte = byte as u64;
+        if byte < 128 {
+            return Some(self.part_with(byte));
+        }
+        self.part = self.part_with(byte - 128);
+        self.weight = self.weight.wrapping_mul(128);
+        None
+    }
+
+    // The part with a digit more.
+    fn part_with(&self, digit: u64) -> u64
+        ensures { result ≡ part_with self.now digit }
+    {
+        self.part.wrapping_add(digit.wrapping_mul(self.weight))
+    }
+}
+
+/// The first number of the bytes, and the bytes behind it.
+pub(crate) fn first_number(bytes: &[u8]) -> Option<(u64, &[u8])>
+    ensures { MatchOption result
+        (numbers_of bytes.now ≡ [])
+        (λ found. numbers_of bytes.now ≡ found.0 ∷ numbers_of found.1.now) }
+{
+    let mut digits = Digits::none();
+    for (i, byte) in bytes.iter().enumerate() {
+        if let Some(number) = digits.take(*byte) {
+            return Some((number, &bytes[i + 1..]));
+        }
+    }
+    None
+}
+
+/// Writes a number behind the bytes.
+pub(crate) fn push_number(bytes: &mut Vec<u8>, number: u64) -> Result<(), NoMemory>
+    ensures { (more : List ℕ) × (bytes.new.items ≡ bytes.old.items ++ more)
+        × OnOk result (Spells more (number ∷ [])) }
+{
+    let mut rest = number;
+    'digits: while rest >= 128 {
+        bytes.push((128 + rest % 128) as u8)?;
+        rest /= 128;
+    }
+    bytes.push(rest as u8)?;
+    Ok(())
+}
