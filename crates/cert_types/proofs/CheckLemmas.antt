@@ -1,5 +1,5 @@
 -- What the parts of the check find is the definition's fault.
-use Rattle.std.proofs.Common.{◌≡◌, ℕ, zero, suc, ◌<◌, ◌≤◌, Bool, true, false, ◌==◌, ◌&&◌, List, length, Option, option_map, sym, ap, ◌∙◌, nat_lt, nat_le, arith, lt-ltb, le-leb, eq-eqb}
+use Rattle.std.proofs.Common.{◌≡◌, ℕ, ◌<◌, ◌≤◌, Bool, true, ◌==◌, ◌&&◌, List, length, Option, option_map, sym, ap, ◌∙◌, nat_lt, nat_le, lt-ltb, le-leb, eq-eqb}
 use Rattle.std.specs.List.{list_any}
 use Rattle.std.proofs.Math.Bool.{and_assoc}
 use Rattle.std.proofs.lemmas.Bool.{and_from}
@@ -21,11 +21,10 @@ use Rattle.cert_types.specs.Valid.{learns, proof_fault, spent_lines_fault, unles
 use Rattle.cert_types.proofs.LineLemmas.{first-both}
 
 -- the lesser of what the two scans of a log find is the first line at fault
-pub first-checked : (other : List (List Lit) → Line → List Line → Bool) (vars vars2 : ℕ) (clauses formula : List (List Lit)) (lines seen : List Line) (one two both : Option ℕ) → vars ≡ vars2 → clauses ≡ formula → seen ≡ lines → one ≡ first_line (does_follow vars) clauses 1 lines → two ≡ first_line other formula 1 seen → both ≡ lesser one two → both ≡ first_line (passes_both (does_follow vars2) other) formula 1 lines
-first-checked other vars vars2 clauses formula lines seen one two both v f s e g h =
+pub first-checked : (other : List (List Lit) → Line → List Line → Bool) (vars vars2 : ℕ) (clauses formula : List (List Lit)) (lines : List Line) (one two both : Option ℕ) → vars ≡ vars2 → clauses ≡ formula → one ≡ first_line (does_follow vars) clauses 1 lines → two ≡ first_line other formula 1 lines → both ≡ lesser one two → both ≡ first_line (passes_both (does_follow vars2) other) formula 1 lines
+first-checked other vars vars2 clauses formula lines one two both v f e g h =
     let first : one ≡ first_line (does_follow vars2) formula 1 lines = e ∙ (λ i. first_line (does_follow (v i)) (f i) 1 lines) in
-    let second : two ≡ first_line other formula 1 lines = g ∙ ap (first_line other formula 1) s in
-    h ∙ (λ i. lesser (first i) (second i)) ∙ sym (first-both (does_follow vars2) other formula 1 lines)
+    h ∙ (λ i. lesser (first i) (g i)) ∙ sym (first-both (does_follow vars2) other formula 1 lines)
 
 -- a learner's log of lines within the budget, over a subset: its first line at fault decides
 pub proof-counted : (book : BookView) (task : Task) (worker : Worker) (subset : List ℕ) (lines : List Line) → learns worker.kind ≡ true → 0 < length lines → length lines ≤ worker.budget → is_subset subset task.set ≡ true → option_map LineAt (first_line (is_proof_line (variables_in book subset)) (packing_formula book subset) 1 lines) ≡ proof_fault book task worker subset lines
@@ -44,8 +43,3 @@ lines-counted book task worker lines learner all =
 -- a list has the pair by the one test exactly where it has it by the other
 pub same-found : (p : Pair) (ps : List Pair) → list_any (is_pair p) ps ≡ list_any (λ q. same_pair q p) ps
 same-found p ps = list_any-same (is_pair p) (λ q. same_pair q p) (λ q. sym (and_assoc (q.f == p.f) (q.a == p.a) ((q.g == p.g) && (q.b == p.b)))) ps
-
--- a number that is not nought
-pub not-nought : (n : ℕ) → (n == 0) ≡ false → 0 < n
-not-nought zero e = cc
-not-nought (suc n) e = omega arith

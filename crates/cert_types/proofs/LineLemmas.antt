@@ -1,7 +1,7 @@
 -- The first line of a log that fails a test.
 use Rattle.std.proofs.Common.{◌≡◌, ℕ, ◌+◌, ◌≤◌, Bool, true, false, ◌&&◌, if◌then◌else◌, List, [], ◌∷◌, ◌++◌, Option, Some, None, option_map, is_none, refl, sym, ap, ◌∙◌, arith, ◌<◌, length, take, drop, get_or}
 use Rattle.std.proofs.Math.Nat.{min-eq_left, min-eq_right}
-use Rattle.std.proofs.lemmas.List.{take_more}
+use Rattle.std.proofs.lemmas.List.{get_or_default, take_more}
 use Rattle.clause_db.proofs.Literals.{drop-from}
 use Rattle.clause_db.specs.declared.lit.Lit.{Lit}
 use Rattle.rup_check.specs.declared.line.Line.{Line}
@@ -9,6 +9,7 @@ use Rattle.rup_check.specs.declared.error.LineErr.{LineErr}
 use Rattle.rup_check.specs.declared.error.LogErr.{LogErr}
 use Rattle.rup_check.specs.declared.error.LogErr.TheVariants.{BadLine, NoMemory}
 use Rattle.rup_check.specs.Follows.{clauses_before, line_fault, line_or, lines_fault}
+use Rattle.rup_check.specs.Packed.{line_at, no_line}
 use Rattle.rup_check.proofs.Reading.{clauses-more}
 use Rattle.cert_types.specs.FirstLine.{first_line, does_follow, passes_both, lesser}
 
@@ -50,6 +51,10 @@ first-both one other clauses place (line ∷ lines) =
       ]
     ] in
     go (one clauses line lines) (other clauses line lines)
+
+-- the line at a place, as these lemmas read it
+pub line-here : (lines : List Line) (i : ℕ) → i < length lines → line_at lines i ≡ get_or lines i (line_at lines i)
+line-here lines i h = get_or_default lines i no_line (line_at lines i) h
 
 -- one line more of a log whose lines pass so far; and the first that does not
 pub first-passed : (test : List (List Lit) → Line → List Line → Bool) (clauses : List (List Lit)) (lines : List Line) (i : ℕ) (line : Line) (whole : Option ℕ) → i < length lines → line ≡ get_or lines i line → test (clauses_before clauses (take i lines)) line (drop (i + 1) lines) ≡ true → first_line test (clauses_before clauses (take i lines)) (i + 1) (drop i lines) ≡ whole → first_line test (clauses_before clauses (take (i + 1) lines)) (i + 1 + 1) (drop (i + 1) lines) ≡ whole

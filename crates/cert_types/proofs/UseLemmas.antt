@@ -56,10 +56,6 @@ pub line-used : (uses : UsesView) (lines : List Line) (i : ℕ) (line : Line) (l
 line-used uses lines i line lits l is same h =
     ap (λ (z : List Lit). are_used uses z) same ∙ (ap (λ (z : Line). are_used uses z.lits) is ∙ list_all-get (λ (z : Line). are_used uses z.lits) lines i line h l)
 
--- one literal more
-pub lits-more : (uses : UsesView) (lits : List Lit) (i : ℕ) (d : Lit) → i < length lits → are_used uses (take i lits) ≡ true → is_used uses (get_or lits i d) ≡ true → are_used uses (take (i + 1) lits) ≡ true
-lits-more uses lits i d l h u = ap (λ (z : List Lit). are_used uses z) (take_more lits i d l) ∙ all-more (is_used uses) (take i lits) (get_or lits i d) h u
-
 -- one line more
 pub lines-more : (uses : UsesView) (lines : List Line) (i : ℕ) (line : Line) → i < length lines → line ≡ get_or lines i line → list_all (λ line. are_used uses line.lits) (take i lines) ≡ true → are_used uses line.lits ≡ true → list_all (λ line. are_used uses line.lits) (take (i + 1) lines) ≡ true
 lines-more uses lines i line l is h u =

@@ -7,7 +7,8 @@ ghost use Rattle.cert_types.specs.FirstLine.{does_follow, ends_there, first_line
 use clause_db::list::ClauseList;
 use rup_check::LogErr;
 use rup_check::check::check_log;
-use rup_check::line::{Line, Log};
+use rup_check::line::Log;
+use rup_check::lines::Lines;
 use std::alloc::{AllocError as NoMemory, Global};
 
 /// The first line, from 1, that does not follow from the clauses and the lines before it.
@@ -26,12 +27,13 @@ pub(crate) fn first_not_following(
 }
 
 /// The first line, from 1, that is empty and not the last, or is the last and not empty. It depends on no clauses.
-pub(crate) fn first_misplaced(lines: &[Line]) -> Option<u64>
+pub(crate) fn first_misplaced(lines: &Lines) -> Option<u64>
     ensures { (clauses : List (List Lit)) → result ≡ first_line ends_there clauses 1 lines.now }
 {
-    for (i, line) in lines.iter().enumerate() {
-        let is_last = i + 1 == lines.len();
-        if line.lits.as_slice().is_empty() != is_last {
+    let count = lines.len();
+    for i in 0..count {
+        let is_last = i + 1 == count;
+        if lines.is_empty_at(i) != is_last {
             return Some(i as u64 + 1);
         }
     }
@@ -39,11 +41,11 @@ pub(crate) fn first_misplaced(lines: &[Line]) -> Option<u64>
 }
 
 /// The first line, from 1, that is empty. It depends on no clauses.
-pub(crate) fn first_empty(lines: &[Line]) -> Option<u64>
+pub(crate) fn first_empty(lines: &Lines) -> Option<u64>
     ensures { (clauses : List (List Lit)) → result ≡ first_line has_literal clauses 1 lines.now }
 {
-    for (i, line) in lines.iter().enumerate() {
-        if line.lits.as_slice().is_empty() {
+    for i in 0..lines.len() {
+        if lines.is_empty_at(i) {
             return Some(i as u64 + 1);
         }
     }

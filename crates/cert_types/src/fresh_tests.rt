@@ -2,10 +2,10 @@
 ghost use Rattle.std.specs.Prelude.{◌<◌};
 
 use crate::fresh::first_stale;
+use crate::samples::lits;
 use clause_db::list::ClauseList;
 use clause_db::lit::Lit;
-use pack_defs::items::Items;
-use rup_check::line::Line;
+use rup_check::lines::Lines;
 use std::alloc::{AllocError as NoMemory, Global};
 use std::test::Fail;
 
@@ -49,17 +49,24 @@ fn clauses(alloc: Global, start: u64) -> Result<ClauseList, NoMemory> {
     Ok(clauses)
 }
 
-fn lines(alloc: Global, start: u64) -> Result<Vec<Line>, NoMemory> {
+// The literals of each line.
+fn lines(alloc: Global, start: u64) -> Result<Vec<Vec<Lit>>, NoMemory> {
     let mut lines = Vec::new(alloc);
     let mut seed = next(start);
     for _ in 0..pick(seed, 9) {
         seed = next(seed);
-        lines.push(Line {
-            lits: Items::from_vec(literals(alloc, seed)?),
-            hints: Items::from_vec(Vec::new(alloc)),
-        })?;
+        lines.push(literals(alloc, seed)?)?;
     }
     Ok(lines)
+}
+
+// Lines of these literals, without hints.
+fn packed(alloc: Global, lines: &[Vec<Lit>]) -> Result<Lines, NoMemory> {
+    let mut packed = Lines::new(alloc);
+    for lits in lines {
+        packed.push(lits, &[])?;
+    }
+    Ok(packed)
 }
 
 fn is_subset(clause: &[Lit], lits: &[Lit]) -> bool {
@@ -72,14 +79,14 @@ fn is_subset(clause: &[Lit], lits: &[Lit]) -> bool {
 }
 
 // Whether a clause or one of these lines is a subset of the literals.
-fn has_subset(clauses: &ClauseList, lines: &[Line], lits: &[Lit]) -> bool {
+fn has_subset(clauses: &ClauseList, lines: &[Vec<Lit>], lits: &[Lit]) -> bool {
     for i in 0..clauses.len() {
         if is_subset(clauses.get(i + 1), lits) {
             return true;
         }
     }
     for line in lines {
-        if is_subset(line.lits.as_slice(), lits) {
+        if is_subset(line, lits) {
             return true;
         }
     }
@@ -87,9 +94,9 @@ fn has_subset(clauses: &ClauseList, lines: &[Line], lits: &[Lit]) -> bool {
 }
 
 // The first line, from 1, of which a clause or an earlier line is a subset, by a look at all of them.
-fn first_by_scan(clauses: &ClauseList, lines: &[Line]) -> Option<u64> {
+fn first_by_scan(clauses: &ClauseList, lines: &[Vec<Lit>]) -> Option<u64> {
     for (i, line) in lines.iter().enumerate() {
-        if has_subset(clauses, &lines[..i], line.lits.as_slice()) {
+        if has_subset(clauses, &lines[..i], line) {
             return Some(i as u64 + 1);
         }
     }
@@ -103,7 +110,7 @@ fn agreed(alloc: Global, seed: u64) -> Result<u64, NoMemory>
     let clauses = clauses(alloc, seed)?;
     let lines = lines(alloc, seed + 1_000_000)?;
     let by_scan = first_by_scan(&clauses, &lines);
-    if first_stale(alloc, &clauses, &lines)? != by_scan {
+    if first_stale(alloc, &clauses, &packed(alloc, &lines)?)? != by_scan {
         return Ok(1000);
     }
     Ok(by_scan.unwrap_or(0))
@@ -124,22 +131,6 @@ fn agrees_with_a_scan(rt: HostRuntime) -> Result<(), Fail> {
     Ok(())
 }
 
-// A literal by its number, negative for the opposite.
-fn lit(number: i64) -> Lit {
-    Lit {
-        var: number.unsigned_abs(),
-        positive: number > 0,
-    }
-}
-
-fn lits(alloc: Global, numbers: &[i64]) -> Result<Vec<Lit>, NoMemory> {
-    let mut lits = Vec::new(alloc);
-    for number in numbers {
-        lits.push(lit(*number))?;
-    }
-    Ok(lits)
-}
-
 // The clauses of the variables 1 to 70.
 fn clauses_of(alloc: Global, rows: &[&[i64]]) -> Result<ClauseList, NoMemory> {
     let mut clauses = ClauseList::new(alloc, 70);
@@ -149,13 +140,10 @@ fn clauses_of(alloc: Global, rows: &[&[i64]]) -> Result<ClauseList, NoMemory> {
     Ok(clauses)
 }
 
-fn lines_of(alloc: Global, rows: &[&[i64]]) -> Result<Vec<Line>, NoMemory> {
+fn lines_of(alloc: Global, rows: &[&[i64]]) -> Result<Vec<Vec<Lit>>, NoMemory> {
     let mut lines = Vec::new(alloc);
     for row in rows {
-        lines.push(Line {
-            lits: Items::from_vec(lits(alloc, *row)?),
-            hints: Items::from_vec(Vec::new(alloc)),
-        })?;
+        lines.push(lits(alloc, *row)?)?;
     }
     Ok(lines)
 }
@@ -168,7 +156,7 @@ fn wrong_row(
     for (i, (clauses, lines, want)) in rows.iter().enumerate() {
         let clauses = clauses_of(alloc, *clauses)?;
         let lines = lines_of(alloc, *lines)?;
-        if first_stale(alloc, &clauses, &lines)? != *want
+        if first_stale(alloc, &clauses, &packed(alloc, &lines)?)? != *want
             || first_by_scan(&clauses, &lines) != *want
         {
             return Ok(Some(i));

@@ -13,7 +13,8 @@ use crate::samples::{
 };
 use crate::start::start_map;
 use pack_defs::pair::Pair;
-use rup_check::line::Line;
+use rup_check::cursors::{Hints, Literals};
+use rup_check::lines::Lines;
 use std::alloc::{AllocError as NoMemory, Global};
 use std::test::Fail;
 
@@ -265,11 +266,38 @@ fn faults_of_dead_pairs(rt: HostRuntime) -> Result<(), Fail> {
     Ok(())
 }
 
-fn same_lines(one: &[Line], other: &[Line]) -> bool {
-    one.len() == other.len()
-        && one.iter().zip(other).all(|(a, b)| {
-            a.lits.as_slice() == b.lits.as_slice() && a.hints.as_slice() == b.hints.as_slice()
-        })
+fn same_lits(one: Literals<'_>, other: Literals<'_>) -> bool {
+    let mut left = one;
+    let mut others = other;
+    while let Some(lit) = left.next() {
+        if others.next() != Some(lit) {
+            return false;
+        }
+    }
+    others.next().is_none()
+}
+
+fn same_hints(one: Hints<'_>, other: Hints<'_>) -> bool {
+    let mut left = one;
+    let mut others = other;
+    while let Some(hint) = left.next() {
+        if others.next() != Some(hint) {
+            return false;
+        }
+    }
+    others.next().is_none()
+}
+
+fn same_lines(one: &Lines, other: &Lines) -> bool {
+    if one.len() != other.len() {
+        return false;
+    }
+    for i in 0..one.len() {
+        if !same_lits(one.lits(i), other.lits(i)) || !same_hints(one.hints(i), other.hints(i)) {
+            return false;
+        }
+    }
+    true
 }
 
 fn same(one: &Answer, other: &Answer) -> bool {
@@ -278,13 +306,13 @@ fn same(one: &Answer, other: &Answer) -> bool {
         (
             Answer::Refuted(Refutation::Proof { subset: a, log: c }),
             Answer::Refuted(Refutation::Proof { subset: b, log: d }),
-        ) => a.as_slice() == b.as_slice() && same_lines(c.lines.as_slice(), d.lines.as_slice()),
+        ) => a.as_slice() == b.as_slice() && same_lines(&c.lines, &d.lines),
         (Answer::Refuted(Refutation::Dead(a)), Answer::Refuted(Refutation::Dead(b))) => a == b,
         (Answer::Spent(Receipt::Moves(a)), Answer::Spent(Receipt::Moves(b))) => {
             a.as_slice() == b.as_slice()
         }
         (Answer::Spent(Receipt::Lines(a)), Answer::Spent(Receipt::Lines(b))) => {
-            same_lines(a.lines.as_slice(), b.lines.as_slice())
+            same_lines(&a.lines, &b.lines)
         }
         _ => false,
     }

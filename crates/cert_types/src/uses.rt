@@ -6,8 +6,9 @@ ghost use Rattle.std.specs.List.{list_all};
 ghost use Rattle.cert_types.specs.Uses.{Keeps, are_used, is_used};
 
 use clause_db::lit::Lit;
+use rup_check::cursors::Literals;
 use rup_check::known::{code, within};
-use rup_check::line::Line;
+use rup_check::lines::Lines;
 use std::alloc::{AllocError as NoMemory, Global};
 use std::marker::Model;
 
@@ -31,26 +32,27 @@ impl Model for Uses {
 
 impl Uses {
     /// The uses of literals by these lines.
-    pub(crate) fn of(alloc: Global, vars: u32, lines: &[Line]) -> Result<Uses, NoMemory>
+    pub(crate) fn of(alloc: Global, vars: u32, lines: &Lines) -> Result<Uses, NoMemory>
         ensures { IfOk result (λ uses. list_all (λ line. are_used uses line.lits) lines.now ≡ true) }
     {
         let mut uses = Uses {
             vars,
             counts: vec![in alloc; 0; 2 * vars as usize]?,
         };
-        for line in lines {
-            uses.count_all(line.lits.as_slice());
+        for i in 0..lines.len() {
+            uses.count_all(lines.lits(i));
         }
         Ok(uses)
     }
 
     // Counts one line more.
-    fn count_all(&mut self, lits: &[Lit])
+    fn count_all(&mut self, lits: Literals<'_>)
         ensures kept { Keeps self.old self.new }
-        ensures used { are_used self.new lits.now ≡ true }
+        ensures used { are_used self.new lits.entry ≡ true }
     {
-        for lit in lits {
-            self.count(*lit);
+        let mut left = lits;
+        while let Some(lit) = left.next() {
+            self.count(lit);
         }
     }
 
