@@ -1,5 +1,8 @@
--- A decision leaves fewer variables without a value.
-use Rattle.std.proofs.Common.{◌≡◌, ◌-◌, ◌<◌, ◌≤◌, None, List, [], ◌∷◌, ◌++◌, length, ap, subst, arith, length-append}
+-- A decision leaves fewer variables without a value, and a clause is empty where its length is 0.
+use Rattle.std.proofs.Common.{◌≡◌, ◌-◌, ◌<◌, ◌≤◌, ◌==◌, None, List, [], ◌∷◌, ◌++◌, length, refl, sym, ap, subst, arith, eqb-true, length-append}
+use Rattle.std.proofs.lemmas.Bool.{false_from_ne_true}
+use Rattle.clause_db.specs.declared.lit.Lit.{Lit}
+use Rattle.clause_db.specs.Clause.{is_empty_clause}
 use Rattle.clause_db.specs.Clauses.{Clauses, LitWithin}
 use Rattle.trail_prop.specs.declared.entry.Entry.{Entry}
 use Rattle.trail_prop.specs.Open.{value_of}
@@ -19,3 +22,7 @@ decision-smaller c before now after e t w o grows is =
 -- a trail seen through a view of it
 pub trail-of : (view : TrailView) (c : Clauses) (es : List Entry) → view ≡ record { clauses = c; entries = es } → IsTrail view.clauses view.entries → IsTrail c es
 trail-of view c es e t = subst (λ (v : TrailView). IsTrail v.clauses v.entries) e t
+
+pub empty-length : (lits : List Lit) → is_empty_clause lits ≡ (length lits == 0)
+empty-length [] = refl
+empty-length (l ∷ ls) = sym (false_from_ne_true (length (l ∷ ls) == 0) (λ e. let z = eqb-true (length (l ∷ ls)) 0 e in absurd (omega arith)))

@@ -67,11 +67,11 @@ pub(crate) fn refutation(
         length derivation.lines < worker.budget → IfOk result (λ answer. IsValid book task worker answer) }
 {
     let mut lines = derivation.into_lines();
-    lines.push(last)?;
+    lines.push(last.lits.as_slice(), last.hints.as_slice())?;
     Ok(Answer::Refuted(Refutation::Proof {
         subset: Items::from_vec(Vec::from_slice(alloc, subset)?),
         log: Log {
-            lines: Items::from_vec(lines),
+            lines: lines.fitted(),
         },
     }))
 }
@@ -83,6 +83,6 @@ pub(crate) fn receipt(derivation: Derivation) -> Answer
         IsValid book task worker result }
 {
     Answer::Spent(Receipt::Lines(Log {
-        lines: Items::from_vec(derivation.into_lines()),
+        lines: derivation.into_lines().fitted(),
     }))
 }

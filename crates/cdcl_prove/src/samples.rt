@@ -98,10 +98,8 @@ fn judged(alloc: Global, worker: &Worker, book: &Book, task: &Task, answer: Answ
 fn kind_of(answer: &Answer) -> Said {
     match answer {
         Answer::Fit(_) => Said::Fit,
-        Answer::Refuted(Refutation::Proof { subset: _, log }) => {
-            Said::Refuted(log.lines.as_slice().len())
-        }
-        Answer::Spent(Receipt::Lines(log)) => Said::Spent(log.lines.as_slice().len()),
+        Answer::Refuted(Refutation::Proof { subset: _, log }) => Said::Refuted(log.lines.len()),
+        Answer::Spent(Receipt::Lines(log)) => Said::Spent(log.lines.len()),
         _ => Said::Wrong,
     }
 }

@@ -4,4 +4,4 @@ use Rattle.cdcl_prove.proofs.answers.receipt.Goals as goal
 
 pub returns : goal.returns
 returns c book task worker learner formula whole =
-    receipt-valid book task worker c.args.derivation.formula c.args.derivation.lines (record { lines = c.from_vec.result }) learner formula c.into_lines.ensures.spent whole (c.from_vec.ensures ∙ c.into_lines.ensures.lines)
+    receipt-valid book task worker c.args.derivation.formula c.args.derivation.lines (record { lines = c.fitted.result }) learner formula c.into_lines.ensures.spent whole (c.fitted.ensures ∙ c.into_lines.ensures.lines)

@@ -1,5 +1,4 @@
-use Rattle.std.proofs.Common.{ℕ, ◌∙◌, ◌++◌, ◌∷◌, [], List, sym, ap, subst}
-use Rattle.rup_check.specs.declared.line.Line.{Line}
+use Rattle.std.proofs.Common.{ℕ, ◌≡◌, ◌∙◌, ◌++◌, ◌∷◌, [], List, sym, subst}
 use Rattle.cert_types.specs.declared.answer.Answer.TheVariants.{Refuted}
 use Rattle.cert_types.specs.declared.answer.Refutation.TheVariants.{Proof}
 use Rattle.cert_types.specs.Valid.{IsValid}
@@ -9,6 +8,6 @@ use Rattle.cdcl_prove.proofs.answers.refutation.Goals as goal
 pub returns : goal.returns
 returns c book task worker learner formula within few =
     let subset = c.from_vec.ensures ∙ c.in_ok-from_slice.ensures.items in
-    let lines = c.from_vec-2.ensures ∙ (c.in_ok-push.ensures.items ∙ ap (λ (z : List Line). z ++ c.args.last ∷ []) c.into_lines-lines.ensures.lines) in
-    subst (λ (xs : List ℕ). IsValid book task worker (Refuted (Proof xs (record { lines = c.from_vec-2.result })))) (sym subset)
-    (proof-valid book task worker c.args.subset.now c.args.derivation.formula c.args.derivation.lines c.args.last (record { lines = c.from_vec-2.result }) learner formula within c.into_lines-lines.ensures.spent c.requires.follows c.requires.ends few lines)
+    let pushed : c.push.new.self ≡ c.args.derivation.lines ++ c.args.last ∷ [] = c.in_ok-push.ensures.pushed ∙ (λ i. c.into_lines-lines.ensures.lines i ++ record { lits = c.as_slice.ensures i; hints = c.as_slice-2.ensures i } ∷ []) in
+    subst (λ (xs : List ℕ). IsValid book task worker (Refuted (Proof xs (record { lines = c.fitted.result })))) (sym subset)
+    (proof-valid book task worker c.args.subset.now c.args.derivation.formula c.args.derivation.lines c.args.last (record { lines = c.fitted.result }) learner formula within c.into_lines-lines.ensures.spent c.requires.follows c.requires.ends few (c.fitted.ensures ∙ pushed))
