@@ -103,10 +103,10 @@ with_line n clauses state word words = do
   hints ← hints_at n clauses state.numbers lits.1
   Ok (record { numbers = state.numbers ++ number ∷ []; lines = state.lines ++ record { lits = lits.0; hints = hints } ∷ [] })
 
--- what was read so far, and a line of the log with its number, if there is one
-abbrev pub read_more : LogRead → Option (ℕ × Line) → LogRead
-read_more state None = state
-read_more state (Some x) = record { numbers = state.numbers ++ x.0 ∷ []; lines = state.lines ++ x.1 ∷ [] }
+-- what was read so far, and this line of the log, if it has a number
+abbrev pub read_more : LogRead → Line → Option ℕ → LogRead
+read_more state line None = state
+read_more state line (Some number) = record { numbers = state.numbers ++ number ∷ []; lines = state.lines ++ line ∷ [] }
 
 -- the words of a deletion line behind its `d`: numbers, and a 0 at the end
 abbrev pub deleted_or : ℕ → Option Field → List (List ℕ) → Result (Unit {0}) LratErr → Result (Unit {0}) LratErr

@@ -15,8 +15,8 @@ use crate::error::LratErr;
 use crate::field::{Field, GREATEST, field_of, natural};
 use crate::lines::{is_whole, next_word, split_line, without_return};
 use clause_db::lit::Lit;
-use pack_defs::items::Items;
-use rup_check::line::{Line, Log};
+use rup_check::line::Log;
+use rup_check::lines::Lines;
 use std::alloc::{AllocError as NoMemory, Global};
 use std::marker::Model;
 
@@ -147,8 +147,7 @@ pub(crate) fn hints_of(
     Err(LratErr::BadLine { n })
 }
 
-// Room for the literals and hints of one line, which is used again for each, so that the lists of a line that was read
-// have just the room that they need.
+// Room for the literals and hints of one line, which is used again for each.
 #[derive(Drop)]
 struct Scratch {
     lits: Vec<Lit>,
@@ -190,33 +189,24 @@ fn number_of(n: u64, clauses: u64, numbers: &[u64], word: &[u8]) -> Result<u64, 
     }
 }
 
-// The line of a log that these words are, on the n-th line of the text: its number, and itself.
+// The line of a log that these words are, on the n-th line of the text: its number, and in the scratch the rest of it.
 #[tactic(auto, unfolding(crate::specs::LogReading::with_line))]
 fn log_line(
-    alloc: Global,
     n: u64,
     clauses: u64,
     numbers: &[u64],
     word: &[u8],
     words: &[u8],
     scratch: &mut Scratch,
-) -> Result<(u64, Line), LratErr>
+) -> Result<u64, LratErr>
     requires { AreNumbers clauses numbers.now }
-    ensures line { (lines : List Line) → Gives (λ x. record { numbers = numbers.now ++ x.0 ∷ []; lines = lines ++ x.1 ∷ [] }) (with_line n clauses (record { numbers = numbers.now; lines = lines }) word.now (words_of words.now)) result }
-    ensures rises { IfOk result (λ x. AreNumbers clauses (numbers.now ++ x.0 ∷ [])) }
+    ensures line { (lines : List Line) → Gives (λ x. record { numbers = numbers.now ++ x ∷ []; lines = lines ++ record { lits = scratch.new.lits.items; hints = scratch.new.hints.items } ∷ [] }) (with_line n clauses (record { numbers = numbers.now; lines = lines }) word.now (words_of words.now)) result }
+    ensures rises { IfOk result (λ x. AreNumbers clauses (numbers.now ++ x ∷ [])) }
 {
     let number = number_of(n, clauses, numbers, word)?;
     let rest = lits_of(n, words, &mut scratch.lits)?;
     hints_of(n, clauses, numbers, rest, &mut scratch.hints)?;
-    let lits = Vec::from_slice(alloc, &scratch.lits)?;
-    let hints = Vec::from_slice(alloc, &scratch.hints)?;
-    Ok((
-        number,
-        Line {
-            lits: Items::from_vec(lits),
-            hints: Items::from_vec(hints),
-        },
-    ))
+    Ok(number)
 }
 
 // What a deletion line says behind its number and its `d`, on the n-th line of the text: nothing.
@@ -243,19 +233,19 @@ fn behind_d(words: &[u8]) -> Option<&[u8]>
     None
 }
 
-// What a line says, the n-th of the text: a line of the log with its number, or nothing.
+// What a line says, the n-th of the text: a line of the log, of which this gives the number and the scratch has the rest,
+// or nothing.
 #[tactic(auto, unfolding(crate::specs::LogReading::after_words))]
 fn line_said(
-    alloc: Global,
     n: u64,
     clauses: u64,
     numbers: &[u64],
     line: &[u8],
     scratch: &mut Scratch,
-) -> Result<Option<(u64, Line)>, LratErr>
+) -> Result<Option<u64>, LratErr>
     requires { AreNumbers clauses numbers.now }
-    ensures said { (lines : List Line) → Gives (read_more (record { numbers = numbers.now; lines = lines })) (after_words n clauses (record { numbers = numbers.now; lines = lines }) (words_of line.now)) result }
-    ensures rises { IfOk result (λ x. IfSome x (λ y. AreNumbers clauses (numbers.now ++ y.0 ∷ []))) }
+    ensures said { (lines : List Line) → Gives (read_more (record { numbers = numbers.now; lines = lines }) (record { lits = scratch.new.lits.items; hints = scratch.new.hints.items })) (after_words n clauses (record { numbers = numbers.now; lines = lines }) (words_of line.now)) result }
+    ensures rises { IfOk result (λ x. IfSome x (λ y. AreNumbers clauses (numbers.now ++ y ∷ []))) }
 {
     let Some((word, words)) = next_word(line) else {
         return Ok(None);
@@ -267,8 +257,8 @@ fn line_said(
         deletion(n, word, deleted)?;
         return Ok(None);
     }
-    let line = log_line(alloc, n, clauses, numbers, word, words, scratch)?;
-    Ok(Some(line))
+    let number = log_line(n, clauses, numbers, word, words, scratch)?;
+    Ok(Some(number))
 }
 
 // What was read so far of a log.
@@ -276,7 +266,7 @@ fn line_said(
 struct SoFar {
     // The numbers of its lines.
     numbers: Vec<u64>,
-    lines: Vec<Line>,
+    lines: Lines,
 }
 
 impl Model for SoFar {
@@ -284,29 +274,29 @@ impl Model for SoFar {
 
     ghost Value = { LogRead };
 
-    ghost view = { λ s. record { numbers = s.numbers.items; lines = s.lines.items } };
+    ghost view = { λ s. record { numbers = s.numbers.items; lines = s.lines } };
 }
 
-// One line more, if there is one.
+// One line more, if there is one: its number, and the rest of it in the scratch.
 fn with_said(
     numbers: Vec<u64>,
-    lines: Vec<Line>,
-    said: Option<(u64, Line)>,
+    lines: Lines,
+    said: Option<u64>,
+    scratch: &Scratch,
 ) -> Result<SoFar, NoMemory>
-    ensures { IfOk result (λ new. new ≡ read_more (record { numbers = numbers.items; lines = lines.items }) said) }
+    ensures { IfOk result (λ new. new ≡ read_more (record { numbers = numbers.items; lines = lines }) (record { lits = scratch.now.lits.items; hints = scratch.now.hints.items }) said) }
 {
     let mut numbers = numbers;
     let mut lines = lines;
-    if let Some((number, line)) = said {
+    if let Some(number) = said {
         numbers.push(number)?;
-        lines.push(line)?;
+        lines.push(&scratch.lits, &scratch.hints)?;
     }
     Ok(SoFar { numbers, lines })
 }
 
 // What was read with the n-th line of the text.
 fn after_line(
-    alloc: Global,
     n: u64,
     clauses: u64,
     so_far: SoFar,
@@ -318,8 +308,8 @@ fn after_line(
     ensures rises { IfOk result (λ new. AreNumbers clauses new.numbers) }
 {
     let SoFar { numbers, lines } = so_far;
-    match line_said(alloc, n, clauses, &numbers, without_return(line), scratch) {
-        Ok(said) => match with_said(numbers, lines, said) {
+    match line_said(n, clauses, &numbers, without_return(line), scratch) {
+        Ok(said) => match with_said(numbers, lines, said, scratch) {
             Ok(new) => Ok(new),
             Err(_) => Err(LratErr::NoMemory),
         },
@@ -344,7 +334,7 @@ pub fn read_log(alloc: Global, text: &[u8], clauses: u64) -> Result<Log, LratErr
     }
     let mut so_far = SoFar {
         numbers: Vec::new(alloc),
-        lines: Vec::new(alloc),
+        lines: Lines::new(alloc),
     };
     let mut scratch = Scratch {
         lits: Vec::new(alloc),
@@ -355,12 +345,12 @@ pub fn read_log(alloc: Global, text: &[u8], clauses: u64) -> Result<Log, LratErr
     while let Some((line, after)) = split_line(rest) {
         rest = after;
         n += 1;
-        match after_line(alloc, n, clauses, so_far, line, &mut scratch) {
+        match after_line(n, clauses, so_far, line, &mut scratch) {
             Ok(next) => so_far = next,
             Err(why) => return Err(why),
         }
     }
     Ok(Log {
-        lines: Items::from_vec(so_far.lines),
+        lines: so_far.lines.fitted(),
     })
 }

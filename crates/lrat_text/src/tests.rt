@@ -6,9 +6,9 @@ use crate::read::read_log;
 use crate::write::{write_dimacs, write_log};
 use clause_db::list::ClauseList;
 use clause_db::lit::Lit;
-use pack_defs::items::Items;
 use rup_check::check::check_log;
-use rup_check::line::{Line, Log};
+use rup_check::line::Log;
+use rup_check::lines::Lines;
 use std::alloc::{AllocError as NoMemory, Global};
 use std::test::Fail;
 
@@ -60,22 +60,16 @@ fn formula(alloc: Global) -> Result<ClauseList, NoMemory> {
 }
 
 fn log(alloc: Global, lines: &[(&[i64], &[u64])]) -> Result<Log, NoMemory> {
-    let mut log = Vec::new(alloc);
+    let mut flat = Lines::new(alloc);
     for (numbers, hints) in lines {
-        log.push(Line {
-            lits: Items::from_vec(lits(alloc, numbers)?),
-            hints: Items::from_vec(Vec::from_slice(alloc, hints)?),
-        })?;
+        flat.push(&lits(alloc, numbers)?, hints)?;
     }
-    Ok(Log {
-        lines: Items::from_vec(log),
-    })
+    Ok(Log { lines: flat })
 }
 
 // The text of a log, its lines numbered on from `first`.
 fn written(alloc: Global, first: u64, log: &Log) -> Result<Vec<u8>, LratErr> {
-    let lines = log.lines.as_slice();
-    if first > TOP || lines.len() as u64 > TOP - first {
+    if first > TOP || log.lines.len() as u64 > TOP - first {
         return Err(LratErr::NoMemory);
     }
     Ok(write_log(alloc, first, log)?)
@@ -145,7 +139,7 @@ fn cut_behind_each_byte(rt: HostRuntime) -> Result<(), Fail> {
     assert_eq!(rt; LINES_TEXT.len(), 45);
     for bytes in 0..LINES_TEXT.len() + 1 {
         let said = match read_log(alloc, &LINES_TEXT[..bytes], 12) {
-            Ok(log) => Ok(log.lines.as_slice().len()),
+            Ok(log) => Ok(log.lines.len()),
             Err(why) => Err(why),
         };
         assert_eq!(rt; said, cut_says(bytes));

@@ -8,7 +8,8 @@ ghost use Rattle.lrat_text.specs.LogText.{clause_fields, dimacs_text, header_lin
 use clause_db::list::ClauseList;
 use clause_db::lit::Lit;
 use itoa::Buffer;
-use rup_check::line::{Line, Log};
+use rup_check::cursors::{Hints, Literals};
+use rup_check::line::Log;
 use std::alloc::{AllocError as NoMemory, Global};
 
 /// Adds a number. The only error is want of memory.
@@ -29,13 +30,26 @@ fn push_lit(text: &mut Vec<u8>, lit: Lit) -> Result<(), NoMemory>
     push_number(text, lit.var)
 }
 
-// Adds literals, each behind a space.
-fn push_lits(text: &mut Vec<u8>, lits: &[Lit]) -> Result<(), NoMemory>
-    ensures { OnOk result (text.new.items ≡ text.old.items ++ spaced (map lit_text lits.now)) }
+// Adds the literals that are left, each behind a space.
+fn push_lits(text: &mut Vec<u8>, lits: Literals<'_>) -> Result<(), NoMemory>
+    ensures { OnOk result (text.new.items ≡ text.old.items ++ spaced (map lit_text lits.entry)) }
 {
-    for lit in lits {
+    let mut left = lits;
+    while let Some(lit) = left.next() {
         text.extend_from_slice(b" ")?;
-        push_lit(text, *lit)?;
+        push_lit(text, lit)?;
+    }
+    Ok(())
+}
+
+// Adds the hints that are left, each behind a space.
+fn push_hints(text: &mut Vec<u8>, hints: Hints<'_>) -> Result<(), NoMemory>
+    ensures { OnOk result (text.new.items ≡ text.old.items ++ spaced (map decimal hints.entry)) }
+{
+    let mut left = hints;
+    while let Some(hint) = left.next() {
+        text.extend_from_slice(b" ")?;
+        push_number(text, hint)?;
     }
     Ok(())
 }
@@ -52,13 +66,18 @@ pub fn push_numbers(text: &mut Vec<u8>, numbers: &[u64]) -> Result<(), NoMemory>
 }
 
 // Adds a line of a log.
-fn push_log_line(text: &mut Vec<u8>, number: u64, line: &Line) -> Result<(), NoMemory>
-    ensures { OnOk result (text.new.items ≡ text.old.items ++ line_of (log_fields number line.now)) }
+fn push_log_line(
+    text: &mut Vec<u8>,
+    number: u64,
+    lits: Literals<'_>,
+    hints: Hints<'_>,
+) -> Result<(), NoMemory>
+    ensures { OnOk result (text.new.items ≡ text.old.items ++ line_of (log_fields number (record { lits = lits.entry; hints = hints.entry }))) }
 {
     push_number(text, number)?;
-    push_lits(text, line.lits.as_slice())?;
+    push_lits(text, lits)?;
     text.extend_from_slice(b" 0")?;
-    push_numbers(text, line.hints.as_slice())?;
+    push_hints(text, hints)?;
     text.extend_from_slice(b" 0\n")?;
     Ok(())
 }
@@ -69,8 +88,13 @@ pub fn push_log(text: &mut Vec<u8>, first: u64, log: &Log) -> Result<(), NoMemor
     requires { first + length log.now.lines ≤ 2 ^ 63 }
     ensures { OnOk result (text.new.items ≡ text.old.items ++ log_text first log.now.lines) }
 {
-    for (i, line) in log.lines.as_slice().iter().enumerate() {
-        push_log_line(text, first + i as u64, line)?;
+    for i in 0..log.lines.len() {
+        push_log_line(
+            text,
+            first + i as u64,
+            log.lines.lits(i),
+            log.lines.hints(i),
+        )?;
     }
     Ok(())
 }

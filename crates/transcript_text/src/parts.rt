@@ -90,7 +90,7 @@ fn push_receipt(
 {
     match receipt {
         Receipt::Lines(log) => {
-            let count = log.lines.as_slice().len() as u64;
+            let count = log.lines.len() as u64;
             push_line(text, b"lines", &[worker, count])?;
             push_log(text, first, log)?;
             return Ok(());
@@ -133,7 +133,7 @@ fn push_refuted(
     let worker = u64::from(test.2);
     match how {
         Refutation::Proof { subset, log } => {
-            let count = log.lines.as_slice().len() as u64;
+            let count = log.lines.len() as u64;
             push_line(text, b"log", &[round, station, worker, count])?;
             push_subset(text, subset.as_slice())?;
             push_log(text, clause_count(book, subset.as_slice()) + 1, log)?;
@@ -156,7 +156,7 @@ fn first_number(clauses: u64, log: &Log) -> u64
     ensures first { result ≡ first_number clauses log.now.lines }
     ensures few { result ≤ clauses + 1 }
 {
-    if log.lines.as_slice().is_empty() {
+    if log.lines.len() == 0 {
         return 0;
     }
     clauses + 1
@@ -176,7 +176,7 @@ fn push_outside(
 {
     let round = u64::from(test.0);
     let station = u64::from(test.1);
-    let count = log.lines.as_slice().len() as u64;
+    let count = log.lines.len() as u64;
     push_line(text, b"outside", &[round, station, count])?;
     push_log(text, first_number(clauses, log), log)?;
     Ok(())

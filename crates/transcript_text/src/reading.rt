@@ -16,6 +16,7 @@ use lrat_text::field::GREATEST;
 use pack_defs::items::Items;
 use pack_defs::scenario::Scenario;
 use rup_check::line::Log;
+use rup_check::lines::Lines;
 use std::alloc::{AllocError as NoMemory, Global};
 use std::marker::Model;
 
@@ -62,9 +63,7 @@ fn some_log<'a>(
     let (line, _) = next_line(lines.again())?;
     let (first, _) = number_at(GREATEST, line)?;
     let (log, rest) = log_at(alloc, first, count, lines)?;
-    let log = Log {
-        lines: Items::from_vec(log),
-    };
+    let log = Log { lines: log };
     Ok((NumberedLog { log, first }, rest))
 }
 
@@ -80,7 +79,7 @@ pub(crate) fn numbered_log<'a>(
 {
     if count == 0 {
         let log = Log {
-            lines: Items::from_vec(Vec::new(alloc)),
+            lines: Lines::new(alloc),
         };
         return Ok((NumberedLog { log, first: 0 }, lines));
     }

@@ -25,7 +25,8 @@ use pack_defs::pair::Pair;
 use pack_defs::scenario::Scenario;
 use pack_defs::station::Station;
 use pack_defs::worker::{Kind, Worker};
-use rup_check::line::{Line, Log};
+use rup_check::line::Log;
+use rup_check::lines::Lines;
 use std::alloc::{AllocError as NoMemory, Global};
 
 // What the worker answers.
@@ -47,20 +48,12 @@ fn log(alloc: Global, whole: bool) -> Result<Log, NoMemory> {
         var: 1,
         positive: false,
     };
-    let mut lines = Vec::new(alloc);
-    lines.push(Line {
-        lits: Items::from_vec(vec![in alloc; lit]?),
-        hints: Items::from_vec(Vec::from_slice(alloc, &[7, 2, 8, 3, 12])?),
-    })?;
+    let mut lines = Lines::new(alloc);
+    lines.push(&[lit], &[7, 2, 8, 3, 12])?;
     if whole {
-        lines.push(Line {
-            lits: Items::from_vec(Vec::new(alloc)),
-            hints: Items::from_vec(Vec::from_slice(alloc, &[13, 1, 9, 2, 10, 3, 11])?),
-        })?;
+        lines.push(&[], &[13, 1, 9, 2, 10, 3, 11])?;
     }
-    Ok(Log {
-        lines: Items::from_vec(lines),
-    })
+    Ok(Log { lines })
 }
 
 fn answer(alloc: Global, given: Given) -> Result<Answer, NoMemory> {

@@ -78,9 +78,7 @@ fn log_step<'a>(
     let (log, rest) = log_at(alloc, first, count, rest)?;
     let how = Refutation::Proof {
         subset: Items::from_vec(subset),
-        log: Log {
-            lines: Items::from_vec(log),
-        },
+        log: Log { lines: log },
     };
     let step = step_of(test, Shown::Refuted { worker, how }, Vec::new(alloc));
     Ok((step, rest))

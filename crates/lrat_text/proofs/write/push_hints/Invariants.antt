@@ -1,0 +1,9 @@
+use Rattle.std.proofs.Common.{◌≡◌, ◌++◌, decimal, length, map}
+use Rattle.lrat_text.specs.LogText.{spaced}
+use Rattle.lrat_text.proofs.write.push_hints.Given as goal
+
+abbrev pub invariant-loop-hint : goal.invariant-loop-hint
+invariant-loop-hint l = l.text.items ++ spaced (map decimal l.left) ≡ l.initial.text.items ++ spaced (map decimal l.fn.hints)
+
+abbrev pub decreases-loop-hint : goal.decreases-loop-hint
+decreases-loop-hint l = length l.left
