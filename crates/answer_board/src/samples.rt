@@ -17,7 +17,8 @@ use pack_defs::pair::Pair;
 use pack_defs::scenario::Scenario;
 use pack_defs::station::Station;
 use pack_defs::worker::{Kind, Worker};
-use rup_check::line::{Line, Log};
+use rup_check::line::Log;
+use rup_check::lines::Lines;
 use std::alloc::{AllocError as NoMemory, Global};
 
 // What a worker answers.
@@ -30,22 +31,14 @@ pub(crate) enum Given {
 }
 
 // 13 -1 0 7 2 8 3 12 0
-fn not_one(alloc: Global) -> Result<Line, NoMemory> {
+fn one_line(alloc: Global) -> Result<Log, NoMemory> {
     let lit = Lit {
         var: 1,
         positive: false,
     };
-    Ok(Line {
-        lits: Items::from_vec(vec![in alloc; lit]?),
-        hints: Items::from_vec(Vec::from_slice(alloc, &[7, 2, 8, 3, 12])?),
-    })
-}
-
-fn one_line(alloc: Global) -> Result<Log, NoMemory> {
-    let line = not_one(alloc)?;
-    Ok(Log {
-        lines: Items::from_vec(vec![in alloc; line]?),
-    })
+    let mut lines = Lines::new(alloc);
+    lines.push(&[lit], &[7, 2, 8, 3, 12])?;
+    Ok(Log { lines })
 }
 
 pub(crate) fn answer(alloc: Global, given: Given) -> Result<Answer, NoMemory> {

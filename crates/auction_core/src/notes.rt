@@ -135,12 +135,13 @@ impl Notes {
 mod tests {
     use super::*;
     use rup_check::line::Log;
+    use rup_check::lines::Lines;
     use std::test::Fail;
 
     // A receipt without a line, as of a budget of none.
     fn receipt(alloc: Global) -> Receipt {
         Receipt::Lines(Log {
-            lines: Items::from_vec(Vec::new(alloc)),
+            lines: Lines::new(alloc),
         })
     }
 

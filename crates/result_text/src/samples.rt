@@ -20,7 +20,8 @@ use pack_defs::pair::Pair;
 use pack_defs::scenario::Scenario;
 use pack_defs::station::Station;
 use pack_defs::worker::{Kind, Worker};
-use rup_check::line::{Line, Log};
+use rup_check::line::Log;
+use rup_check::lines::Lines;
 use std::alloc::{AllocError as NoMemory, Global};
 
 // A station that may use channels 14 and 15.
@@ -54,44 +55,36 @@ pub(crate) fn three_stations(alloc: Global) -> Result<Book, NoMemory>
     Book::build(alloc, 15, &[1, 2, 3], &domains, &pairs)
 }
 
-// A line of a log.
-fn line(alloc: Global, lits: &[Lit], hints: &[u64]) -> Result<Line, NoMemory>
-    ensures { IfOk result (λ x. x ≡ record { lits = lits.now; hints = hints.now }) }
-{
-    Ok(Line {
-        lits: Items::from_vec(Vec::from_slice(alloc, lits)?),
-        hints: Items::from_vec(Vec::from_slice(alloc, hints)?),
-    })
-}
-
 // 13 -1 0 7 2 8 3 12 0
-fn not_one(alloc: Global) -> Result<Line, NoMemory>
-    ensures { IfOk result (λ x. x ≡ not_one) }
+fn one_line(alloc: Global) -> Result<Log, NoMemory>
+    ensures { IfOk result (λ x. x ≡ record { lines = not_one ∷ [] }) }
 {
-    let one = Lit {
+    let lit = Lit {
         var: 1,
         positive: false,
     };
-    line(alloc, &[one], &[7, 2, 8, 3, 12])
+    let mut lines = Lines::new(alloc);
+    lines.push(&[lit], &[7, 2, 8, 3, 12])?;
+    Ok(Log { lines })
 }
 
+// 13 -1 0 7 2 8 3 12 0
 // 14 0 13 1 9 2 10 3 11 0
-fn the_end(alloc: Global) -> Result<Line, NoMemory>
-    ensures { IfOk result (λ x. x ≡ the_end) }
+fn two_lines(alloc: Global) -> Result<Log, NoMemory>
+    ensures { IfOk result (λ x. x ≡ record { lines = not_one ∷ the_end ∷ [] }) }
 {
-    line(alloc, &[], &[13, 1, 9, 2, 10, 3, 11])
+    let mut log = one_line(alloc)?;
+    log.lines.push(&[], &[13, 1, 9, 2, 10, 3, 11])?;
+    Ok(log)
 }
 
 // What shows that the set of all three does not fit: these two lines.
 pub(crate) fn refutation(alloc: Global) -> Result<Refutation, NoMemory>
     ensures { IfOk result (λ how. how ≡ refutation_of_three) }
 {
-    let lines = vec![in alloc; not_one(alloc)?, the_end(alloc)?]?;
     Ok(Refutation::Proof {
         subset: Items::from_vec(Vec::from_slice(alloc, &[1, 2, 3])?),
-        log: Log {
-            lines: Items::from_vec(lines),
-        },
+        log: two_lines(alloc)?,
     })
 }
 
@@ -107,10 +100,7 @@ pub(crate) fn refuted(alloc: Global) -> Result<Shown, NoMemory>
 pub(crate) fn undecided(alloc: Global) -> Result<Shown, NoMemory>
     ensures { IfOk result (λ shown. shown ≡ spent_on) }
 {
-    let log = Log {
-        lines: Items::from_vec(vec![in alloc; not_one(alloc)?]?),
-    };
-    let receipts = vec![in alloc; Receipt::Lines(log)]?;
+    let receipts = vec![in alloc; Receipt::Lines(one_line(alloc)?)]?;
     Ok(Shown::Undecided(Items::from_vec(receipts)))
 }
 

@@ -24,7 +24,7 @@ fn list_text<'a>(list: &'a str) -> &'a str {
 fn receipt_text(alloc: Global, receipt: &Receipt) -> Result<String, NoMemory> {
     match receipt {
         Receipt::Lines(log) => {
-            let count = log.lines.as_slice().len();
+            let count = log.lines.len();
             format!(in alloc; "{count} line")
         }
         Receipt::Moves(moves) => {
