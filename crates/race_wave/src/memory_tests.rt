@@ -127,7 +127,7 @@ fn actors<'a>(
 
 // The same actors, where there are three of them.
 fn if_three(racers: Vec<Actor>) -> Option<Vec<Actor>>
-    ensures { IfSome result (λ same. (same.items ≡ racers.items) × (length same.items ≡ 3)) }
+    ensures { IfSome result (λ same. (same.items ≡ racers.entry.items) × (length same.items ≡ 3)) }
 {
     if racers.len() != 3 {
         return None;
@@ -175,7 +175,7 @@ fn left_by_wave<W: Threads + Wait + Sync>(
 fn passes_of(runners: Vec<Runner<Actor>>, mut passes: Vec<Pass>) -> Vec<Pass>
     requires empty { passes.items ≡ [] }
     requires room { length runners.items ≤ vec_capacity passes }
-    ensures { result.items ≡ map (λ r. r.pass) runners.items }
+    ensures { result.items ≡ map (λ r. r.pass) runners.entry.items }
 {
     for runner in runners {
         let Runner {
