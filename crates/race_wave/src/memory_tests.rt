@@ -10,7 +10,7 @@ ghost use Rattle.answer_board.specs.Entries.{numbered};
 
 use crate::muster::mustered;
 use crate::runner::Runner;
-use crate::samples::{learner, three_bids, three_stations};
+use crate::samples::{comes, learner, three_bids, three_stations};
 use crate::wave::wave;
 use answer_board::board::{Board, Pass};
 use auction_core::auction::Auction;
@@ -23,6 +23,7 @@ use solver_gate::gate::EmptyGate;
 use solver_gate::racer::{Racer, RacerKind};
 use std::alloc::{AllocError as NoMemory, Global};
 use std::sync::Wait;
+use std::sync::atomic::{AtomicU64, Ordering};
 use std::test::Fail;
 use std::thread;
 use std::thread::Threads;
@@ -37,7 +38,7 @@ enum Part {
     Starves,
     // It asks its poll until another query stands.
     Waits,
-    // Its solver tries it.
+    // Its solver tries it, once memory ran out for another worker.
     Solves,
 }
 
@@ -67,12 +68,14 @@ fn other_query<P: Poll>(poll: &mut P, number: u64) -> Option<u64>
 
 // A worker's solver, and what the worker does.
 #[derive(Drop)]
-struct Actor {
+struct Actor<'a> {
     solver: RacerKind,
     part: Part,
+    // 1 once memory ran out for a worker.
+    starved: &'a AtomicU64,
 }
 
-impl Racer for Actor {
+impl Racer for Actor<'_> {
     ghost worker = { λ racer. worker_of racer.solver };
 
     fn attempt<P: Poll>(
@@ -83,32 +86,48 @@ impl Racer for Actor {
         poll: &mut P,
     ) -> Result<Attempt, NoMemory> {
         match self.part {
-            Part::Starves => Err(NoMemory),
+            Part::Starves => {
+                self.starved.store(1, Ordering::SeqCst);
+                Err(NoMemory)
+            }
             Part::Waits => match other_query(poll, task.number) {
                 Some(now) => Ok(Attempt::Moved { now }),
                 None => Err(NoMemory),
             },
-            Part::Solves => self.solver.attempt(alloc, book, task, poll),
+            Part::Solves => {
+                if !comes(self.starved, 1) {
+                    return Err(NoMemory);
+                }
+                self.solver.attempt(alloc, book, task, poll)
+            }
         }
     }
 }
 
 // A solver for each worker, and its part.
-fn actors(alloc: Global, workers: &[Worker]) -> Result<Vec<Actor>, NoMemory>
+fn actors<'a>(
+    alloc: Global,
+    workers: &[Worker],
+    starved: &'a AtomicU64,
+) -> Result<Vec<Actor<'a>>, NoMemory>
     ensures { IfOk result (λ racers. map (λ r. worker_of r.solver) racers.items ≡ workers.now) }
 {
     let mut racers = Vec::new(alloc);
     for worker in workers {
         let solver = RacerKind::for_worker(alloc, worker)?;
         let part = part_of(racers.len());
-        racers.push(Actor { solver, part })?;
+        racers.push(Actor {
+            solver,
+            part,
+            starved,
+        })?;
     }
     Ok(racers)
 }
 
 // The same actors, where there are three of them.
 fn if_three(racers: Vec<Actor>) -> Option<Vec<Actor>>
-    ensures { IfSome result (λ same. (same.items ≡ racers.items) × (length same.items ≡ 3)) }
+    ensures { IfSome result (λ same. (same.items ≡ racers.entry.items) × (length same.items ≡ 3)) }
 {
     if racers.len() != 3 {
         return None;
@@ -116,11 +135,11 @@ fn if_three(racers: Vec<Actor>) -> Option<Vec<Actor>>
     Some(racers)
 }
 
-// What a wave leaves: all passes, and whether no worker but the first was refused.
+// What a wave leaves: all passes, and whether the first worker alone was refused.
 #[derive(Drop)]
 struct Left {
     passes: Vec<Pass>,
-    went_on: bool,
+    first_refused: bool,
 }
 
 fn left_by_wave<W: Threads + Wait + Sync>(
@@ -145,10 +164,10 @@ fn left_by_wave<W: Threads + Wait + Sync>(
 {
     let mut runners = mustered(board, passes, racers, runners);
     let done = wave(rt, alloc, board, book, &mut runners, &EmptyGate);
-    let went_on = done.is_ok() && others_go_on(&runners);
+    let first_refused = done.is_ok() && are_refused(&runners, &[true, false, false]);
     Left {
         passes: passes_of(runners, passes_left),
-        went_on,
+        first_refused,
     }
 }
 
@@ -156,7 +175,7 @@ fn left_by_wave<W: Threads + Wait + Sync>(
 fn passes_of(runners: Vec<Runner<Actor>>, mut passes: Vec<Pass>) -> Vec<Pass>
     requires empty { passes.items ≡ [] }
     requires room { length runners.items ≤ vec_capacity passes }
-    ensures { result.items ≡ map (λ r. r.pass) runners.items }
+    ensures { result.items ≡ map (λ r. r.pass) runners.entry.items }
 {
     for runner in runners {
         let Runner {
@@ -170,17 +189,19 @@ fn passes_of(runners: Vec<Runner<Actor>>, mut passes: Vec<Pass>) -> Vec<Pass>
     passes
 }
 
-// Whether no worker but the first was refused.
-fn others_go_on(runners: &[Runner<Actor>]) -> bool {
-    for i in 1..runners.len() {
-        if runners[i].refused {
+fn are_refused(runners: &[Runner<Actor>], wanted: &[bool]) -> bool {
+    if runners.len() != wanted.len() {
+        return false;
+    }
+    for i in 0..runners.len() {
+        if runners[i].refused != wanted[i] {
             return false;
         }
     }
     true
 }
 
-// The auction after the wave, and whether no worker but the first was refused.
+// The auction after the wave, and whether the first worker alone was refused.
 fn after_wave<W: Threads + Wait + Sync>(
     rt: &W,
     alloc: Global,
@@ -197,7 +218,10 @@ fn after_wave<W: Threads + Wait + Sync>(
     let Ok((board, passes)) = Board::raise(alloc, auction, 3) else {
         return Err(NoMemory);
     };
-    let Left { passes, went_on } = left_by_wave(
+    let Left {
+        passes,
+        first_refused,
+    } = left_by_wave(
         rt,
         alloc,
         &board,
@@ -207,20 +231,22 @@ fn after_wave<W: Threads + Wait + Sync>(
         runners,
         passes_left,
     );
-    Ok((board.close(passes), went_on))
+    Ok((board.close(passes), first_refused))
 }
 
-// The third worker settles each query, which the second learns from its poll, and the board closes with these answers.
+// Memory runs out for the first worker before the third tries anything. The third settles each query, which the second learns
+// from its poll, and the board closes with these answers.
 #[test]
 fn one_worker_starves_one_waits_and_one_answers(rt: HostRuntime) -> Result<(), Fail> {
     let alloc = rt.alloc();
     let w = learner(1000);
     let sc = three_bids(alloc, vec![in alloc; w, w, w]?, 1)?;
     let book = three_stations(alloc)?;
-    let racers = if_three(actors(alloc, sc.workers.as_slice())?).ok_or(NoMemory)?;
+    let starved = AtomicU64::new(0);
+    let racers = if_three(actors(alloc, sc.workers.as_slice(), &starved)?).ok_or(NoMemory)?;
     let auction = Auction::start(alloc, &sc, &book, Order::ByVolume)?;
-    let (auction, went_on) = after_wave(&rt, alloc, &book, auction, racers)?;
-    assert!(rt; went_on && auction.ended());
+    let (auction, first_refused) = after_wave(&rt, alloc, &book, auction, racers)?;
+    assert!(rt; first_refused && auction.ended());
     assert_eq!(rt; auction.posted(), 5);
     Ok(())
 }
