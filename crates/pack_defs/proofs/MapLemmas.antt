@@ -1,13 +1,14 @@
 -- What channel maps say of a station's channel, and of a map that overwrites another.
-use Rattle.std.proofs.Common.{◌≡◌, ℕ, ◌+◌, ◌<◌, ◌≤◌, true, false, ◌==◌, nat_lt, List, [], ◌∷◌, ◌++◌, ◌-◌, map, take, take_all, drop, length, length-drop, get_or, Some, None, Contains, ◌⊎◌, inl, inr, refl, sym, subst, ap, ap₂, ◌∙◌, append_assoc, append-nil, arith, ⊎_elim, eqb-true, eq-eqb, ne_eqb, ltb-true}
-use Rattle.std.proofs.lemmas.Bool.{and_parts, and_from, cases_order, or_cases, or_left, or_right, or_parts, cond-true, cond-false, lt-ltb, le-ltb, false≢true}
+use Rattle.std.proofs.Common.{◌≡◌, ℕ, ◌+◌, ◌<◌, ◌≤◌, Bool, true, false, cond, ◌==◌, ◌&&◌, ◌||◌, nat_eq, nat_lt, List, [], ◌∷◌, ◌++◌, ◌-◌, map, take, take_all, drop, length, length-drop, get_or, Option, Some, None, Contains, ◌⊎◌, inl, inr, refl, sym, subst, ap, ap₂, ◌∙◌, append_assoc, append-nil, arith, ⊎_elim, eqb-true, eq-eqb, ne_eqb, ltb-true}
+use Rattle.std.proofs.lemmas.Bool.{and_parts, and_from, cases_order, or_cases, or_left, or_right, or_parts, cond-true, cond-false, lt-ltb, le-ltb, false≢true, false_from_ne_true}
+use Rattle.std.specs.Option.{option_eq}
 use Rattle.std.proofs.lemmas.List.{drop_more}
 use Rattle.std.proofs.Math.ListN.{drop_of_length-le}
 use Rattle.pack_defs.specs.ChannelMap.{IsAscending, channel_of, overlaid, put}
-use Rattle.pack_defs.specs.Lists.{is_ascending, is_in}
+use Rattle.pack_defs.specs.Lists.{has_entry, is_ascending, is_in}
 use Rattle.pack_defs.proofs.Chains.{ascending-drop, ascending-skip}
 use Rattle.pack_defs.proofs.Members.{Contains-cons_cases, Contains-map, Contains-nil, is_in-from}
-use Rattle.pack_defs.proofs.Words.{below-later, ascending-rest}
+use Rattle.pack_defs.proofs.Words.{Contains-from_has_entry, below-later, ascending-rest, entry}
 
 -- the stations of a map
 abbrev pub stations : List (ℕ × ℕ) → List ℕ
@@ -181,3 +182,31 @@ merged-end done xs ys all i j a past h =
       | inr l ↦ rw (drop_of_length-le ys l) (sym (append-nil (drop i xs)))
     ] in
     rw (whole-left xs i, whole-left ys j) (append_assoc done (drop i xs) (drop j ys) ∙ ap (λ r. done ++ r) (sym rest) ∙ h)
+
+-- ---- whether an entry stands in a map
+
+-- the entry stands in the map where its channel is the station's, and not where that is another one or none
+pub stands-where : (s c : ℕ) (m : List (ℕ × ℕ)) → channel_of s m ≡ Some c → has_entry m (s, c) ≡ true
+stands-where s c [] e = cc
+stands-where s c (x ∷ xs) e =
+    (elim (x.0 == s) as (λ b. cond b (Some x.1) (channel_of s xs) ≡ Some c → ((b && (x.1 == c)) || has_entry xs (s, c)) ≡ true) [
+      | true ↦ λ (h : Some x.1 ≡ Some c). or_left (x.1 == c) (has_entry xs (s, c)) (eq-eqb x.1 c cc)
+      | false ↦ λ h. stands-where s c xs h
+    ]) e
+
+pub stands-only : (s c : ℕ) (m : List (ℕ × ℕ)) → IsAscending m → has_entry m (s, c) ≡ true → channel_of s m ≡ Some c
+stands-only s c m a h = channel_of-at m (entry s c) a (Contains-from_has_entry m (entry s c) h)
+
+same-option : (o : Option ℕ) (c : ℕ) → option_eq nat_eq o (Some c) ≡ true → o ≡ Some c
+same-option None c h = cc
+same-option (Some d) c h = ap Some (eqb-true d c h)
+
+stands-if : (s c : ℕ) (m : List (ℕ × ℕ)) (b : Bool) → IsAscending m → (b ≡ true → channel_of s m ≡ Some c) → (channel_of s m ≡ Some c → b ≡ true) → b ≡ has_entry m (s, c)
+stands-if s c m true a f g = sym (stands-where s c m (f refl))
+stands-if s c m false a f g =
+    sym (false_from_ne_true (has_entry m (s, c)) (λ h. false≢true (g (stands-only s c m a h))))
+
+pub stands-exactly : (s c : ℕ) (m : List (ℕ × ℕ)) → IsAscending m → option_eq nat_eq (channel_of s m) (Some c) ≡ has_entry m (s, c)
+stands-exactly s c m a =
+    stands-if s c m (option_eq nat_eq (channel_of s m) (Some c)) a (same-option (channel_of s m) c)
+    (λ e. ap (λ o. option_eq nat_eq o (Some c)) e ∙ eq-eqb c c refl)

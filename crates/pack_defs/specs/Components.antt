@@ -3,11 +3,15 @@
 use Rattle.std.specs.Prelude.{◌≡◌, ℕ, zero, suc, Bool, true, ◌&&◌, ◌||◌, ◌==◌, List, length, filter, Contains}
 use Rattle.std.specs.List.{list_any}
 use Rattle.pack_defs.specs.Lists.{is_in}
-use Rattle.pack_defs.specs.Book.{BookView}
+use Rattle.pack_defs.specs.Book.{BookView, stations_of}
 
 -- the book has a pair of these two stations (an edge of the interference graph)
 abbrev pub interferes : BookView → ℕ → ℕ → Bool
 interferes book s t = list_any (λ p. ((p.f == s) && (p.g == t)) || ((p.f == t) && (p.g == s))) book.pairs
+
+-- the stations of the book that interfere with one, ascending (its neighbours in the interference graph)
+abbrev pub neighbours_of : BookView → ℕ → List ℕ
+neighbours_of book s = filter (λ t. interferes book s t) (stations_of book)
 
 -- the stations of the set that are among these or interfere with one of them
 abbrev pub widened : BookView → List ℕ → List ℕ → List ℕ

@@ -2,6 +2,7 @@
 
 ghost use Rattle.std.specs.Prelude.{◌≡◌, ◌<◌, ◌^◌, IfOk, length};
 ghost use Rattle.pack_defs.specs.ChannelMap.{IsAscending, channel_of, overlaid};
+ghost use Rattle.pack_defs.specs.Lists.{has_entry};
 
 use std::alloc::{AllocError as NoMemory, Global};
 use std::marker::Model;
@@ -46,6 +47,15 @@ impl ChannelMap {
             Ok(i) => Some(self.entries[i].1),
             Err(_) => None,
         }
+    }
+
+    /// Whether the map has this entry: the station, on this channel. It searches by halves.
+    pub fn has(&self, station: u32, channel: u8) -> bool
+        ensures { result ≡ has_entry self.now (station, channel) }
+    {
+        // The map ascends, as `len` says.
+        let _stations = self.len();
+        self.get(station) == Some(channel)
     }
 
     /// The number of stations. Each map ascends.
@@ -118,6 +128,7 @@ mod tests {
         assert_eq!(rt; map.entries(), [(1, 14), (3, 15)].as_slice());
         assert_eq!(rt; map.get(3), Some(15));
         assert_eq!(rt; map.get(2), None);
+        assert!(rt; map.has(3, 15) && !map.has(3, 14) && !map.has(2, 15));
         Ok(())
     }
 

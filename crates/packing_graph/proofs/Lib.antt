@@ -1,5 +1,3 @@
 pub mod SetLemmas
-pub mod EdgeLemmas
-pub mod NumberLemmas
 pub mod WalkLemmas
 pub mod Reached

@@ -21,8 +21,9 @@ pub fn component(alloc: Global, book: &Book, on: &[u32], s: u32) -> Result<Vec<u
 }
 
 /// The stations that `s` reaches by pairs of the book among the stations of a set, ascending, with `s`. It costs what these
-/// stations and their pairs cost, whatever the size of the set: for each of them its `neighbours`, and for each neighbour
-/// one question to `on` and a search by halves in the ordered set of those reached. The only error is want of memory.
+/// stations and their neighbours cost, whatever the size of the set and the number of their pairs: for each of them a look-up
+/// of its `neighbours` in the book, and for each neighbour one question to `on` and a search by halves in the ordered set of
+/// those reached. The only error is want of memory.
 pub fn component_among<S: StationSet>(
     alloc: Global,
     book: &Book,

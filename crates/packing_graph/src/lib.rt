@@ -1,9 +1,8 @@
-//! Which stations interfere, and the component of a station among others.
+//! The component of a station: those among others that it reaches by pairs that interfere.
 #![tactic(auto)]
 
 pub mod component;
 pub mod laws;
-pub mod neighbours;
 mod reach;
 pub mod station_set;
 #[cfg(test)]

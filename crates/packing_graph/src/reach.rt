@@ -8,7 +8,6 @@ ghost use Rattle.pack_defs.specs.Lists.{is_in};
 ghost use Rattle.packing_graph.specs.Sets.{with_station};
 ghost use Rattle.packing_graph.specs.Walks.{IsVisited};
 
-use crate::neighbours::neighbours;
 use crate::station_set::StationSet;
 use pack_defs::book::Book;
 use std::alloc::{AllocError as NoMemory, Global};
@@ -27,8 +26,7 @@ pub fn reached<S: StationSet>(
     seen.insert(s)?;
     let mut waiting = vec![in alloc; s]?;
     while let Some(next) = waiting.pop() {
-        let near = neighbours(alloc, book, next)?;
-        visit(on, &near, &mut seen, &mut waiting)?;
+        visit(on, book.neighbours(next), &mut seen, &mut waiting)?;
     }
     Ok(seen)
 }

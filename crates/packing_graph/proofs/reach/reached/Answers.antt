@@ -1,8 +1,6 @@
-use Rattle.std.proofs.Common.{◌≡◌, ◌∙◌, ℕ, length, ap, subst, arith}
+use Rattle.std.proofs.Common.{◌≡◌, length, subst, arith}
 use Rattle.std.specs.BTreeSet.{contains}
 use Rattle.std.specs.Ordering.{nat_cmp}
-use Rattle.pack_defs.specs.Components.{interferes}
-use Rattle.pack_defs.specs.Lists.{is_in}
 use Rattle.packing_graph.proofs.Reached.{IsWalk, walk-start, walk-step, walk-done}
 use Rattle.packing_graph.proofs.WalkLemmas.{has_more, none-in}
 use Rattle.packing_graph.proofs.reach.reached.Goals as goal
@@ -16,8 +14,7 @@ pub loop-next-preserved : goal.loop-next-preserved
 loop-next-preserved g c =
     let on = g.S.StationSet.stations c.args.on.now in
     let before : IsWalk c.args.book.now on c.args.s (contains nat_cmp c.loop-next.seen) _ = subst (λ ts. IsWalk c.args.book.now on c.args.s (contains nat_cmp c.loop-next.seen) ts) c.in-Some.ensures.items c.loop-next.invariant in
-    let near : (t : ℕ) → is_in c.deref.result.now t ≡ interferes c.args.book.now c.in-Some.next t = λ t. ap (λ xs. is_in xs t) c.deref.ensures.value ∙ c.in_ok-near.ensures.interfere t in
-    walk-step c.args.book.now on c.deref.result.now c.args.s c.in-Some.next (contains nat_cmp c.loop-next.seen) (contains nat_cmp c.visit.new.seen) c.pop.new.self.items c.visit.new.waiting.items before near c.in_ok-visit.ensures
+    walk-step c.args.book.now on c.neighbours.result.now c.args.s c.in-Some.next (contains nat_cmp c.loop-next.seen) (contains nat_cmp c.visit.new.seen) c.pop.new.self.items c.visit.new.waiting.items before c.neighbours.ensures.interfere c.in_ok-visit.ensures
 
 pub returns : goal.returns
 returns g c =

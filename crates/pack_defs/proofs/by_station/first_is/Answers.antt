@@ -2,7 +2,7 @@ use Rattle.std.proofs.Common.{nat_lt, nat_le, rules}
 use Rattle.std.proofs.lemmas.List.Sorted.{IsNonDecreasingBy-drop, IsPartitionPoint-from_clause, IsPartitionedBy-leb, IsPartitionedBy-ltb}
 use Rattle.pack_defs.specs.declared.pair.Pair.{Pair}
 use Rattle.pack_defs.proofs.Spans.{span-is, whole-rest}
-use Rattle.pack_defs.proofs.book.first_is.Goals as goal
+use Rattle.pack_defs.proofs.by_station.first_is.Goals as goal
 
 pub returns : goal.returns
 returns c =

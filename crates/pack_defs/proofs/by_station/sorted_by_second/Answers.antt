@@ -1,7 +1,7 @@
 use Rattle.std.proofs.Common.{rules}
 use Rattle.std.proofs.lemmas.List.Sorted.{IsNonDecreasingBy-from_sort_by_key, answers_always}
 use Rattle.pack_defs.proofs.Spans.{seconds-same}
-use Rattle.pack_defs.proofs.book.sorted_by_second.Goals as goal
+use Rattle.pack_defs.proofs.by_station.sorted_by_second.Goals as goal
 
 pub returns : goal.returns
 returns c =

@@ -1,0 +1,39 @@
+//! The pairs of one station: by halves, in a list of pairs whose first station doesn't fall, or whose second doesn't.
+
+ghost use Rattle.std.specs.Prelude.{◌≡◌, ◌==◌, IfOk, filter};
+ghost use Rattle.std.specs.List.Sorted.{IsNonDecreasingBy};
+ghost use Rattle.pack_defs.specs.PairOrders.{IsBySecond};
+
+use crate::pair::Pair;
+use std::alloc::{AllocError as NoMemory, Global};
+
+/// The pairs by second station, those of each in the order that they have.
+pub fn sorted_by_second(alloc: Global, pairs: &[Pair]) -> Result<Vec<Pair>, NoMemory>
+    ensures { IfOk result (λ sorted. IsBySecond pairs.now sorted.items) }
+{
+    let mut sorted = Vec::from_slice(alloc, pairs)?;
+    sorted.sort_by_key(|p| p.g)?;
+    Ok(sorted)
+}
+
+/// Those whose first station is `f`, of pairs whose first station doesn't fall, by halves.
+pub fn first_is(pairs: &[Pair], f: u32) -> &[Pair]
+    requires { IsNonDecreasingBy (λ p. p.f) pairs.now }
+    ensures { result.now ≡ filter (λ p. p.f == f) pairs.now }
+{
+    let begin = pairs.partition_point(|p| p.f < f);
+    let rest = &pairs[begin..];
+    let count = rest.partition_point(|p| p.f <= f);
+    &rest[..count]
+}
+
+/// Those whose second station is `g`, of pairs whose second station doesn't fall, by halves.
+pub fn second_is(pairs: &[Pair], g: u32) -> &[Pair]
+    requires { IsNonDecreasingBy (λ p. p.g) pairs.now }
+    ensures { result.now ≡ filter (λ p. p.g == g) pairs.now }
+{
+    let begin = pairs.partition_point(|p| p.g < g);
+    let rest = &pairs[begin..];
+    let count = rest.partition_point(|p| p.g <= g);
+    &rest[..count]
+}
