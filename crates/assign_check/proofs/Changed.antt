@@ -28,10 +28,10 @@ stands-changed s c d last changes a b e =
     let known : channel_of s (overlaid last changes) ≡ Some d = over-channel s last changes b ∙ ap (λ o. option_or o (channel_of s last)) e in
     ap (λ o. option_eq nat_eq o (Some c)) (sym known) ∙ stands-exactly s c (overlaid last changes) (overlaid-ascending last changes a)
 
-pub stands-unchanged : (s c : ℕ) (last changes : List (ℕ × ℕ)) → IsAscending last → IsAscending changes → channel_of s changes ≡ None → option_eq nat_eq (channel_of s last) (Some c) ≡ has_entry (overlaid last changes) (s, c)
+pub stands-unchanged : (s c : ℕ) (last changes : List (ℕ × ℕ)) → IsAscending last → IsAscending changes → channel_of s changes ≡ None → has_entry last (s, c) ≡ has_entry (overlaid last changes) (s, c)
 stands-unchanged s c last changes a b e =
     let known : channel_of s (overlaid last changes) ≡ channel_of s last = over-channel s last changes b ∙ ap (λ o. option_or o (channel_of s last)) e in
-    ap (λ o. option_eq nat_eq o (Some c)) (sym known) ∙ stands-exactly s c (overlaid last changes) (overlaid-ascending last changes a)
+    sym (stands-exactly s c last a) ∙ ap (λ o. option_eq nat_eq o (Some c)) (sym known) ∙ stands-exactly s c (overlaid last changes) (overlaid-ascending last changes a)
 
 -- what the search is to know at `stands`
 pub ruleset standing = (stands-changed, stands-unchanged)

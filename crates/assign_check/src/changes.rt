@@ -66,7 +66,7 @@ fn stands(last: &ChannelMap, changes: &ChannelMap, s: u32, c: u8) -> bool
 {
     match changes.get(s) {
         Some(d) => d == c,
-        None => last.get(s) == Some(c),
+        None => last.has(s, c),
     }
 }
 

@@ -94,19 +94,11 @@ fn violated_from(book: &Book, map: &ChannelMap, own: (u32, u8)) -> Option<Pair>
     ensures { result ≡ find (is_violated map.now) (filter (λ p. p.f == own.0) book.now.pairs) }
 {
     for p in book.pairs_from(own.0) {
-        if p.a == own.1 && stands(map, p.g, p.b) {
+        if p.a == own.1 && map.has(p.g, p.b) {
             return Some(*p);
         }
     }
     None
-}
-
-// Whether the map has the station on this channel.
-fn stands(map: &ChannelMap, s: u32, c: u8) -> bool
-    requires { IsAscending map.now }
-    ensures { result ≡ has_entry map.now (s, c) }
-{
-    map.get(s) == Some(c)
 }
 
 #[cfg(test)]

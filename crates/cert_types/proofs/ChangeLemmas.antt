@@ -1,7 +1,7 @@
 -- A fit of a query that names the tested station is without fault exactly where its own entries are of the set, each on its
 -- domain, and no pair of theirs is violated.
-use Rattle.std.proofs.Common.{◌≡◌, ℕ, true, false, ◌==◌, ◌&&◌, ◌||◌, List, find, Option, Some, None, option_map, inl, inr, ap, subst, eqb-true, sym}
-use Rattle.std.proofs.lemmas.Bool.{and_from, and_parts, or_cases}
+use Rattle.std.proofs.Common.{◌≡◌, ℕ, Bool, true, false, not, ◌==◌, ◌&&◌, ◌||◌, List, find, Option, Some, None, is_none, option_map, inl, inr, refl, ap, subst, eqb-true, sym, ◌∙◌}
+use Rattle.std.proofs.lemmas.Bool.{and_from, and_parts, both_ways, false_from_ne_true, not-true, or_cases}
 use Rattle.pack_defs.specs.Book.{BookView, domain_of}
 use Rattle.pack_defs.specs.ChannelMap.{IsAscending, overlaid}
 use Rattle.pack_defs.specs.Lists.{has_entry, has_station, is_ascending, is_in}
@@ -17,7 +17,7 @@ use Rattle.cert_types.specs.declared.task.Task.{Task}
 use Rattle.cert_types.specs.Query.{IsQuery, has_others, is_named, is_on_domains}
 use Rattle.cert_types.specs.Valid.{fit_fault, place_of}
 use Rattle.cert_types.proofs.QueryLaws.{query-parts}
-use Rattle.cert_types.proofs.Validity.{fit-clean}
+use Rattle.cert_types.proofs.Validity.{fit-clean, none_is}
 
 pub query-rises : (book : BookView) (task : Task) → IsQuery book task → is_ascending task.set ≡ true
 query-rises book task query = (query-parts book task query).rises
@@ -74,5 +74,44 @@ fit-violates_none book task delta e =
     let map = overlaid task.last delta in
     none-changed_violated book map delta (no-violation book task.set map (no_map place_of (first_fault book task.set map) e))
 
+-- ---- the test by its steps
+
+and-no : (b c : Bool) → c ≡ false → false ≡ (b && c)
+and-no true c e = sym e
+and-no false c e = refl
+
+and-yes : (b c d : Bool) → b ≡ true → d ≡ c → d ≡ (b && c)
+and-yes true c d h e = e
+and-yes false c d h e = cc
+
+none-exactly : {A : Type 0} (b : Bool) (o : Option A) → (b ≡ true → o ≡ None) → (o ≡ None → b ≡ true) → b ≡ is_none o
+none-exactly b None f g = g refl
+none-exactly true (Some x) f g = cc (f refl)
+none-exactly false (Some x) f g = refl
+
+pub not-named : (b c : Bool) → b ≡ false → false ≡ (b && c)
+not-named true c e = cc
+not-named false c e = refl
+
+pub off-domains : (book : BookView) (task : Task) (delta : List (ℕ × ℕ)) → IsAscending delta → is_on_domains book task.set delta ≡ false → false ≡ (is_named task.station delta && is_none (fit_fault book task delta))
+off-domains book task delta a e =
+    let fault = fit_fault book task delta in
+    and-no (is_named task.station delta) (is_none fault)
+    (false_from_ne_true (is_none fault) (λ h. both_ways (is_on_domains book task.set delta) e (fit-on_domains book task delta a (none_is fault h))))
+
+pub on-domains : (book : BookView) (task : Task) (delta : List (ℕ × ℕ)) → IsQuery book task → is_named task.station delta ≡ true → is_on_domains book task.set delta ≡ true → not (violates_at_some book (overlaid task.last delta) delta) ≡ (is_named task.station delta && is_none (fit_fault book task delta))
+on-domains book task delta query named on =
+    let violates = violates_at_some book (overlaid task.last delta) delta in
+    and-yes (is_named task.station delta) (is_none (fit_fault book task delta)) (not violates) named
+    (none-exactly (not violates) (fit_fault book task delta) (λ h. fits-changed book task delta query named on (not-true violates h)) (λ e. ap not (fit-violates_none book task delta e)))
+
 -- what the search is to know at `fits_by_changes`
-pub ruleset by_changes = (query-rises, fits-changed, fit-on_domains, fit-violates_none)
+pub ruleset by_changes = (query-rises, not-named, off-domains, on-domains)
+
+-- ---- what its callers conclude
+
+pub without-fault : {A : Type 0} (fits named : Bool) (fault : Option A) → fits ≡ (named && is_none fault) → fits ≡ true → fault ≡ None
+without-fault fits named fault e h = none_is fault (and_parts named (is_none fault) (sym e ∙ h)).1
+
+-- what the search is to know at its callers
+pub ruleset fault_none = (without-fault)

@@ -1,21 +1,39 @@
--- Which literals some line of a receipt has.
-use Rattle.std.specs.Prelude.{ℕ, ◌≡◌, Bool, true, nat_lt, if◌then◌else◌, List, slice_index_or}
-use Rattle.std.specs.List.{list_all}
+-- How often the lines of a receipt have each literal.
+use Rattle.std.specs.Prelude.{ℕ, ◌≡◌, ◌+◌, ◌-◌, ◌^◌, Bool, true, nat_lt, if◌then◌else◌, List, min, slice_index_or}
+use Rattle.std.specs.List.{count_by, list_all, sum_by}
 use Rattle.clause_db.specs.declared.lit.Lit.{Lit}
+use Rattle.clause_db.specs.Clause.{same_lit}
 use Rattle.rup_check.specs.Known.{code_of, is_within}
+use Rattle.rup_check.specs.declared.line.Line.{Line}
 
--- the number of variables, and for each literal's code a number, which is 0 of no literal that a line has
+-- the number of variables, and a count for each literal's code
 pub record UsesView : Type 0 where
   pub vars : ℕ
   pub counts : List ℕ
 
+-- how often the literals have this one, and how often the lines do
+abbrev pub times_in : List Lit → Lit → ℕ
+times_in lits l = count_by (same_lit l) lits
+
+abbrev pub times_of : List Line → Lit → ℕ
+times_of lines l = sum_by (λ line. times_in line.lits l) lines
+
+-- what is counted of a literal; the greatest count for one that is none of the variables
+abbrev pub count_of : UsesView → Lit → ℕ
+count_of uses l = if is_within uses.vars l then slice_index_or uses.counts (code_of l) 0 else 2 ^ 32 - 1
+
+-- one more of a literal, up to the greatest count
+abbrev pub one_more : UsesView → Lit → Lit → ℕ
+one_more uses x l = if same_lit l x then min (count_of uses l + 1) (2 ^ 32 - 1) else count_of uses l
+
+-- of each literal of the variables it is counted how often the lines have it, up to the greatest count
+pub record AreCounted (vars : ℕ) (lines : List Line) (uses : UsesView) : Type 0 where
+  pub of_vars : uses.vars ≡ vars
+  pub each : (l : Lit) → is_within vars l ≡ true → count_of uses l ≡ min (times_of lines l) (2 ^ 32 - 1)
+
 -- some line may have the literal
 abbrev pub is_used : UsesView → Lit → Bool
-is_used uses l = if is_within uses.vars l then nat_lt 0 (slice_index_or uses.counts (code_of l) 0) else true
+is_used uses l = nat_lt 0 (count_of uses l)
 
 abbrev pub are_used : UsesView → List Lit → Bool
 are_used uses lits = list_all (is_used uses) lits
-
--- what was used is used still
-abbrev pub Keeps : UsesView → UsesView → Type 0
-Keeps old new = (l : Lit) → is_used old l ≡ true → is_used new l ≡ true

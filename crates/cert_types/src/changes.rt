@@ -1,7 +1,6 @@
 //! A fit of a query, judged by the stations whose channels it changes.
 
-ghost use Rattle.std.specs.Prelude.{◌≡◌, None, true};
-ghost use Rattle.std.specs.Bool.{OnTrue};
+ghost use Rattle.std.specs.Prelude.{◌≡◌, ◌&&◌, is_none};
 ghost use Rattle.cert_types.specs.Query.{IsQuery, is_named};
 ghost use Rattle.cert_types.specs.Valid.{fit_fault};
 
@@ -11,15 +10,14 @@ use assign_check::changes::violates_at_some;
 use pack_defs::book::Book;
 use pack_defs::channel_map::ChannelMap;
 
-/// Whether a fit of a query names the tested station and is shown valid by the stations that it changes: each is of the set
-/// and on its domain, and no pair of theirs has both entries in the map that the fit leaves. The last map violates no pair and
-/// has each other station, so that nothing else has to be looked at. It costs what the pairs of the changed stations cost, and
-/// takes no memory.
+/// Whether a fit of a query names the tested station and is valid. Only the stations that it changes are looked at: whether
+/// each is of the set and on its domain, and no pair of theirs has both entries in the map that the fit leaves. The last map
+/// violates no pair and has each other station, so that this decides. It costs what the pairs of the changed stations cost,
+/// and takes no memory.
 #[tactic(auto, using(crate::proofs::ChangeLemmas::by_changes))]
 pub fn fits_by_changes(book: &Book, task: &Task, delta: &ChannelMap) -> bool
     requires { IsQuery book.now task.now }
-    ensures sound { OnTrue result (fit_fault book.now task.now delta.now ≡ None) }
-    ensures whole { is_named task.now.station delta.now ≡ true → fit_fault book.now task.now delta.now ≡ None → result ≡ true }
+    ensures { result ≡ (is_named task.now.station delta.now && is_none (fit_fault book.now task.now delta.now)) }
 {
     if !is_named(task.station, delta) {
         return false;

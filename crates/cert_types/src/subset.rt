@@ -6,7 +6,7 @@ ghost use Rattle.pack_defs.specs.Lists.{is_ascending, is_in};
 ghost use Rattle.cert_types.specs.Refutes.{is_subset};
 
 /// Whether a list ascends and is of stations of an ascending set. It searches by halves, once for each station.
-pub(crate) fn is_subset(subset: &[u32], set: &[u32]) -> bool
+pub fn is_subset(subset: &[u32], set: &[u32]) -> bool
     requires { IsTrue (is_ascending set.now) }
     ensures { result ≡ is_subset subset.now set.now }
 {

@@ -1,9 +1,10 @@
-//! In how many lines each literal stands. A clause with a literal that no line has stands within none, so it needn't be
-//! filed; and any other is filed best under the literal that the fewest lines have.
+//! How often lines have each literal. A clause with a literal that no line has stands within none, so it needn't be filed;
+//! and any other is filed best under the literal that lines have least often.
 
-ghost use Rattle.std.specs.Prelude.{◌≡◌, IfOk, nat_lt, true};
-ghost use Rattle.std.specs.List.{list_all};
-ghost use Rattle.cert_types.specs.Uses.{Keeps, are_used, is_used};
+ghost use Rattle.std.specs.Prelude.{ℕ, ◌≡◌, ◌+◌, ◌-◌, ◌^◌, IfOk, min, true};
+ghost use Rattle.clause_db.specs.declared.lit.Lit.{Lit};
+ghost use Rattle.rup_check.specs.Known.{is_within};
+ghost use Rattle.cert_types.specs.Uses.{AreCounted, are_used, count_of, one_more, times_in};
 
 use clause_db::lit::Lit;
 use rup_check::cursors::Literals;
@@ -12,7 +13,7 @@ use rup_check::lines::Lines;
 use std::alloc::{AllocError as NoMemory, Global};
 use std::marker::Model;
 
-/// A count for each literal of the variables 1 to `vars`. What the counts are is said of 0 alone: no line has such a literal.
+/// A count for each literal of the variables 1 to `vars`. One that is full stays.
 #[derive(Drop)]
 pub(crate) struct Uses {
     vars: u32,
@@ -31,9 +32,9 @@ impl Model for Uses {
 }
 
 impl Uses {
-    /// The uses of literals by these lines.
+    /// How often these lines have each literal of the variables 1 to `vars`. The only error is want of memory.
     pub(crate) fn of(alloc: Global, vars: u32, lines: &Lines) -> Result<Uses, NoMemory>
-        ensures { IfOk result (λ uses. list_all (λ line. are_used uses line.lits) lines.now ≡ true) }
+        ensures { IfOk result (λ uses. AreCounted vars lines.now uses) }
     {
         let mut uses = Uses {
             vars,
@@ -47,8 +48,8 @@ impl Uses {
 
     // Counts one line more.
     fn count_all(&mut self, lits: Literals<'_>)
-        ensures kept { Keeps self.old self.new }
-        ensures used { are_used self.new lits.entry ≡ true }
+        ensures vars { self.new.vars ≡ self.old.vars }
+        ensures counted { (l : Lit) (t : ℕ) → is_within self.old.vars l ≡ true → count_of self.old l ≡ min t (2 ^ 32 - 1) → count_of self.new l ≡ min (t + times_in lits.entry l) (2 ^ 32 - 1) }
     {
         let mut left = lits;
         while let Some(lit) = left.next() {
@@ -58,8 +59,8 @@ impl Uses {
 
     // Counts one literal more.
     fn count(&mut self, lit: Lit)
-        ensures kept { Keeps self.old self.new }
-        ensures used { is_used self.new lit ≡ true }
+        ensures vars { self.new.vars ≡ self.old.vars }
+        ensures counted { (l : Lit) → is_within self.old.vars l ≡ true → count_of self.new l ≡ one_more self.old lit l }
     {
         if !within(self.vars, lit) {
             return;
@@ -68,9 +69,9 @@ impl Uses {
         self.counts[at] = self.counts[at].saturating_add(1);
     }
 
-    /// How many lines have a literal; the greatest number for one that is none of the variables.
+    /// What is counted of a literal; the greatest number for one that is none of the variables.
     pub(crate) fn count_of(&self, lit: Lit) -> u32
-        ensures { nat_lt 0 result ≡ is_used self.now lit }
+        ensures { result ≡ count_of self.now lit }
     {
         if within(self.vars, lit) {
             self.counts[code(lit)]

@@ -2,8 +2,7 @@
 //! of the log apart, and `log_line` reads the last: its number, its literals up to a 0, and its hints up to another.
 //! What was read so far is the lines and their numbers, in which the hints of later lines are looked up.
 
-ghost use Rattle.std.specs.Prelude.{◌≡◌, ◌++◌, ◌∷◌, [], IfOk, IfSome, List, MatchOption, None, Some};
-ghost use Rattle.std.specs.Bool.{OnTrue};
+ghost use Rattle.std.specs.Prelude.{◌≡◌, ◌++◌, ◌∷◌, [], IfOk, IfSome, List, MatchBool, MatchOption, None, Some};
 ghost use Rattle.std.specs.List.{slice_get};
 ghost use Rattle.rup_check.specs.declared.line.Line.{Line};
 ghost use Rattle.pack_defs.specs.Lists.{is_empty};
@@ -74,7 +73,7 @@ pub(crate) fn deleted(n: u64, words: &[u8]) -> Result<(), LratErr>
 
 // Whether this number stands at a place.
 fn stands_at(numbers: &[u64], place: u64, number: u64) -> bool
-    ensures { OnTrue result (slice_get numbers.now place ≡ Some number) }
+    ensures { MatchBool result (slice_get numbers.now place ≡ Some number) (slice_get numbers.now place ≡ Some number → ⊥) }
 {
     match numbers.get(place as usize) {
         Some(other) => *other == number,

@@ -1,6 +1,6 @@
 //! The writing of logs and formulas, number by number behind the text so far.
 
-ghost use Rattle.std.specs.Prelude.{◌≡◌, ◌+◌, ◌≤◌, ◌^◌, ◌∷◌, ◌++◌, [], IfOk, OnOk, decimal, length, map};
+ghost use Rattle.std.specs.Prelude.{◌≡◌, ◌+◌, ◌≤◌, ◌^◌, ◌∷◌, ◌++◌, [], List, ℕ, IfOk, OnErr, OnOk, decimal, length, map};
 ghost use Rattle.std.specs.List.{flat_map};
 ghost use Rattle.lrat_text.specs.Lines.{line_of};
 ghost use Rattle.lrat_text.specs.LogText.{clause_fields, dimacs_text, header_line, lit_text, log_fields, log_text, spaced, zero_field};
@@ -12,9 +12,10 @@ use rup_check::cursors::{Hints, Literals};
 use rup_check::line::Log;
 use std::alloc::{AllocError as NoMemory, Global};
 
-/// Adds a number. The only error is want of memory.
+/// Adds a number. The only error is want of memory, and the text is as before then.
 pub fn push_number(text: &mut Vec<u8>, n: u64) -> Result<(), NoMemory>
-    ensures { OnOk result (text.new.items ≡ text.old.items ++ decimal n) }
+    ensures written { OnOk result (text.new.items ≡ text.old.items ++ decimal n) }
+    ensures kept { OnErr result (text.new.items ≡ text.old.items) }
 {
     let mut buffer = Buffer::new();
     text.extend_from_slice(buffer.format(n).as_bytes())
@@ -22,7 +23,8 @@ pub fn push_number(text: &mut Vec<u8>, n: u64) -> Result<(), NoMemory>
 
 // Adds a literal.
 fn push_lit(text: &mut Vec<u8>, lit: Lit) -> Result<(), NoMemory>
-    ensures { OnOk result (text.new.items ≡ text.old.items ++ lit_text lit) }
+    ensures written { OnOk result (text.new.items ≡ text.old.items ++ lit_text lit) }
+    ensures begins { (more : List ℕ) × (text.new.items ≡ text.old.items ++ more) }
 {
     if !lit.positive {
         text.extend_from_slice(b"-")?;
@@ -32,7 +34,8 @@ fn push_lit(text: &mut Vec<u8>, lit: Lit) -> Result<(), NoMemory>
 
 // Adds the literals that are left, each behind a space.
 fn push_lits(text: &mut Vec<u8>, lits: Literals<'_>) -> Result<(), NoMemory>
-    ensures { OnOk result (text.new.items ≡ text.old.items ++ spaced (map lit_text lits.entry)) }
+    ensures written { OnOk result (text.new.items ≡ text.old.items ++ spaced (map lit_text lits.entry)) }
+    ensures begins { (more : List ℕ) × (text.new.items ≡ text.old.items ++ more) }
 {
     let mut left = lits;
     while let Some(lit) = left.next() {
@@ -44,7 +47,8 @@ fn push_lits(text: &mut Vec<u8>, lits: Literals<'_>) -> Result<(), NoMemory>
 
 // Adds the hints that are left, each behind a space.
 fn push_hints(text: &mut Vec<u8>, hints: Hints<'_>) -> Result<(), NoMemory>
-    ensures { OnOk result (text.new.items ≡ text.old.items ++ spaced (map decimal hints.entry)) }
+    ensures written { OnOk result (text.new.items ≡ text.old.items ++ spaced (map decimal hints.entry)) }
+    ensures begins { (more : List ℕ) × (text.new.items ≡ text.old.items ++ more) }
 {
     let mut left = hints;
     while let Some(hint) = left.next() {
@@ -54,9 +58,11 @@ fn push_hints(text: &mut Vec<u8>, hints: Hints<'_>) -> Result<(), NoMemory>
     Ok(())
 }
 
-/// Adds numbers, each behind a space. The only error is want of memory.
+/// Adds numbers, each behind a space. The only error is want of memory, and the text then has all that it had, and maybe
+/// some of the numbers behind it.
 pub fn push_numbers(text: &mut Vec<u8>, numbers: &[u64]) -> Result<(), NoMemory>
-    ensures { OnOk result (text.new.items ≡ text.old.items ++ spaced (map decimal numbers.now)) }
+    ensures written { OnOk result (text.new.items ≡ text.old.items ++ spaced (map decimal numbers.now)) }
+    ensures begins { (more : List ℕ) × (text.new.items ≡ text.old.items ++ more) }
 {
     for n in numbers {
         text.extend_from_slice(b" ")?;
@@ -72,7 +78,8 @@ fn push_log_line(
     lits: Literals<'_>,
     hints: Hints<'_>,
 ) -> Result<(), NoMemory>
-    ensures { OnOk result (text.new.items ≡ text.old.items ++ line_of (log_fields number (record { lits = lits.entry; hints = hints.entry }))) }
+    ensures written { OnOk result (text.new.items ≡ text.old.items ++ line_of (log_fields number (record { lits = lits.entry; hints = hints.entry }))) }
+    ensures begins { (more : List ℕ) × (text.new.items ≡ text.old.items ++ more) }
 {
     push_number(text, number)?;
     push_lits(text, lits)?;
@@ -83,10 +90,11 @@ fn push_log_line(
 }
 
 /// Adds a log, its lines numbered on from `first`: each is its number, its literals, 0, its hints and 0. The only
-/// error is want of memory.
+/// error is want of memory, and the text then has all that it had, and maybe a part of the log behind it.
 pub fn push_log(text: &mut Vec<u8>, first: u64, log: &Log) -> Result<(), NoMemory>
     requires { first + length log.now.lines ≤ 2 ^ 63 }
-    ensures { OnOk result (text.new.items ≡ text.old.items ++ log_text first log.now.lines) }
+    ensures written { OnOk result (text.new.items ≡ text.old.items ++ log_text first log.now.lines) }
+    ensures begins { (more : List ℕ) × (text.new.items ≡ text.old.items ++ more) }
 {
     for i in 0..log.lines.len() {
         push_log_line(

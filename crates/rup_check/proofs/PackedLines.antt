@@ -1,11 +1,10 @@
 -- A line behind the others is read as it was put there, and the others stay.
-use Rattle.std.proofs.Common.{◌≡◌, ℕ, ◌+◌, ◌-◌, ◌*◌, ◌/◌, ◌%◌, ◌==◌, ◌<◌, ◌≤◌, Bool, true, false, List, [], ◌∷◌, ◌++◌, All, map, length, take, drop, Option, Some, None, Result, Ok, Err, OnErr, IsSome, option_to_list, get_or, refl, sym, ap, ◌∙◌, arith, append_assoc, append-nil}
+use Rattle.std.proofs.Common.{◌≡◌, ℕ, ◌+◌, ◌-◌, ◌*◌, ◌/◌, ◌%◌, ◌==◌, ◌<◌, ◌≤◌, Bool, true, false, List, [], ◌∷◌, ◌++◌, All, map, length, take, drop, get_or, refl, sym, ap, ◌∙◌, arith, append_assoc, append-nil}
 use Rattle.std.specs.List.{slice_range}
-use Rattle.std.proofs.lemmas.List.{take-append-le, drop-append-le, map_push, length-append, length-drop, length-map, get_or-map}
+use Rattle.std.proofs.lemmas.List.{take-append-le, drop-append-le, map_push, length-append, length-drop, get_or-map}
 use Rattle.std.proofs.lemmas.List.Elements.{All-head, All-push, All-tail}
 use Rattle.std.proofs.Math.Seq.{take-append_seam, drop-append_seam}
 use Rattle.clause_db.specs.declared.lit.Lit.{Lit}
-use Rattle.rup_check.specs.declared.line.Line.{Line}
 use Rattle.rup_check.specs.declared.lines.Span.{Span}
 use Rattle.rup_check.specs.Packed.{IsWithin, Spells, line_at, line_in, no_line, lit_of_number, lits_of, number_of_lit, numbers_of}
 use Rattle.rup_check.proofs.Packing.{spells-alone}
@@ -109,31 +108,6 @@ within-pushed old middle new a b spans s w m n l h e =
     All-push (IsWithin (length new)) spans s (within-more (length old) (length new) spans (omega (arith, one, two)) w)
     (omega (arith, l, h, one), omega (arith, h, e, two), omega (arith, e))
 
--- a last line taken away
-pub lines-popped : (bytes : List ℕ) (old new : List Span) (r : Option Span) (lines : List Line) (line : Line) → old ≡ new ++ option_to_list r → (0 < length old → IsSome r) → map (line_in bytes) old ≡ lines ++ line ∷ [] → map (line_in bytes) new ≡ lines
-lines-popped bytes old new None lines line e some f =
-    absurd (none-some (some (omega (arith, sym (length-map old (line_in bytes)) ∙ ap length f ∙ length-append lines (line ∷ [])))))
-  where
-    none-some : IsSome {T = Span} None → ⊥
-    none-some e = cc
-lines-popped bytes old new (Some s) lines line e some f =
-    let g = line_in bytes in
-    let same : map g new ++ g s ∷ [] ≡ lines ++ line ∷ [] = sym (map_push g new s) ∙ sym (ap (map g) e) ∙ f in
-    let long : length (map g new) ≡ length lines = omega (arith, ap length same, length-append (map g new) (g s ∷ []), length-append lines (line ∷ [])) in
-    sym (take-append_seam (map g new) (g s ∷ []))
-    ∙ ap (take (length (map g new))) same
-    ∙ ap (λ (n : ℕ). take n (lines ++ line ∷ [])) long
-    ∙ take-append_seam lines (line ∷ [])
-
 -- a line at a place, by its span
 pub line-there : (bytes : List ℕ) (spans : List Span) (i : ℕ) (s : Span) → i < length spans → s ≡ get_or spans i s → line_at (map (line_in bytes) spans) i ≡ line_in bytes s
 line-there bytes spans i s h e = get_or-map (line_in bytes) spans i s no_line h ∙ ap (line_in bytes) (sym e)
-
--- what holds whatever was answered holds where the answer is an error
-pub on-err : {E X : Type 0} (r : Result (Unit {0}) E) → X → OnErr r X
-on-err (Ok u) x = tt
-on-err (Err e) x = x
-
--- the lines that stay, where more bytes stand behind them
-pub stay : (old new more : List ℕ) (spans : List Span) (lines : List Line) → All (IsWithin (length old)) spans → new ≡ old ++ more → map (line_in old) spans ≡ lines → map (line_in new) spans ≡ lines
-stay old new more spans lines w e v = ap (λ (z : List ℕ). map (line_in z) spans) e ∙ lines-kept old more spans w ∙ v

@@ -5,6 +5,7 @@ ghost use Rattle.rup_check.specs.Answers.{LineAnswer, LogAnswer};
 ghost use Rattle.rup_check.specs.Follows.{clauses_before, line_fault, log_fault};
 ghost use Rattle.rup_check.specs.Packed.{line_at};
 
+use crate::cursors::Literals;
 use crate::error::{LineErr, LogErr};
 use crate::hints::{check_hints, deny};
 use crate::known::Known;
@@ -23,13 +24,18 @@ pub fn check_line(alloc: Global, clauses: &ClauseList, line: &Line) -> Result<()
     ensures { LineAnswer (line_fault clauses.now.vars clauses.now.list line.now) result }
 {
     let mut known = Known::new(alloc, clauses.vars())?;
-    let mut lines = Lines::new(alloc);
-    lines.push(line.lits.as_slice(), line.hints.as_slice())?;
-    check_at(&mut known, clauses, &lines, 0)
+    if !deny(&mut known, Literals::of_clause(line.lits.as_slice()))? {
+        return Err(LineErr::BadLits);
+    }
+    let mut packed = Lines::new(alloc);
+    packed.push(&[], line.hints.as_slice())?;
+    check_hints(&mut known, clauses, &packed, 0, packed.hints(0))
 }
 
 /// Whether each line of a log follows from the clauses and the lines before it. Ok exactly where each does; otherwise the
-/// first line that doesn't, with its fault. The cost is that of the literals which the lines and their hints name.
+/// first line that doesn't, with its fault. The cost is that of a mark for each literal of the clauses' variables, made
+/// once, and then of the lines' literals and hints and of the literals of each clause or line that a hint names. A literal
+/// of a variable above those costs a look through all that is known, too.
 ///
 /// # Errors
 ///

@@ -1,6 +1,6 @@
 //! What is left of a line's literals or hints, taken one after the other.
 
-ghost use Rattle.std.specs.Prelude.{◌≡◌, ◌^◌, ◌<◌, ◌++◌, ◌∷◌, [], length, MatchOption, OnOk, ⊤};
+ghost use Rattle.std.specs.Prelude.{◌≡◌, ◌≤◌, ◌^◌, ◌<◌, ◌++◌, ◌∷◌, [], length, MatchOption, OnOk};
 ghost use Rattle.rup_check.specs.Packed.{lit_of_number, number_of_lit};
 
 use crate::digits::first_number;
@@ -26,23 +26,12 @@ impl<'a> Model for Hints<'a> {
 impl<'a> Hints<'a> {
     /// The next hint, if one is left.
     pub fn next(&mut self) -> Option<u64>
-        ensures next { MatchOption result (self.old ≡ []) (λ hint. self.old ≡ hint ∷ self.new) }
+        ensures next { MatchOption result ((self.old ≡ []) × (self.new ≡ [])) (λ hint. self.old ≡ hint ∷ self.new) }
         ensures few { length self.old < 2 ^ 63 }
     {
         let (number, rest) = first_number(self.packed)?;
         self.packed = rest;
         Some(number)
-    }
-
-    /// Puts the hints that are left behind these. The only error is want of memory.
-    pub fn read_into(self, hints: &mut Vec<u64>) -> Result<(), NoMemory>
-        ensures { OnOk result (hints.new.items ≡ hints.old.items ++ self.entry) }
-    {
-        let mut left = self;
-        while let Some(hint) = left.next() {
-            hints.push(hint)?;
-        }
-        Ok(())
     }
 }
 
@@ -77,7 +66,7 @@ impl<'a> Literals<'a> {
 
     /// The next literal, if one is left.
     pub fn next(&mut self) -> Option<Lit>
-        ensures { MatchOption result (self.old ≡ []) (λ lit. self.old ≡ lit ∷ self.new) }
+        ensures { MatchOption result ((self.old ≡ []) × (self.new ≡ [])) (λ lit. self.old ≡ lit ∷ self.new) }
     {
         if let Some((first, rest)) = self.plain.split_first() {
             self.plain = rest;
@@ -112,7 +101,7 @@ fn lit_of(number: u64) -> Lit
 
 /// The number that stands for a literal, if there is one within 64 bits.
 pub(crate) fn number_of(lit: Lit) -> Option<u64>
-    ensures { MatchOption result ⊤ (λ n. n ≡ number_of_lit lit) }
+    ensures { MatchOption result (2 ^ 63 ≤ lit.var) (λ n. n ≡ number_of_lit lit) }
 {
     let twice = lit.var.checked_mul(2)?;
     if lit.positive {

@@ -1,9 +1,8 @@
 //! The lines of a log, packed in bytes.
 
-ghost use Rattle.std.specs.Prelude.{◌≡◌, ◌<◌, ◌++◌, ◌∷◌, [], List, ℕ, OnErr, OnOk, length, map};
+ghost use Rattle.std.specs.Prelude.{◌≡◌, ◌==◌, ◌-◌, ◌<◌, ◌++◌, ◌∷◌, [], All, List, ℕ, OnErr, OnOk, length, map, take};
 ghost use Rattle.clause_db.specs.Clause.{is_empty_clause};
-ghost use Rattle.rup_check.specs.declared.line.Line.{Line};
-ghost use Rattle.rup_check.specs.Packed.{Spells, line_at, number_of_lit};
+ghost use Rattle.rup_check.specs.Packed.{IsWithin, Spells, line_at, line_in, number_of_lit};
 
 use crate::cursors::{Hints, Literals, number_of};
 use crate::digits::push_number;
@@ -56,6 +55,13 @@ impl Lines {
         self.spans.len()
     }
 
+    /// Whether there is no line.
+    pub fn is_empty(&self) -> bool
+        ensures { result ≡ (length self.now == 0) }
+    {
+        self.spans.is_empty()
+    }
+
     /// The literals of the line at a place from 0.
     pub fn lits(&self, place: usize) -> Literals<'_>
         requires { place < length self.now }
@@ -101,21 +107,17 @@ impl Lines {
         ensures pushed { OnOk result (self.new ≡ self.old ++ record { lits = lits.now; hints = hints.now } ∷ []) }
         ensures kept { OnErr result (self.new ≡ self.old) }
     {
-        let start = self.bytes.len();
-        push_lits(&mut self.bytes, lits)?;
-        let middle = self.bytes.len();
-        push_hints(&mut self.bytes, hints)?;
-        self.spans.push(Span {
-            lits: start,
-            hints: middle,
-            end: self.bytes.len(),
-        })?;
+        let before = self.bytes.len();
+        if let Err(error) = push_line(&mut self.bytes, &mut self.spans, lits, hints) {
+            self.bytes.truncate(before);
+            return Err(error);
+        }
         Ok(())
     }
 
-    /// Takes the last line away.
+    /// Takes the last line away, if there is one.
     pub fn pop(&mut self)
-        ensures { (lines : List Line) (line : Line) → self.old ≡ lines ++ line ∷ [] → self.new ≡ lines }
+        ensures { self.new ≡ take (length self.old - 1) self.old }
     {
         let _ = self.spans.pop();
     }
@@ -132,6 +134,31 @@ impl Lines {
         spans.shrink_to_fit();
         Lines { bytes, spans }
     }
+}
+
+// Writes a line behind the others. An error may leave some of its bytes behind theirs.
+fn push_line(
+    bytes: &mut Vec<u8>,
+    spans: &mut Vec<Span>,
+    lits: &[Lit],
+    hints: &[u64],
+) -> Result<(), NoMemory>
+    requires { All (IsWithin (length bytes.old.items)) spans.old.items }
+    ensures behind { (more : List ℕ) × (bytes.new.items ≡ bytes.old.items ++ more) }
+    ensures kept { OnErr result (spans.new.items ≡ spans.old.items) }
+    ensures within { OnOk result (All (IsWithin (length bytes.new.items)) spans.new.items) }
+    ensures pushed { OnOk result (map (line_in bytes.new.items) spans.new.items ≡ map (line_in bytes.old.items) spans.old.items ++ record { lits = lits.now; hints = hints.now } ∷ []) }
+{
+    let start = bytes.len();
+    push_lits(bytes, lits)?;
+    let middle = bytes.len();
+    push_hints(bytes, hints)?;
+    spans.push(Span {
+        lits: start,
+        hints: middle,
+        end: bytes.len(),
+    })?;
+    Ok(())
 }
 
 // Writes literals behind the bytes.
@@ -164,6 +191,29 @@ mod tests {
     use super::*;
     use std::mem::size_of;
     use std::test::Fail;
+
+    // A line that can't be packed leaves none of its bytes, and fitted lines have no room to spare.
+    #[test]
+    fn no_byte_more_than_the_lines_need(rt: HostRuntime) -> Result<(), Fail> {
+        let alloc = rt.alloc();
+        let lit = Lit {
+            var: 6,
+            positive: true,
+        };
+        let too_great = Lit {
+            var: u64::MAX,
+            positive: true,
+        };
+        let mut lines = Lines::new(alloc);
+        for hint in 1..6 {
+            lines.push(&[lit], &[hint])?;
+        }
+        assert!(rt; lines.push(&[lit, too_great], &[7]).is_err());
+        let fitted = lines.fitted();
+        assert_eq!(rt; fitted.bytes.capacity(), 10);
+        assert_eq!(rt; fitted.spans.capacity(), 5);
+        Ok(())
+    }
 
     // A line of 20 literals and 17 hints, as those of a national auction are in the mean, takes at most 150 bytes.
     #[test]

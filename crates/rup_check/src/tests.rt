@@ -88,6 +88,7 @@ fn bad_literals_before_hints(rt: HostRuntime) -> Result<(), Fail> {
     assert_eq!(rt; answer(alloc, &clauses, &[0], &[4])?, bad);
     assert_eq!(rt; answer(alloc, &clauses, &[7], &[4])?, bad);
     assert_eq!(rt; answer(alloc, &clauses, &[-7], &[4])?, bad);
+    assert_eq!(rt; answer(alloc, &clauses, &[i64::MIN], &[4])?, bad);
     assert_eq!(rt; answer(alloc, &clauses, &[-1, -2, -1], &[4])?, bad);
     assert_eq!(rt; answer(alloc, &clauses, &[-1, -2, 1], &[99])?, bad);
     Ok(())
@@ -229,7 +230,7 @@ fn numbers_of_each_length_are_read_again(rt: HostRuntime) -> Result<(), Fail> {
     assert!(rt; lines.push(&[too_great], &[]).is_err());
     assert_eq!(rt; lines.len(), 8);
     lines.push(&[], &[])?;
-    assert!(rt; lines.is_empty_at(8));
+    assert!(rt; lines.is_empty_at(8) && !lines.is_empty());
     lines.pop();
     assert!(rt; is_there(&lines.fitted(), 7, numbers[7], hints[7]));
     Ok(())

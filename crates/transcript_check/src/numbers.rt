@@ -20,7 +20,7 @@ fn is_one_above(n: u64, m: u64) -> bool
 pub(crate) fn is_first(first: u64, clauses: u64, log: &Log) -> bool
     ensures { result ≡ (first == first_number clauses log.now.lines) }
 {
-    if log.lines.len() == 0 {
+    if log.lines.is_empty() {
         return first == 0;
     }
     is_one_above(first, clauses)

@@ -156,7 +156,7 @@ fn first_number(clauses: u64, log: &Log) -> u64
     ensures first { result ≡ first_number clauses log.now.lines }
     ensures few { result ≤ clauses + 1 }
 {
-    if log.lines.len() == 0 {
+    if log.lines.is_empty() {
         return 0;
     }
     clauses + 1

@@ -1,4 +1,4 @@
-use Rattle.std.proofs.Common.{◌≡◌, ◌<◌, ◌+◌, ◌++◌, [], ℕ, List, sym, ◌∙◌, arith, length, drop, append_assoc, append-nil}
+use Rattle.std.proofs.Common.{◌≡◌, ◌<◌, ◌+◌, ◌++◌, [], ℕ, List, ap, sym, ◌∙◌, arith, length, drop, append_assoc, append-nil}
 use Rattle.std.proofs.lemmas.List.{drop_all, drop_more}
 use Rattle.rup_check.specs.declared.line.Line.{Line}
 use Rattle.rup_check.specs.Packed.{line_at, no_line}
@@ -17,11 +17,17 @@ more text first i lines h =
 pub loop-i-preserved : goal.loop-i-preserved
 loop-i-preserved c =
     let h : c.loop-i.i < length c.args.log.now.lines = omega (arith, c.loop-i-test.true, c.len-i-end.ensures) in
-    rw (c.in_ok-push_log_line.ensures, c.lits.ensures, c.hints.ensures)
-    (more c.loop-i.text.items c.args.first c.loop-i.i c.args.log.now.lines h ∙ c.loop-i.invariant)
+    let before = c.loop-i.invariant.begins in
+    let line = c.in_ok-push_log_line.ensures.begins in
+    record {
+      left =
+          rw (c.in_ok-push_log_line.ensures.written, c.lits.ensures, c.hints.ensures)
+          (more c.loop-i.text.items c.args.first c.loop-i.i c.args.log.now.lines h ∙ c.loop-i.invariant.left);
+      begins = (before.0 ++ line.0, line.1 ∙ ap (λ (z : List ℕ). z ++ line.0) before.1 ∙ append_assoc c.args.text.now.items before.0 line.0);
+    }
 
-pub returns : goal.returns
+pub returns-clause-written : goal.returns-clause-written
 unfolding log_text
-returns c =
+returns-clause-written c =
     let none : drop c.loop-i.i c.args.log.now.lines ≡ [] = drop_all c.loop-i.i c.args.log.now.lines (omega (arith, c.loop-i-test.false, c.len-i-end.ensures)) in
-    sym (append-nil c.loop-i.text.items) ∙ rw none at c.loop-i.invariant
+    sym (append-nil c.loop-i.text.items) ∙ rw none at c.loop-i.invariant.left

@@ -58,7 +58,7 @@ pub returns-clause-good : goal.returns-clause-good
 returns-clause-good c =
     let lits = c.args.lits in
     let i = c.loop-lit.invariant.0 in
-    let none : drop i lits ≡ [] = sym c.loop-lit.invariant.1 ∙ c.in_default.ensures in
+    let none : drop i lits ≡ [] = sym c.loop-lit.invariant.1 ∙ c.in_default.ensures.0 in
     let all : take i lits ≡ lits = take_all i lits (omega (arith, ap length none, length-drop i lits)) in (
       sym (ap (has_bad_lits c.args.known.now.vars) all) ∙ ap (λ n. has_bad_lits n (take i lits)) (sym c.vars-vars.ensures) ∙ c.loop-lit.invariant.4,
       c.loop-lit.invariant.2 ∙ ap (map opposite) all,
