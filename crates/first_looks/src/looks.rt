@@ -1,6 +1,9 @@
 //! The first looks at a query, in order: the station's last fit, a free channel, one repair.
 
-ghost use Rattle.std.specs.Prelude.{◌≡◌, IfOk, IfSome, None};
+ghost use Rattle.std.specs.Prelude.{ℕ, ◌≡◌, ◌∷◌, [], IfOk, IfSome, None, Some, true};
+ghost use Rattle.std.specs.Option.{is_some};
+ghost use Rattle.pack_defs.specs.Lists.{is_in};
+ghost use Rattle.first_looks.specs.Free.{IsFreeWay};
 ghost use Rattle.cert_types.specs.Query.{IsQuery};
 ghost use Rattle.cert_types.specs.Valid.{fit_fault};
 
@@ -52,9 +55,10 @@ impl FirstLooks {
     /// A fit of the query, where a look finds one: what the tested station's last fit changed, if it still fits; else a free
     /// channel of the station, the one that its neighbours want least; else a channel on which one station alone stands in the
     /// way, which can itself go elsewhere. A fit by the last two looks is kept. Of a query that tests no station there is no
-    /// look. No clause is made: the looks cost a list of all channels and a pass over its pairs, with a search by halves for
-    /// each, of the tested station, and of the one that alone stands in the way on each channel until one can make way. The
-    /// only error is want of memory.
+    /// look. Where a channel of the tested station makes a fit while the others stay, some look finds one. No clause is made:
+    /// the looks cost a list of all channels and a pass over its pairs, with a search by halves for each, of the tested
+    /// station, and of the one that alone stands in the way on each channel until one can make way. The only error is want of
+    /// memory.
     pub fn look(
         &mut self,
         alloc: Global,
@@ -62,11 +66,15 @@ impl FirstLooks {
         task: &Task,
     ) -> Result<Option<ChannelMap>, NoMemory>
         requires { IsQuery book.now task.now }
-        ensures { IfOk result (λ r. IfSome r (λ delta. fit_fault book.now task.now delta ≡ None)) }
+        ensures fits { IfOk result (λ r. IfSome r (λ delta. fit_fault book.now task.now delta ≡ None)) }
+        ensures free { (s c : ℕ) → task.now.station ≡ Some s → fit_fault book.now task.now ((s, c) ∷ []) ≡ None → IfOk result (λ r. is_some r ≡ true) }
     {
         let Some(s) = task.station else {
             return Ok(None);
         };
+        // A book is in order, and a map ascends, as their `len` says.
+        let _stations = book.len();
+        let _entries = task.last.len();
         if let Some(fit) = self.last_fit(alloc, book, task, s)? {
             self.looked.last = self.looked.last.saturating_add(1);
             return Ok(Some(fit));
@@ -88,6 +96,11 @@ impl FirstLooks {
         if let Ok(copy) = ChannelMap::of(alloc, fit.entries()) {
             let _kept = self.fits.insert(s, copy).is_ok();
         }
+    }
+
+    /// What the last fit of a station changed, if one is kept. It may no longer fit.
+    pub fn kept(&self, s: u32) -> Option<&ChannelMap> {
+        self.fits.get(&s)
     }
 
     // What the station's last fit changed, if that still fits.
@@ -128,8 +141,12 @@ fn judged(
     proposal: Proposal,
 ) -> Result<Option<ChannelMap>, NoMemory>
     requires { IsQuery book.now task.now }
-    ensures { IfOk result (λ r. IfSome r (λ delta. fit_fault book.now task.now delta ≡ None)) }
+    ensures fits { IfOk result (λ r. IfSome r (λ delta. fit_fault book.now task.now delta ≡ None)) }
+    ensures free { (s : ℕ) → task.now.station ≡ Some s → is_in task.now.set s ≡ true → IsFreeWay book.now task.now.last s proposal → IfOk result (λ r. is_some r ≡ true) }
 {
+    // A book is in order, and a map ascends, as their `len` says.
+    let _stations = book.len();
+    let _entries = task.last.len();
     let delta = proposal.changes(alloc)?;
     if !fits_by_changes(book, task, &delta) {
         return Ok(None);

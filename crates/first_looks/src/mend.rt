@@ -1,5 +1,10 @@
 //! A channel for the tested station beside the others as they stand, or with one of them moved out of its way.
 
+ghost use Rattle.std.specs.Prelude.{ℕ, ◌≡◌, IfOk, true};
+ghost use Rattle.pack_defs.specs.Book.{domain_of};
+ghost use Rattle.pack_defs.specs.Lists.{is_in};
+ghost use Rattle.first_looks.specs.Free.{IsFreeProposal, changed, is_free};
+
 use crate::ways::{Blocker, Stands, Way, free_channel, ways_of};
 use pack_defs::book::Book;
 use pack_defs::channel_map::ChannelMap;
@@ -14,13 +19,21 @@ pub(crate) struct Proposal {
 
 impl Proposal {
     /// The channels that it changes, ascending by station. The only error is want of memory.
-    pub(crate) fn changes(self, alloc: Global) -> Result<ChannelMap, NoMemory> {
+    #[tactic(auto, using(crate::proofs::FreeLemmas::changing))]
+    pub(crate) fn changes(self, alloc: Global) -> Result<ChannelMap, NoMemory>
+        ensures { IfOk result (λ map. map ≡ changed self.own self.moved) }
+    {
         let own = self.own;
-        match self.moved {
-            Some(moved) if moved.0 < own.0 => ChannelMap::of(alloc, &[moved, own]),
-            Some(moved) if own.0 < moved.0 => ChannelMap::of(alloc, &[own, moved]),
-            _ => ChannelMap::of(alloc, &[own]),
+        let Some(moved) = self.moved else {
+            return ChannelMap::of(alloc, &[own]);
+        };
+        if own.0 < moved.0 {
+            return ChannelMap::of(alloc, &[own, moved]);
         }
+        if own.0 == moved.0 {
+            return ChannelMap::of(alloc, &[own]);
+        }
+        ChannelMap::of(alloc, &[moved, own])
     }
 }
 
@@ -32,7 +45,9 @@ pub(crate) fn propose(
     book: &Book,
     map: &ChannelMap,
     s: u32,
-) -> Result<Option<Proposal>, NoMemory> {
+) -> Result<Option<Proposal>, NoMemory>
+    ensures { (c : ℕ) → is_in (domain_of book.now s) c ≡ true → is_free book.now map.now s c ≡ true → IfOk result (IsFreeProposal book.now map.now s) }
+{
     let ways = ways_of(alloc, book, Stands { map, moved: None }, s)?;
     if let Some(c) = free_channel(book.domain(s), &ways) {
         return Ok(Some(Proposal {

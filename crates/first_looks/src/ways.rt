@@ -1,5 +1,11 @@
 //! What a station meets on each channel: who stands in its way there, and how much its neighbours want it.
 
+ghost use Rattle.std.specs.Prelude.{ℕ, ◌≡◌, ◌==◌, ◌&&◌, ◌||◌, ◌⊎◌, IfOk, IfSome, Some, false, filter, length, not, true};
+ghost use Rattle.std.specs.List.{list_any};
+ghost use Rattle.std.specs.Option.{is_some};
+ghost use Rattle.pack_defs.specs.Lists.{has_entry, is_in};
+ghost use Rattle.first_looks.specs.Free.{AreWays, blocks_first, blocks_second, is_no, is_open, stood, way_at};
+
 use pack_defs::book::Book;
 use pack_defs::channel_map::ChannelMap;
 use std::alloc::{AllocError as NoMemory, Global};
@@ -29,49 +35,98 @@ pub(crate) struct Stands<'a> {
 
 impl<'a> Stands<'a> {
     // Whether the station is on this channel.
-    fn is_on(&self, s: u32, c: u8) -> bool {
-        match self.moved {
-            Some(x) if x.0 == s => x.1 == c,
-            _ => self.map.get(s) == Some(c),
+    #[tactic(auto, using(crate::proofs::FreeLemmas::moved))]
+    fn is_on(&self, s: u32, c: u8) -> bool
+        ensures { result ≡ has_entry (stood self.now.map.now self.now.moved) (s, c) }
+    {
+        // The map ascends, as `len` says.
+        let _stations = self.map.len();
+        let Some(x) = self.moved else {
+            return self.map.has(s, c);
+        };
+        if x.0 == s {
+            return x.1 == c;
         }
+        self.map.has(s, c)
     }
 }
 
-/// What a station meets on each channel, from channel 0 up to the book's top one, where others stand so. It costs a pass over
-/// the station's pairs, and a search by halves for each. The only error is want of memory.
+// So many channels have a number.
+const CHANNELS: usize = 256;
+
+/// What a station meets on each channel, from channel 0 on, where others stand so. It costs a pass over the station's pairs,
+/// and a search by halves for each. The only error is want of memory.
 pub(crate) fn ways_of(
     alloc: Global,
     book: &Book,
     stands: Stands,
     s: u32,
-) -> Result<Vec<Way>, NoMemory> {
+) -> Result<Vec<Way>, NoMemory>
+    ensures { IfOk result (λ ways. AreWays book.now (stood stands.entry.map.now stands.entry.moved) s ways.items) }
+{
     let open = Way {
         blocker: Blocker::No,
         pairs: 0,
     };
-    let mut ways = vec![in alloc; open; book.top() as usize + 1]?;
-    for p in book.pairs_from(s) {
-        meet(&mut ways, p.a, p.g, stands.is_on(p.g, p.b));
-    }
-    for p in book.pairs_to(s) {
-        meet(&mut ways, p.b, p.f, stands.is_on(p.f, p.a));
-    }
+    let mut ways = vec![in alloc; open; CHANNELS]?;
+    meet_first(&mut ways, book, stands, s);
+    meet_second(&mut ways, book, stands, s);
     Ok(ways)
 }
 
+// Notes the pairs whose first station this is.
+fn meet_first(ways: &mut [Way], book: &Book, stands: Stands, s: u32)
+    requires { length ways.old ≡ 256 }
+    ensures size { length ways.new ≡ 256 }
+    ensures way { (c : ℕ) → is_open (way_at ways.new c) ≡ (is_open (way_at ways.old c) && not (list_any (blocks_first (stood stands.entry.map.now stands.entry.moved) c) (filter (λ p. p.f == s) book.now.pairs))) }
+{
+    for p in book.pairs_from(s) {
+        meet(ways, p.a, p.g, stands.is_on(p.g, p.b));
+    }
+}
+
+// Notes the pairs whose second station this is.
+fn meet_second(ways: &mut [Way], book: &Book, stands: Stands, s: u32)
+    requires { length ways.old ≡ 256 }
+    ensures size { length ways.new ≡ 256 }
+    ensures way { (c : ℕ) → is_open (way_at ways.new c) ≡ (is_open (way_at ways.old c) && not (list_any (blocks_second (stood stands.entry.map.now stands.entry.moved) c) (filter (λ p. p.g == s) book.now.pairs))) }
+{
+    for p in book.pairs_to(s) {
+        meet(ways, p.b, p.f, stands.is_on(p.f, p.a));
+    }
+}
+
 // Notes a pair on a channel, whose other station stands in the way or not.
-fn meet(ways: &mut [Way], channel: u8, other: u32, blocks: bool) {
-    let Some(way) = ways.get_mut(channel as usize) else {
-        return;
-    };
-    way.pairs = way.pairs.saturating_add(1);
-    if blocks {
-        way.blocker = joined(way.blocker, other);
+fn meet(ways: &mut [Way], channel: u8, other: u32, blocks: bool)
+    requires { length ways.old ≡ 256 }
+    ensures size { length ways.new ≡ 256 }
+    ensures way { (c : ℕ) → is_open (way_at ways.new c) ≡ (is_open (way_at ways.old c) && not ((channel == c) && blocks)) }
+{
+    let at = channel as usize;
+    ways[at] = met(ways[at], other, blocks);
+}
+
+// What a station meets with one pair more, whose other station stands in the way or not.
+fn met(way: Way, other: u32, blocks: bool) -> Way
+    ensures { is_open result ≡ (is_open way && not blocks) }
+{
+    let pairs = way.pairs.saturating_add(1);
+    if !blocks {
+        return Way {
+            blocker: way.blocker,
+            pairs,
+        };
+    }
+    Way {
+        blocker: joined(way.blocker, other),
+        pairs,
     }
 }
 
 // Who stands in the way where this station does, too.
-fn joined(blocker: Blocker, other: u32) -> Blocker {
+fn joined(blocker: Blocker, other: u32) -> Blocker
+    ensures { is_no result ≡ false }
+{
     match blocker {
         Blocker::No => Blocker::One(other),
         Blocker::One(same) if same == other => blocker,
@@ -81,17 +136,44 @@ fn joined(blocker: Blocker, other: u32) -> Blocker {
 
 /// The channel of a domain on which nobody stands in the way, and of these the one that the fewest pairs are on, the lowest
 /// where several are.
-pub(crate) fn free_channel(domain: &[u8], ways: &[Way]) -> Option<u8> {
+pub(crate) fn free_channel(domain: &[u8], ways: &[Way]) -> Option<u8>
+    requires { length ways.now ≡ 256 }
+    ensures some { is_some result ≡ list_any (λ c. is_open (way_at ways.now c)) domain.now }
+    ensures free { IfSome result (λ c. (is_in domain.now c ≡ true) × (is_open (way_at ways.now c) ≡ true)) }
+{
     let mut best = None;
-    let mut least = u32::MAX;
     for c in domain {
-        let Some(way) = ways.get(*c as usize) else {
-            continue;
-        };
-        if way.blocker == Blocker::No && way.pairs < least {
-            least = way.pairs;
-            best = Some(*c);
-        }
+        best = better(ways, best, *c);
     }
     best
+}
+
+// The channel that is wanted less: the best one so far or the next one, if nobody stands in the way there.
+fn better(ways: &[Way], best: Option<u8>, next: u8) -> Option<u8>
+    requires { length ways.now ≡ 256 }
+    ensures some { is_some result ≡ (is_some best || is_open (way_at ways.now next)) }
+    ensures which { (result ≡ best) ⊎ ((result ≡ Some next) × (is_open (way_at ways.now next) ≡ true)) }
+{
+    let way = ways[next as usize];
+    if !is_no(way.blocker) {
+        return best;
+    }
+    let Some(least) = best else {
+        return Some(next);
+    };
+    if ways[least as usize].pairs <= way.pairs {
+        return best;
+    }
+    Some(next)
+}
+
+// Whether nobody stands in the way.
+fn is_no(blocker: Blocker) -> bool
+    ensures { result ≡ is_no blocker }
+{
+    match blocker {
+        Blocker::No => true,
+        Blocker::One(_) => false,
+        Blocker::Many => false,
+    }
 }
