@@ -1,8 +1,12 @@
 -- What a search comes to.
-use Rattle.std.specs.Prelude.{ℕ, ◌≡◌, ◌≢◌, ◌<◌, ◌+◌, true, length, Option, Some, None}
+use Rattle.std.specs.Prelude.{ℕ, ◌≡◌, ◌≢◌, ◌<◌, ◌+◌, not, true, length, List, Option, Some, None}
+use Rattle.std.specs.List.{list_all}
 use Rattle.clause_db.specs.Clause.{clause_at, is_empty_clause}
 use Rattle.rup_check.specs.declared.line.Line.{Line}
 use Rattle.rup_check.specs.Follows.{line_fault}
+use Rattle.pack_defs.specs.Lists.{has_entry}
+use Rattle.cert_types.specs.declared.answer.Answer.{Answer}
+use Rattle.cert_types.specs.declared.answer.Answer.TheVariants as answer
 use Rattle.trail_prop.specs.declared.entry.Conflict.{Conflict}
 use Rattle.trail_prop.specs.Entries.{lits_of}
 use Rattle.trail_prop.specs.Open.{IsComplete}
@@ -41,3 +45,9 @@ OutcomeIs d budget number last outcome.Model = IsModel d
 OutcomeIs d budget number last (outcome.Refuted line) = IsLast d line × (length d.lines < budget)
 OutcomeIs d budget number last outcome.Spent = length d.lines ≡ budget
 OutcomeIs d budget number last (outcome.Moved now) = (last ≡ now) × (now ≢ number)
+
+-- the answer is a fit, and names no station with the channel that it has in the last map: each has another there, or none
+abbrev pub IsFitOfChanges : List (ℕ × ℕ) → Answer → Type 0
+IsFitOfChanges last (answer.Fit d) = list_all (λ x. not (has_entry last x)) d ≡ true
+IsFitOfChanges last (answer.Refuted refutation) = ⊥
+IsFitOfChanges last (answer.Spent receipt) = ⊥

@@ -11,7 +11,7 @@ ghost use Rattle.cert_types.specs.Valid.{IsValid, learns};
 ghost use Rattle.cnf_encode.specs.Decode.{listed};
 ghost use Rattle.trail_prop.specs.Entries.{lits_of};
 ghost use Rattle.cdcl_prove.specs.Formulas.{IsFormulaOf};
-ghost use Rattle.cdcl_prove.specs.Search.{IsLast, IsModel};
+ghost use Rattle.cdcl_prove.specs.Search.{IsFitOfChanges, IsLast, IsModel};
 
 use crate::derivation::Derivation;
 use cert_types::answer::{Answer, Receipt, Refutation};
@@ -35,7 +35,8 @@ pub(crate) fn fit(
     requires query { IsQuery book.now task.now }
     requires formula { IsFormulaOf book.now task.now.set derivation.now.formula }
     requires model { IsModel derivation.now }
-    ensures { (worker : Worker) → IfOk result (λ answer. IsValid book.now task.now worker answer) }
+    ensures valid { (worker : Worker) → IfOk result (λ answer. IsValid book.now task.now worker answer) }
+    ensures changes { IfOk result (λ answer. IsFitOfChanges task.now.last answer) }
 {
     let model = values(alloc, derivation.trail())?;
     let map = decode(alloc, book, task.set.as_slice(), &model)?;

@@ -9,16 +9,18 @@ ghost use Rattle.cdcl_prove.specs.Formulas.{IsFormulaOf};
 
 use crate::answers::{fit, receipt, refutation};
 use crate::guide::Guide;
-use crate::part::around;
+use crate::kept::{Asked, ask};
 use crate::search::Search;
 use crate::solve::{Outcome, solve};
-use crate::ties::Ties;
 use cert_types::answer::Answer;
 use cert_types::poll::{Attempt, Poll};
 use cert_types::task::Task;
 use cnf_encode::encode::encode;
 use first_looks::looks::{FirstLooks, Looked};
+use kept_search::searcher::Searcher;
+use kept_search::ties::Ties;
 use pack_defs::book::Book;
+use pack_defs::channel_map::ChannelMap;
 use pack_defs::worker::{Kind, Worker};
 use std::alloc::{AllocError as NoMemory, Global};
 use std::marker::Model;
@@ -29,6 +31,19 @@ use std::marker::Model;
 pub struct Cdcl {
     worker: Worker,
     looks: FirstLooks,
+    searcher: Searcher,
+    searched: Searched,
+}
+
+/// How many queries that no first look answered came to what. A count that is full stays.
+#[derive(Clone, Copy, Debug, PartialEq, Eq)]
+pub struct Searched {
+    /// A fit of the searcher that is kept from query to query.
+    pub fits: u64,
+    /// Its refutation.
+    pub refuted: u64,
+    /// It came to no answer that was let through, so that a search began from nothing.
+    pub left: u64,
 }
 
 impl Model for Cdcl {
@@ -53,6 +68,12 @@ impl Cdcl {
         Ok(Cdcl {
             worker: *worker,
             looks: FirstLooks::new(alloc),
+            searcher: Searcher::new(worker.seed),
+            searched: Searched {
+                fits: 0,
+                refuted: 0,
+                left: 0,
+            },
         })
     }
 
@@ -61,18 +82,28 @@ impl Cdcl {
         self.looks.looked()
     }
 
+    /// How many queries the kept searcher answered so far, and how many it left.
+    pub fn searched(&self) -> Searched {
+        self.searched
+    }
+
     /// Tries to answer a query. It looks first whether the tested station's last fit still fits, whether the station has a
     /// free channel, and whether one station can make way for it; only then it searches. What it says is valid for the book,
     /// the query and its worker: the channels that make the last map one of the set; a proof that the set does not fit, of at
     /// most the worker's budget of lines; or, where so many lines are learnt, a receipt of them. Where the poll answers that
-    /// another query stands, it stops. It searches at most twice, and in each search the poll is asked before the first line,
-    /// and then after each 16. A search begins anew, so that it can be called again whatever it answered. Of each station what
-    /// its last fit changed is kept for its next query.
+    /// another query stands, it stops. Of each station what its last fit changed is kept for its next query.
+    ///
+    /// It searches first with what it learnt from the queries before, by two policies, each up to as many conflicts as the
+    /// budget has lines for each station without a channel; a proof that is long, or longer than the budget, is searched for
+    /// once or twice more. What that suggests is checked before it is said. Where it comes to no answer, a search begins anew,
+    /// with the whole budget: over the stations that it says do not fit, if it does, and then over the whole set, of which a
+    /// receipt always is. In each search the poll is asked before the first line and then after each 16.
     ///
     /// The seed decides which of two variables comes first that are equally active. With seed 0 nothing is left to chance:
     /// that is their places in a heap, which begins in the variables' order. Any other seed gives each variable an activity
-    /// by chance, in the stream of the query's number, that is below what a preference or a conflict adds. So a search for the
-    /// same query learns the same lines each time.
+    /// by chance that is below what a preference or a conflict adds: once for the searcher that is kept, and in the stream of
+    /// the query's number for a search that begins anew. So a solver that is asked the same queries in the same order learns
+    /// the same lines each time.
     ///
     /// # Errors
     ///
@@ -92,13 +123,73 @@ impl Cdcl {
         if let Some(fit) = self.looks.look(alloc, book, task)? {
             return Ok(Attempt::Said(Answer::Fit(fit)));
         }
-        if let Some(attempt) = attempt_part(alloc, book, task, self.worker, poll)? {
-            return Ok(attempt);
-        }
-        let attempt = attempt_whole(alloc, book, task, self.worker, poll)?;
+        let attempt = self.search(alloc, book, task, poll)?;
         keep_fit(alloc, &mut self.looks, task.station, &attempt);
         Ok(attempt)
     }
+
+    // Tries to answer a query by a search: by the searcher that is kept; where what it says is not let through, by a search
+    // over the stations that it named; and else over the whole set.
+    fn search<P: Poll>(
+        &mut self,
+        alloc: Global,
+        book: &Book,
+        task: &Task,
+        poll: &mut P,
+    ) -> Result<Attempt, NoMemory>
+        requires { IsQuery book.now task.now }
+        ensures said { IfOk result (λ attempt. AttemptIs book.now task.now self.new (P.last poll.new) attempt) }
+        ensures worker { self.new ≡ self.old }
+        ensures goes { P.goes poll.old poll.new }
+    {
+        let from = kept_fit(&self.looks, task.station);
+        let asked = ask(
+            alloc,
+            book,
+            task,
+            self.worker,
+            from,
+            &mut self.searcher,
+            poll,
+        )?;
+        self.searched = counted(self.searched, &asked);
+        match asked {
+            Asked::Came(attempt) => return Ok(attempt),
+            Asked::Open => {}
+            Asked::Part(part) => {
+                if let Some(attempt) = attempt_within(
+                    alloc,
+                    book,
+                    task,
+                    &part,
+                    self.worker,
+                    poll,
+                )? {
+                    return Ok(attempt);
+                }
+            }
+        }
+        attempt_whole(alloc, book, task, self.worker, poll)
+    }
+}
+
+// The counts, once the searcher was asked once more.
+fn counted(searched: Searched, asked: &Asked) -> Searched {
+    let mut searched = searched;
+    match asked {
+        Asked::Came(Attempt::Said(Answer::Fit(_))) => {
+            searched.fits = searched.fits.saturating_add(1);
+        }
+        Asked::Came(Attempt::Said(_)) => searched.refuted = searched.refuted.saturating_add(1),
+        Asked::Came(Attempt::Moved { now: _ }) => {}
+        Asked::Part(_) | Asked::Open => searched.left = searched.left.saturating_add(1),
+    }
+    searched
+}
+
+// What the tested station's last fit changed.
+fn kept_fit(looks: &FirstLooks, station: Option<u32>) -> Option<&ChannelMap> {
+    looks.kept(station?)
 }
 
 // Keeps what a fit of the tested station changed, for the first look at its next test.
@@ -109,27 +200,6 @@ fn keep_fit(alloc: Global, looks: &mut FirstLooks, station: Option<u32>, attempt
     if let Attempt::Said(Answer::Fit(fit)) = attempt {
         looks.keep(alloc, s, fit);
     }
-}
-
-// Tries to refute the tested station with those that interfere with it, by at most a hundredth of the budget. Where that
-// leaves it open, none of its lines is kept.
-fn attempt_part<P: Poll>(
-    alloc: Global,
-    book: &Book,
-    task: &Task,
-    worker: Worker,
-    poll: &mut P,
-) -> Result<Option<Attempt>, NoMemory>
-    requires query { IsQuery book.now task.now }
-    requires learner { learns worker.kind ≡ true }
-    ensures said { IfOk result (λ r. IfSome r (λ attempt. AttemptIs book.now task.now worker (P.last poll.new) attempt)) }
-    ensures goes { P.goes poll.old poll.new }
-{
-    let Some(station) = task.station else {
-        return Ok(None);
-    };
-    let part = around(alloc, book, task, station)?;
-    attempt_within(alloc, book, task, &part, worker, poll)
 }
 
 // Tries to refute a part of the set.
@@ -147,7 +217,7 @@ fn attempt_within<P: Poll>(
     ensures goes { P.goes poll.old poll.new }
 {
     let mut search = begin(alloc, book, task, part, worker.seed)?;
-    let outcome = solve(alloc, &mut search, worker.budget / 100, task.number, poll)?;
+    let outcome = solve(alloc, &mut search, worker.budget, task.number, poll)?;
     match outcome {
         Outcome::Model | Outcome::Spent => Ok(None),
         Outcome::Refuted(last) => {

@@ -4,12 +4,15 @@ ghost use Rattle.std.specs.Prelude.{ℕ, ◌≡◌, ◌≤◌, IfSome};
 ghost use Rattle.trail_prop.specs.Entries.{lits_of};
 ghost use Rattle.cdcl_prove.specs.Picks.{IsOpenVariable, PickIs, VariableIs};
 
-use crate::order::Order;
-use crate::ties::Ties;
 use clause_db::lit::Lit;
+use kept_search::order::Order;
+use kept_search::ties::Ties;
 use std::alloc::{AllocError as NoMemory, Global};
 use trail_prop::entry::Entry;
 use trail_prop::trail::Trail;
+
+// A conflict makes the variables that it meets more active by so much more than the conflict before did.
+const DECAY: f64 = 0.95;
 
 /// What guides the search: the order in which variables are decided, the value that each is tried with first, and the
 /// level at which each got its value. Nothing that the solver says rests on it.
@@ -31,7 +34,7 @@ impl Guide {
         let mut levels = Vec::new(alloc);
         levels.resize(vars as usize + 1, 0)?;
         Ok(Guide {
-            order: Order::new(alloc, vars, ties)?,
+            order: ordered(alloc, vars, ties)?,
             phases,
             levels,
             noted: 0,
@@ -135,6 +138,17 @@ impl Guide {
             self.phases[v] = phase;
         }
     }
+}
+
+// The variables from 1 to so many, each as active as the ties draw it; where that is alike, in their order.
+fn ordered(alloc: Global, vars: u32, ties: Ties) -> Result<Order, NoMemory> {
+    let mut ties = ties;
+    let mut order = Order::new(alloc, vars, DECAY)?;
+    for v in 0..vars {
+        order.raise(v + 1, ties.draw());
+        order.put(v + 1)?;
+    }
+    Ok(order)
 }
 
 // The first variable that has no value.

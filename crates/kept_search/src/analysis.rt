@@ -1,0 +1,187 @@
+//! What is learnt from a conflict: a line that says that some literals are not all false, by the first unique implication
+//! point, with the hints by which it follows.
+//!
+//! From the false clause on, each literal of the last level is replaced by those that made it false, the latest first, until
+//! one of that level is left. A literal that follows from others of the line is left out. The hints are the reasons of all that
+//! the false clause needs where the line's literals are false, in the order of the trail, and the clause itself.
+
+use crate::cells::{read, short, write};
+use crate::engine::Engine;
+use crate::hint::{Hint, Reason};
+use crate::literal::Literal;
+use crate::marks::Mark;
+use std::alloc::AllocError as NoMemory;
+
+// Facts come before this rank, by their lines, and behind it the literals as they came to the trail.
+const LITERALS: u64 = 1 << 32;
+
+impl Engine {
+    /// Makes the line and the hints of a conflict above level 0. The line's first literal is the one to become true, and its
+    /// second one of the highest level among the others, which is the level to go back to.
+    pub(crate) fn analyse(&mut self, conflict: Reason) -> Result<u32, NoMemory> {
+        self.resolve(conflict)?;
+        self.minimise();
+        self.marks.clear();
+        self.gather_hints(conflict)?;
+        self.marks.clear();
+        self.play.order.age();
+        self.clauses.age();
+        Ok(self.second_level())
+    }
+
+    /// Of how many levels the line's literals are.
+    pub(crate) fn glue(&mut self) -> u32 {
+        self.marks.begin_count();
+        let mut glue: u32 = 0;
+        for literal in &self.line {
+            if self.marks.is_new(self.trail.level_of(literal.var())) {
+                glue = glue.saturating_add(1);
+            }
+        }
+        glue
+    }
+
+    // The line as the conflict says it.
+    fn resolve(&mut self, conflict: Reason) -> Result<(), NoMemory> {
+        self.line.clear();
+        self.line.push(Literal::of(0))?;
+        let mut open = self.meet_all(conflict)?;
+        for place in (0..self.trail.len()).rev() {
+            let literal = self.trail.at(place);
+            let var = literal.var();
+            if self.marks.of(var) != Mark::Met {
+                continue;
+            }
+            open = open.saturating_sub(1);
+            if open == 0 {
+                write(&mut self.line, 0, literal.opposite());
+                break;
+            }
+            self.marks.change(var, Mark::Resolved);
+            let reason = self.trail.reason_of(var);
+            open = open.saturating_add(self.meet_all(reason)?);
+        }
+        self.marks.forget_resolved();
+        Ok(())
+    }
+
+    // Meets each variable of a reason that is unmet and no fact. How many of them are of the last level.
+    fn meet_all(&mut self, reason: Reason) -> Result<u32, NoMemory> {
+        if let Reason::Clause { at } = reason {
+            if let Hint::Line(_) = self.clauses.name(at) {
+                self.clauses.meet(at);
+            }
+        }
+        let last = self.trail.level();
+        let mut open: u32 = 0;
+        for place in 0..self.size(reason) {
+            let literal = self.literal(reason, place);
+            let var = literal.var();
+            let level = self.trail.level_of(var);
+            if level == 0 || self.marks.of(var) != Mark::Unmet {
+                continue;
+            }
+            self.marks.mark(var, Mark::Met)?;
+            self.play.order.raise(var, 1.0);
+            if level >= last {
+                open = open.saturating_add(1);
+            } else {
+                self.line.push(literal)?;
+            }
+        }
+        Ok(open)
+    }
+
+    // Leaves out each literal but the first whose reason is made of others of the line and of facts.
+    fn minimise(&mut self) {
+        let mut kept: u32 = 1;
+        for place in 1..short(self.line.len()) {
+            let literal = read(&self.line, place, Literal::of(0));
+            if self.is_needed(literal.var()) {
+                write(&mut self.line, kept, literal);
+                kept = kept.saturating_add(1);
+            }
+        }
+        self.line.truncate(kept as usize);
+    }
+
+    // Whether the reason of a variable has a literal that neither the line nor a fact makes false.
+    fn is_needed(&self, var: u32) -> bool {
+        let reason = self.trail.reason_of(var);
+        if reason == Reason::Chosen {
+            return true;
+        }
+        for place in 0..self.size(reason) {
+            let other = self.literal(reason, place).var();
+            if other != var
+                && self.trail.level_of(other) > 0
+                && self.marks.of(other) == Mark::Unmet
+            {
+                return true;
+            }
+        }
+        false
+    }
+
+    // The hints, once the line stands.
+    fn gather_hints(&mut self, conflict: Reason) -> Result<(), NoMemory> {
+        for place in 0..short(self.line.len()) {
+            let var = read(&self.line, place, Literal::of(0)).var();
+            self.marks.mark(var, Mark::InLine)?;
+        }
+        self.marks.begin_hints();
+        self.need_all(conflict)?;
+        for _ in 0..self.trail.vars() {
+            let Some(var) = self.marks.next_waiting() else {
+                break;
+            };
+            let reason = self.trail.reason_of(var);
+            self.need_all(reason)?;
+        }
+        self.marks.list_hints(&mut self.hints)?;
+        let last = self.name(conflict);
+        self.hints.push(last)?;
+        Ok(())
+    }
+
+    // Each variable of a reason that is neither in the line nor needed yet is needed.
+    fn need_all(&mut self, reason: Reason) -> Result<(), NoMemory> {
+        for place in 0..self.size(reason) {
+            let var = self.literal(reason, place).var();
+            if self.marks.of(var) == Mark::Unmet {
+                self.need(var)?;
+            }
+        }
+        Ok(())
+    }
+
+    fn need(&mut self, var: u32) -> Result<(), NoMemory> {
+        self.marks.mark(var, Mark::Met)?;
+        if self.trail.level_of(var) == 0 {
+            if let Some(line) = self.lines.fact(var) {
+                self.marks.need(line as u64, Hint::Line(line))?;
+            }
+            return Ok(());
+        }
+        let hint = self.name(self.trail.reason_of(var));
+        let rank = LITERALS + self.trail.place_of(var) as u64;
+        self.marks.need(rank, hint)?;
+        self.marks.wait(var)
+    }
+
+    // Brings a literal of the highest level but the first's to the second place. That level, or 0 where there is none.
+    fn second_level(&mut self) -> u32 {
+        let mut highest: u32 = 0;
+        for place in 1..short(self.line.len()) {
+            let literal = read(&self.line, place, Literal::of(0));
+            let level = self.trail.level_of(literal.var());
+            if level > highest {
+                highest = level;
+                let second = read(&self.line, 1, literal);
+                write(&mut self.line, 1, literal);
+                write(&mut self.line, place, second);
+            }
+        }
+        highest
+    }
+}

@@ -1,0 +1,186 @@
+//! The searcher itself: what it knows of the stations, and the steps that its parts are made of.
+
+use crate::clauses::Clauses;
+use crate::grid::Grid;
+use crate::hint::{Hint, Reason};
+use crate::lines::Lines;
+use crate::literal::Literal;
+use crate::marks::Marks;
+use crate::play::{NOBODY, Play};
+use crate::policy::{LINES_BETWEEN, Policy};
+use crate::restarts::Restarts;
+use crate::ties::Ties;
+use crate::trail::Trail;
+use std::alloc::{AllocError as NoMemory, Global};
+
+/// A conflict-driven search over the stations of a book. Variables are the channels of each station, and behind them one for
+/// each station that says that it is in the set. That no station stands on two channels, and that no pair does, is not stored
+/// in clauses: a channel that becomes true makes the others false.
+#[derive(Drop)]
+pub(crate) struct Engine {
+    pub(crate) grid: Grid,
+    pub(crate) trail: Trail,
+    pub(crate) clauses: Clauses,
+    pub(crate) lines: Lines,
+    pub(crate) play: Play,
+    pub(crate) marks: Marks,
+    pub(crate) policy: Policy,
+    pub(crate) restarts: Restarts,
+    pub(crate) is_due: bool,
+    // The line in the making.
+    pub(crate) line: Vec<Literal>,
+    pub(crate) hints: Vec<Hint>,
+    // Above so many stored lines, some are dropped at the next restart.
+    pub(crate) room: usize,
+    // What is known is at odds with itself.
+    pub(crate) is_lost: bool,
+    // The stations of the query, of them the tested one, and those that wait for their test, the next one last.
+    pub(crate) set: Vec<u32>,
+    pub(crate) tested: u32,
+    pub(crate) waiting: Vec<u32>,
+}
+
+impl Engine {
+    /// Nothing is known but the stations, and none is on air.
+    pub(crate) fn new(alloc: Global, grid: Grid, policy: Policy) -> Result<Engine, NoMemory> {
+        let vars = grid.vars().saturating_add(grid.stations());
+        Ok(Engine {
+            trail: Trail::new(alloc, vars)?,
+            clauses: Clauses::new(alloc, vars)?,
+            lines: Lines::new(alloc, vars)?,
+            play: Play::new(alloc, grid.stations(), vars)?,
+            marks: Marks::new(alloc, vars)?,
+            restarts: Restarts::new(policy.restart_unit),
+            policy,
+            is_due: false,
+            line: Vec::new(alloc),
+            hints: Vec::new(alloc),
+            room: LINES_BETWEEN,
+            is_lost: false,
+            set: Vec::new(alloc),
+            tested: NOBODY,
+            waiting: Vec::new(alloc),
+            grid,
+        })
+    }
+
+    /// Lets a seed other than 0 break ties by chance.
+    pub(crate) fn scatter(&mut self, seed: u64) {
+        if seed != 0 {
+            let ties = Ties::new(seed, 0);
+            self.play.order.scatter(self.grid.vars(), ties);
+        }
+    }
+
+    /// The variable that says that a station is in the set.
+    pub(crate) fn selector(&self, station: u32) -> u32 {
+        self.grid.vars().saturating_add(station)
+    }
+
+    /// Whether a variable is of a channel.
+    pub(crate) fn is_channel(&self, var: u32) -> bool {
+        var < self.grid.vars()
+    }
+
+    /// Makes an open literal true. At level 0 that is a fact, and gets a line.
+    pub(crate) fn assign(&mut self, literal: Literal, reason: Reason) -> Result<(), NoMemory> {
+        self.trail.push(literal, reason)?;
+        if literal.is_negated() {
+            self.disturb_owner(literal.var())?;
+        }
+        if self.trail.level() == 0 && reason != Reason::Chosen {
+            self.note_fact(literal, reason)?;
+        }
+        Ok(())
+    }
+
+    /// A station comes into play: its variables can be decided, and at first it is tried on its last channel.
+    pub(crate) fn disturb(&mut self, station: u32) -> Result<(), NoMemory> {
+        if self.play.bring_in(station)? {
+            let channel = self.play.standing(station).channel;
+            for var in self.grid.vars_of(station) {
+                self.play.set_phase(var, var == channel);
+            }
+        }
+        for var in self.grid.vars_of(station) {
+            if self.trail.is_open(var) {
+                self.play.order.put(var)?;
+            }
+        }
+        Ok(())
+    }
+
+    /// Takes back all levels above one.
+    pub(crate) fn go_back(&mut self, level: u32) -> Result<(), NoMemory> {
+        for _ in 0..self.trail.len() {
+            let Some(literal) = self.trail.take_back(level) else {
+                break;
+            };
+            let var = literal.var();
+            self.play.set_phase(var, !literal.is_negated());
+            if self.is_channel(var) && self.play.standing(self.grid.owner(var)).in_play {
+                self.play.order.put(var)?;
+            }
+        }
+        self.trail.end_levels(level);
+        Ok(())
+    }
+
+    /// The clause that a reason is, as a hint.
+    pub(crate) fn name(&self, reason: Reason) -> Hint {
+        match reason {
+            Reason::Chosen => Hint::Line(u32::MAX),
+            Reason::Pair { v, w } => Hint::Pair { v, w },
+            Reason::Clause { at } => self.clauses.name(at),
+        }
+    }
+
+    /// How many literals a reason has.
+    pub(crate) fn size(&self, reason: Reason) -> u32 {
+        match reason {
+            Reason::Chosen => 0,
+            Reason::Pair { v: _, w: _ } => 2,
+            Reason::Clause { at } => self.clauses.size(at),
+        }
+    }
+
+    /// A literal of a reason, from 0.
+    pub(crate) fn literal(&self, reason: Reason, place: u32) -> Literal {
+        match reason {
+            Reason::Chosen => Literal::of(0),
+            Reason::Pair { v, w } => Literal::against(if place == 0 { v } else { w }),
+            Reason::Clause { at } => self.clauses.literal(at, place),
+        }
+    }
+
+    // The station of a variable that became false comes into play, where that was its last channel.
+    fn disturb_owner(&mut self, var: u32) -> Result<(), NoMemory> {
+        if !self.is_channel(var) {
+            return Ok(());
+        }
+        let station = self.grid.owner(var);
+        let standing = self.play.standing(station);
+        if standing.channel == var && standing.in_set {
+            self.disturb(station)?;
+        }
+        Ok(())
+    }
+
+    // A line that says one literal, by the facts before it and its reason.
+    fn note_fact(&mut self, literal: Literal, reason: Reason) -> Result<(), NoMemory> {
+        self.hints.clear();
+        for place in 0..self.size(reason) {
+            let var = self.literal(reason, place).var();
+            if var != literal.var() {
+                if let Some(line) = self.lines.fact(var) {
+                    self.hints.push(Hint::Line(line))?;
+                }
+            }
+        }
+        let name = self.name(reason);
+        self.hints.push(name)?;
+        let number = self.lines.add(&[literal], &self.hints)?;
+        self.lines.set_fact(literal.var(), number);
+        Ok(())
+    }
+}

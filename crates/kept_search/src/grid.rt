@@ -1,0 +1,228 @@
+//! A book as numbers: a place for each station, a variable for each of its channels, and of each variable those that
+//! interfere with it.
+
+use crate::cells::{filled, part, read, short, write};
+use pack_defs::book::Book;
+use std::alloc::{AllocError as NoMemory, Global};
+use std::ops::Range;
+
+/// Stations from 0 and variables from 0, both in the order of the book. The lists of rivals are made once and lie flat.
+#[derive(Drop)]
+pub(crate) struct Grid {
+    facilities: Vec<u32>,
+    // Of each station its first variable, and behind the last how many there are.
+    firsts: Vec<u32>,
+    // Of each variable its station and its channel.
+    owners: Vec<u32>,
+    channels: Vec<u8>,
+    // Of each variable where its rivals begin, and behind the last how many there are.
+    begins: Vec<u32>,
+    rivals: Vec<u32>,
+    top: u8,
+    pairs: usize,
+}
+
+// Two variables that interfere.
+#[derive(Clone, Copy)]
+struct Couple {
+    v: u32,
+    w: u32,
+}
+
+impl Grid {
+    /// The numbers of a book.
+    pub(crate) fn of(alloc: Global, book: &Book) -> Result<Grid, NoMemory> {
+        let mut grid = Grid::empty(alloc, book.top(), book.pairs().len());
+        for place in 0..book.len() {
+            grid.add_station(place, book)?;
+        }
+        let vars = grid.vars();
+        grid.firsts.push(vars)?;
+        let couples = grid.couples(alloc, book)?;
+        grid.add_rivals(alloc, &couples)?;
+        Ok(grid)
+    }
+
+    /// The same of some of the stations alone, which ascend.
+    pub(crate) fn part(&self, alloc: Global, stations: &[u32]) -> Result<Grid, NoMemory> {
+        let mut grid = Grid::empty(alloc, self.top, self.pairs);
+        let mut numbers = filled(alloc, self.vars(), u32::MAX)?;
+        for (place, station) in stations.iter().enumerate() {
+            let first = grid.vars();
+            grid.facilities.push(self.facility(*station))?;
+            grid.firsts.push(first)?;
+            for var in self.vars_of(*station) {
+                write(&mut numbers, var, grid.vars());
+                grid.owners.push(short(place))?;
+                grid.channels.push(self.channel(var))?;
+            }
+        }
+        let vars = grid.vars();
+        grid.firsts.push(vars)?;
+        for station in stations {
+            for var in self.vars_of(*station) {
+                let begin = short(grid.rivals.len());
+                grid.begins.push(begin)?;
+                for other in self.rival_list(var) {
+                    let number = read(&numbers, *other, u32::MAX);
+                    if number != u32::MAX {
+                        grid.rivals.push(number)?;
+                    }
+                }
+            }
+        }
+        let end = short(grid.rivals.len());
+        grid.begins.push(end)?;
+        Ok(grid)
+    }
+
+    fn empty(alloc: Global, top: u8, pairs: usize) -> Grid {
+        Grid {
+            facilities: Vec::new(alloc),
+            firsts: Vec::new(alloc),
+            owners: Vec::new(alloc),
+            channels: Vec::new(alloc),
+            begins: Vec::new(alloc),
+            rivals: Vec::new(alloc),
+            top,
+            pairs,
+        }
+    }
+
+    /// Whether these may be the numbers of a book: as many stations, channels and pairs. Another book of the same size leads
+    /// to suggestions that are worth nothing.
+    pub(crate) fn may_be_of(&self, book: &Book) -> bool {
+        self.facilities.len() == book.len() as usize
+            && self.top == book.top()
+            && self.pairs == book.pairs().len()
+    }
+
+    /// The number of stations.
+    pub(crate) fn stations(&self) -> u32 {
+        short(self.facilities.len())
+    }
+
+    /// The number of variables.
+    pub(crate) fn vars(&self) -> u32 {
+        short(self.owners.len())
+    }
+
+    /// The facility of a station.
+    pub(crate) fn facility(&self, station: u32) -> u32 {
+        read(&self.facilities, station, 0)
+    }
+
+    /// The place of a facility, if the book has it.
+    pub(crate) fn station(&self, facility: u32) -> Option<u32> {
+        match self.facilities.binary_search(&facility) {
+            Ok(place) => Some(short(place)),
+            Err(_) => None,
+        }
+    }
+
+    /// The variables of a station.
+    pub(crate) fn vars_of(&self, station: u32) -> Range<u32> {
+        let end = read(&self.firsts, station.saturating_add(1), 0);
+        read(&self.firsts, station, end)..end
+    }
+
+    /// The station of a variable.
+    pub(crate) fn owner(&self, var: u32) -> u32 {
+        read(&self.owners, var, u32::MAX)
+    }
+
+    /// The channel of a variable.
+    pub(crate) fn channel(&self, var: u32) -> u8 {
+        read(&self.channels, var, 0)
+    }
+
+    /// The variable of a station's channel, if it may use that.
+    pub(crate) fn var_of(&self, station: u32, channel: u8) -> Option<u32> {
+        let vars = self.vars_of(station);
+        match part(&self.channels, vars.start, vars.end).binary_search(&channel) {
+            Ok(place) => Some(vars.start.saturating_add(short(place))),
+            Err(_) => None,
+        }
+    }
+
+    /// The places of the variables that interfere with this one, ascending, for `rival`.
+    pub(crate) fn rivals_of(&self, var: u32) -> Range<u32> {
+        let end = read(&self.begins, var.saturating_add(1), 0);
+        read(&self.begins, var, end)..end
+    }
+
+    /// The variable at a place of the rivals.
+    pub(crate) fn rival(&self, place: u32) -> u32 {
+        read(&self.rivals, place, 0)
+    }
+
+    /// The variables that interfere with this one, ascending.
+    pub(crate) fn rival_list(&self, var: u32) -> &[u32] {
+        let places = self.rivals_of(var);
+        part(&self.rivals, places.start, places.end)
+    }
+
+    fn add_station(&mut self, place: u32, book: &Book) -> Result<(), NoMemory> {
+        if place >= book.len() {
+            return Ok(());
+        }
+        let facility = book.facility(place);
+        let first = self.vars();
+        self.facilities.push(facility)?;
+        self.firsts.push(first)?;
+        for channel in book.domain(facility) {
+            self.owners.push(place)?;
+            self.channels.push(*channel)?;
+        }
+        Ok(())
+    }
+
+    // The variables of each pair of the book, in its order.
+    fn couples(&self, alloc: Global, book: &Book) -> Result<Vec<Couple>, NoMemory> {
+        let mut couples = Vec::with_capacity(alloc, self.pairs)?;
+        for pair in book.pairs() {
+            let v = self.entry(pair.f, pair.a);
+            let w = self.entry(pair.g, pair.b);
+            if let (Some(v), Some(w)) = (v, w) {
+                couples.push(Couple { v, w })?;
+            }
+        }
+        Ok(couples)
+    }
+
+    fn entry(&self, facility: u32, channel: u8) -> Option<u32> {
+        self.var_of(self.station(facility)?, channel)
+    }
+
+    // Counts the rivals of each variable, and then puts each in its place. A variable's come in the order of the pairs, those
+    // of the stations before its own first, so that they ascend.
+    fn add_rivals(&mut self, alloc: Global, couples: &[Couple]) -> Result<(), NoMemory> {
+        let vars = self.vars();
+        let mut nexts = filled(alloc, vars, 0)?;
+        for couple in couples {
+            count_one(&mut nexts, couple.v);
+            count_one(&mut nexts, couple.w);
+        }
+        let mut total: u32 = 0;
+        for var in 0..vars {
+            self.begins.push(total)?;
+            let count = read(&nexts, var, 0);
+            write(&mut nexts, var, total);
+            total = total.saturating_add(count);
+        }
+        self.begins.push(total)?;
+        self.rivals.resize(total as usize, 0)?;
+        for couple in couples {
+            write(&mut self.rivals, count_one(&mut nexts, couple.v), couple.w);
+            write(&mut self.rivals, count_one(&mut nexts, couple.w), couple.v);
+        }
+        Ok(())
+    }
+}
+
+// Adds one to a count. What it was.
+fn count_one(counts: &mut [u32], at: u32) -> u32 {
+    let count = read(counts, at, 0);
+    write(counts, at, count.saturating_add(1));
+    count
+}

@@ -1,0 +1,200 @@
+//! Every line that was learnt and may still be needed for a log.
+
+use crate::cells::{filled, part, read, short, write};
+use crate::hint::Hint;
+use crate::literal::Literal;
+use std::alloc::{AllocError as NoMemory, Global};
+
+// A hint begins with one of these: the first of two variables, a station, or the number of a line with neither.
+const PAIR: u32 = 1 << 31;
+
+const OWN: u32 = 1 << 30;
+
+// Where a line begins that is not held any more.
+const LET_GO: u32 = u32::MAX;
+
+/// Lines by number, from 0, one behind the other in one list: of each how many words it takes, how many literals it has, these,
+/// and its hints. Of a fact, a literal that is true at level 0, the number of its line is kept.
+#[derive(Drop)]
+pub(crate) struct Lines {
+    words: Vec<u32>,
+    // Of each line where it begins.
+    begins: Vec<u32>,
+    // Of each variable the number of its fact and one more; 0 where there is none.
+    facts: Vec<u32>,
+    // So many lines are held, and were after the last sweep.
+    held: usize,
+    swept: usize,
+}
+
+impl Lines {
+    /// No line over so many variables.
+    pub(crate) fn new(alloc: Global, vars: u32) -> Result<Lines, NoMemory> {
+        Ok(Lines {
+            words: Vec::new(alloc),
+            begins: Vec::new(alloc),
+            facts: filled(alloc, vars, 0)?,
+            held: 0,
+            swept: 0,
+        })
+    }
+
+    /// How many lines were learnt.
+    pub(crate) fn len(&self) -> u32 {
+        short(self.begins.len())
+    }
+
+    /// Puts a line behind the others. Its number.
+    pub(crate) fn add(&mut self, literals: &[Literal], hints: &[Hint]) -> Result<u32, NoMemory> {
+        let number = self.len();
+        let begin = short(self.words.len());
+        self.words.push(0)?;
+        self.words.push(short(literals.len()))?;
+        for literal in literals {
+            self.words.push(literal.code)?;
+        }
+        for hint in hints {
+            push_hint(&mut self.words, *hint)?;
+        }
+        let size = short(self.words.len()).saturating_sub(begin);
+        write(&mut self.words, begin, size);
+        self.begins.push(begin)?;
+        self.held = self.held.saturating_add(1);
+        Ok(number)
+    }
+
+    /// The line of a variable that is a fact.
+    pub(crate) fn fact(&self, var: u32) -> Option<u32> {
+        match read(&self.facts, var, 0) {
+            0 => None,
+            number => Some(number - 1),
+        }
+    }
+
+    /// Notes the line of a variable that became a fact.
+    pub(crate) fn set_fact(&mut self, var: u32, number: u32) {
+        write(&mut self.facts, var, number.saturating_add(1));
+    }
+
+    /// The literals of a line.
+    pub(crate) fn literals(
+        &self,
+        number: u32,
+        literals: &mut Vec<Literal>,
+    ) -> Result<(), NoMemory> {
+        literals.clear();
+        let words = self.words(number);
+        let count = read(words, 0, 0);
+        for i in 0..count {
+            literals.push(Literal {
+                code: read(words, i.saturating_add(1), 0),
+            })?;
+        }
+        Ok(())
+    }
+
+    /// The hints of a line.
+    pub(crate) fn hints(&self, number: u32, hints: &mut Vec<Hint>) -> Result<(), NoMemory> {
+        hints.clear();
+        let words = self.words(number);
+        let begin = read(words, 0, 0).saturating_add(1);
+        let mut first = None;
+        for i in begin..short(words.len()) {
+            let word = read(words, i, 0);
+            match first {
+                Some(v) => {
+                    hints.push(Hint::Pair { v, w: word })?;
+                    first = None;
+                }
+                None => {
+                    if word & PAIR != 0 {
+                        first = Some(word ^ PAIR);
+                    } else if word & OWN != 0 {
+                        hints.push(Hint::Own(word ^ OWN))?;
+                    } else {
+                        hints.push(Hint::Line(word))?;
+                    }
+                }
+            }
+        }
+        Ok(())
+    }
+
+    /// Whether so many lines are held that it is time to let some go.
+    pub(crate) fn is_full(&self, spare: usize) -> bool {
+        self.held
+            > self
+                .swept
+                .saturating_add(self.swept / 2)
+                .saturating_add(spare)
+    }
+
+    /// Lets go of the lines that neither a fact nor one of these needs, directly or by another line.
+    pub(crate) fn sweep(&mut self, alloc: Global, needed: &mut [bool]) -> Result<(), NoMemory> {
+        for number in &self.facts {
+            if *number > 0 {
+                write(needed, *number - 1, true);
+            }
+        }
+        let mut hints = Vec::new(alloc);
+        for number in (0..self.len()).rev() {
+            if read(needed, number, false) {
+                self.hints(number, &mut hints)?;
+                for hint in &hints {
+                    if let Hint::Line(line) = hint {
+                        write(needed, *line, true);
+                    }
+                }
+            }
+        }
+        self.hold_alone(needed);
+        self.swept = self.held;
+        Ok(())
+    }
+
+    // Moves these lines together, and lets the others go.
+    fn hold_alone(&mut self, needed: &[bool]) {
+        let mut end: u32 = 0;
+        for number in 0..self.len() {
+            let begin = read(&self.begins, number, LET_GO);
+            if begin == LET_GO {
+                continue;
+            }
+            if !read(needed, number, false) {
+                write(&mut self.begins, number, LET_GO);
+                self.held = self.held.saturating_sub(1);
+                continue;
+            }
+            write(&mut self.begins, number, end);
+            for place in begin..begin.saturating_add(read(&self.words, begin, 0)) {
+                let word = read(&self.words, place, 0);
+                write(&mut self.words, end, word);
+                end = end.saturating_add(1);
+            }
+        }
+        self.words.truncate(end as usize);
+    }
+
+    // How many literals a line has, these, and its hints.
+    fn words(&self, number: u32) -> &[u32] {
+        let begin = read(&self.begins, number, LET_GO);
+        if begin == LET_GO {
+            return &[];
+        }
+        let end = begin.saturating_add(read(&self.words, begin, 0));
+        part(&self.words, begin.saturating_add(1), end)
+    }
+}
+
+// Writes a hint in one word, or in two.
+fn push_hint(words: &mut Vec<u32>, hint: Hint) -> Result<(), NoMemory> {
+    match hint {
+        Hint::Pair { v, w } => {
+            words.push(v | PAIR)?;
+            words.push(w)?;
+        }
+        Hint::Own(station) => words.push(station | OWN)?,
+        Hint::Line(line) => words.push(line)?,
+    }
+    Ok(())
+}

@@ -1,0 +1,155 @@
+//! From the searcher's variables and lines to a log over the packing formula of some stations, whose clauses are numbered: first
+//! a clause for each station, then for each station its channels two by two, and then the pairs that interfere.
+
+use crate::cells::{filled, part, read, short, write};
+use crate::cone::Cone;
+use crate::engine::Engine;
+use crate::grid::Grid;
+use crate::hint::Hint;
+use clause_db::lit::Lit;
+use rup_check::line::Log;
+use rup_check::lines::Lines;
+use std::alloc::{AllocError as NoMemory, Global};
+
+/// The numbers of the formula's variables and clauses.
+#[derive(Drop)]
+struct Numbering {
+    // Of each variable its number, from 1; 0 where its station is not one of these.
+    vars: Vec<u32>,
+    // Of each station the number of its own clause, and how many clauses come before those of its channels two by two.
+    owns: Vec<u32>,
+    twos: Vec<u64>,
+    // Of each variable how many clauses come before its pairs, and where these begin among the variables of all pairs.
+    befores: Vec<u64>,
+    begins: Vec<u32>,
+    ends: Vec<u32>,
+    seconds: Vec<u32>,
+    // The number of the formula's clauses.
+    clauses: u64,
+}
+
+impl Engine {
+    /// The log that a cone is, without the literals that say of a station that it is in the set.
+    pub(crate) fn log(&self, alloc: Global, cone: &Cone) -> Result<Log, NoMemory> {
+        let numbering = Numbering::of(alloc, &self.grid, &cone.stations)?;
+        let mut lines = Lines::new(alloc);
+        let (mut literals, mut hints) = (Vec::new(alloc), Vec::new(alloc));
+        let (mut lits, mut numbers) = (Vec::new(alloc), Vec::new(alloc));
+        for line in &cone.lines {
+            self.lines.literals(*line, &mut literals)?;
+            lits.clear();
+            for literal in &literals {
+                if self.is_channel(literal.var()) {
+                    lits.push(Lit {
+                        var: read(&numbering.vars, literal.var(), 0) as u64,
+                        positive: !literal.is_negated(),
+                    })?;
+                }
+            }
+            self.lines.hints(*line, &mut hints)?;
+            numbers.clear();
+            for hint in &hints {
+                numbers.push(numbering.number(&self.grid, &cone.lines, *hint))?;
+            }
+            lines.push(&lits, &numbers)?;
+        }
+        Ok(Log { lines })
+    }
+}
+
+impl Numbering {
+    // The numbers of the packing formula of these stations.
+    fn of(alloc: Global, grid: &Grid, stations: &[u32]) -> Result<Numbering, NoMemory> {
+        let vars = grid.vars();
+        let mut numbering = Numbering {
+            vars: filled(alloc, vars, 0)?,
+            owns: filled(alloc, grid.stations(), 0)?,
+            twos: filled(alloc, grid.stations(), 0)?,
+            befores: filled(alloc, vars, 0)?,
+            begins: filled(alloc, vars, 0)?,
+            ends: filled(alloc, vars, 0)?,
+            seconds: Vec::new(alloc),
+            clauses: stations.len() as u64,
+        };
+        numbering.number_stations(grid, stations);
+        for station in stations {
+            for var in grid.vars_of(*station) {
+                numbering.number_pairs(grid, var)?;
+            }
+        }
+        Ok(numbering)
+    }
+
+    fn number_stations(&mut self, grid: &Grid, stations: &[u32]) {
+        let mut last: u32 = 0;
+        for (i, station) in stations.iter().enumerate() {
+            write(&mut self.owns, *station, short(i).saturating_add(1));
+            write(&mut self.twos, *station, self.clauses);
+            let mut count: u64 = 0;
+            for var in grid.vars_of(*station) {
+                last = last.saturating_add(1);
+                write(&mut self.vars, var, last);
+                count = count.saturating_add(1);
+            }
+            let twos = count.saturating_mul(count.saturating_sub(1)) / 2;
+            self.clauses = self.clauses.saturating_add(twos);
+        }
+    }
+
+    // The pairs whose first variable this is.
+    fn number_pairs(&mut self, grid: &Grid, var: u32) -> Result<(), NoMemory> {
+        write(&mut self.befores, var, self.clauses);
+        write(&mut self.begins, var, short(self.seconds.len()));
+        for second in grid.rival_list(var) {
+            if *second > var && read(&self.vars, *second, 0) > 0 {
+                self.seconds.push(*second)?;
+                self.clauses = self.clauses.saturating_add(1);
+            }
+        }
+        write(&mut self.ends, var, short(self.seconds.len()));
+        Ok(())
+    }
+
+    // The number of a clause of the formula, or of a line behind it.
+    fn number(&self, grid: &Grid, lines: &[u32], hint: Hint) -> u64 {
+        match hint {
+            Hint::Own(station) => read(&self.owns, station, 0) as u64,
+            Hint::Line(line) => match lines.binary_search(&line) {
+                Ok(place) => self.clauses.saturating_add(place as u64).saturating_add(1),
+                Err(_) => 0,
+            },
+            Hint::Pair { v, w } => {
+                let (first, second) = (v.min(w), v.max(w));
+                if grid.owner(first) == grid.owner(second) {
+                    self.number_of_two(grid, first, second)
+                } else {
+                    self.number_of_pair(first, second)
+                }
+            }
+        }
+    }
+
+    // Of a station's channels the first with each later one comes first, and so on.
+    fn number_of_two(&self, grid: &Grid, first: u32, second: u32) -> u64 {
+        let station = grid.owner(first);
+        let vars = grid.vars_of(station);
+        let count = vars.end.saturating_sub(vars.start) as u64;
+        let row = first.saturating_sub(vars.start) as u64;
+        let later = (2 * count).saturating_sub(row).saturating_sub(1);
+        let earlier = row.saturating_mul(later) / 2;
+        read(&self.twos, station, 0)
+            .saturating_add(earlier)
+            .saturating_add(second.saturating_sub(first) as u64)
+    }
+
+    fn number_of_pair(&self, first: u32, second: u32) -> u64 {
+        let begin = read(&self.begins, first, 0);
+        let end = read(&self.ends, first, 0);
+        match part(&self.seconds, begin, end).binary_search(&second) {
+            Ok(place) => read(&self.befores, first, 0)
+                .saturating_add(place as u64)
+                .saturating_add(1),
+            Err(_) => 0,
+        }
+    }
+}

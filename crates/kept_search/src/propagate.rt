@@ -1,0 +1,109 @@
+//! What follows from the literals that are true, until nothing more does or a clause is false.
+
+use crate::clauses::{Look, Watch};
+use crate::engine::Engine;
+use crate::hint::Reason;
+use crate::literal::Literal;
+use crate::trail::Value;
+use std::alloc::{AllocError as NoMemory, Global};
+
+impl Engine {
+    /// Propagates the literals that are new on the trail. The clause that is false then, if one is.
+    pub(crate) fn propagate(&mut self, alloc: Global) -> Result<Option<Reason>, NoMemory> {
+        // Each variable comes to the trail once.
+        for _ in 0..self.trail.vars() {
+            let Some(literal) = self.trail.next() else {
+                return Ok(None);
+            };
+            if !literal.is_negated() && self.is_channel(literal.var()) {
+                if let Some(conflict) = self.clear_channel(literal.var())? {
+                    return Ok(Some(conflict));
+                }
+            }
+            if let Some(conflict) = self.visit_watches(alloc, literal.opposite())? {
+                return Ok(Some(conflict));
+            }
+        }
+        Ok(None)
+    }
+
+    // A station stands on a channel: on no other one, and nobody on one that interferes.
+    fn clear_channel(&mut self, v: u32) -> Result<Option<Reason>, NoMemory> {
+        for w in self.grid.vars_of(self.grid.owner(v)) {
+            if w != v && !self.is_ruled_out(v, w)? {
+                return Ok(Some(Reason::Pair { v, w }));
+            }
+        }
+        for place in self.grid.rivals_of(v) {
+            let w = self.grid.rival(place);
+            if self.trail.value(Literal::of(w)) == Value::False {
+                continue;
+            }
+            if !self.play.is_in_set(self.grid.owner(w)) {
+                continue;
+            }
+            if !self.is_ruled_out(v, w)? {
+                return Ok(Some(Reason::Pair { v, w }));
+            }
+        }
+        Ok(None)
+    }
+
+    // Makes a variable false that may not be true beside another one. Whether it wasn't true.
+    fn is_ruled_out(&mut self, v: u32, w: u32) -> Result<bool, NoMemory> {
+        match self.trail.value(Literal::of(w)) {
+            Value::True => Ok(false),
+            Value::False => Ok(true),
+            Value::Open => {
+                self.assign(Literal::against(w), Reason::Pair { v, w })?;
+                Ok(true)
+            }
+        }
+    }
+
+    // Looks at each clause that watches a literal, which became false.
+    fn visit_watches(
+        &mut self,
+        alloc: Global,
+        falsified: Literal,
+    ) -> Result<Option<Reason>, NoMemory> {
+        let mut watches = self.clauses.take_watches(alloc, falsified);
+        let conflict = self.visit(&mut watches, falsified)?;
+        self.clauses.put_watches(falsified, watches);
+        Ok(conflict)
+    }
+
+    // Of these watches those are left which still watch the literal. After a false clause nothing more is looked at.
+    fn visit(
+        &mut self,
+        watches: &mut Vec<Watch>,
+        falsified: Literal,
+    ) -> Result<Option<Reason>, NoMemory> {
+        let mut kept: usize = 0;
+        let mut conflict = None;
+        for i in 0..watches.len() {
+            let mut watch = watches[i];
+            if conflict.is_none() && self.trail.value(watch.blocker) != Value::True {
+                let at = watch.at;
+                match self.clauses.look(&self.trail, watch, falsified)? {
+                    Look::Moved => continue,
+                    Look::Holds(other) => watch.blocker = other,
+                    Look::Forces(first) => {
+                        watch.blocker = first;
+                        self.assign(first, Reason::Clause { at })?;
+                    }
+                    Look::False(first) => {
+                        watch.blocker = first;
+                        conflict = Some(Reason::Clause { at });
+                    }
+                }
+            }
+            if kept < watches.len() {
+                watches[kept] = watch;
+            }
+            kept = kept.saturating_add(1);
+        }
+        watches.truncate(kept);
+        Ok(conflict)
+    }
+}

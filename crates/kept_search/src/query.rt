@@ -1,0 +1,193 @@
+//! A query from its beginning to its end. Where several stations have no channel yet, as at the start of an auction, one after
+//! the other is tested beside those before it.
+
+ghost use Rattle.std.specs.Bool.{OnTrue};
+ghost use Rattle.pack_defs.specs.ChannelMap.{IsAscending};
+
+use crate::engine::Engine;
+use crate::play::{NOBODY, NOWHERE};
+use crate::policy::{Policy, USUAL};
+use crate::turn::Turn;
+use pack_defs::channel_map::ChannelMap;
+use std::alloc::{AllocError as NoMemory, Global};
+
+/// How far a search came.
+#[derive(Clone, Copy, Debug, PartialEq, Eq)]
+pub(crate) enum Found {
+    /// It can go on.
+    Open,
+    /// The tested station fits, and the test of the next one is begun.
+    Next,
+    /// Every station of the set has a channel.
+    Fits,
+    /// The tested station can't be in the set, as the line of this number says.
+    Refuted { line: u32 },
+    /// What was known was of other stations than the query is about.
+    Lost,
+}
+
+impl Engine {
+    /// Begins a query of this set, of which those stations are tested that have no channel in the last map.
+    pub(crate) fn begin_query(
+        &mut self,
+        set: &[u32],
+        last: &ChannelMap,
+        from: Option<&ChannelMap>,
+    ) -> Result<(), NoMemory> {
+        self.end()?;
+        self.tested = NOBODY;
+        self.set.clear();
+        self.waiting.clear();
+        for facility in set.iter().rev() {
+            self.place(*facility, last.get(*facility))?;
+        }
+        self.test_next()?;
+        if let Some(fit) = from {
+            for entry in fit.entries() {
+                self.prefer_entry(entry.0, entry.1)?;
+            }
+        }
+        Ok(())
+    }
+
+    /// Begins the test of one facility of the book beside all others.
+    pub(crate) fn begin_beside_all(&mut self, tested: u32, policy: Policy) -> Result<(), NoMemory> {
+        for station in 0..self.grid.stations() {
+            self.set.push(station)?;
+            if self.grid.facility(station) != tested {
+                self.stand(station, NOWHERE)?;
+            }
+        }
+        match self.grid.station(tested) {
+            Some(station) => self.begin(station, policy),
+            None => Ok(()),
+        }
+    }
+
+    /// Searches until the query is decided, or so many lines are learnt.
+    pub(crate) fn search(&mut self, alloc: Global, conflicts: u32) -> Result<Found, NoMemory> {
+        if conflicts == 0 {
+            return Ok(Found::Open);
+        }
+        let mut learnt: u32 = 0;
+        for _ in 0..u64::MAX {
+            match self.turn(alloc)? {
+                Turn::Going => {}
+                Turn::Learnt => {
+                    learnt = learnt.saturating_add(1);
+                    if learnt >= conflicts {
+                        break;
+                    }
+                }
+                Turn::Fits => {
+                    if self.settle()? {
+                        return Ok(Found::Next);
+                    }
+                    return Ok(Found::Fits);
+                }
+                Turn::Refuted { line } => {
+                    self.end()?;
+                    return Ok(Found::Refuted { line });
+                }
+                Turn::Lost => return Ok(Found::Lost),
+            }
+        }
+        Ok(Found::Open)
+    }
+
+    /// The channels of the set's stations that are others than in the last map; none where the set does not ascend.
+    pub(crate) fn fit(
+        &self,
+        alloc: Global,
+        set: &[u32],
+        last: &ChannelMap,
+    ) -> Result<Option<ChannelMap>, NoMemory> {
+        let mut entries = Vec::new(alloc);
+        for facility in set {
+            if let Some(channel) = self.channel_of(*facility) {
+                if last.get(*facility) != Some(channel) {
+                    entries.push((*facility, channel))?;
+                }
+            }
+        }
+        if !ascends(&entries) {
+            return Ok(None);
+        }
+        let map = ChannelMap::of(alloc, &entries)?;
+        Ok(Some(map))
+    }
+
+    // A station of the set stands where it is, or waits for its test.
+    fn place(&mut self, facility: u32, channel: Option<u8>) -> Result<(), NoMemory> {
+        let Some(station) = self.grid.station(facility) else {
+            return Ok(());
+        };
+        self.set.push(station)?;
+        match channel {
+            None => self.waiting.push(station)?,
+            Some(channel) => {
+                if let Some(var) = self.grid.var_of(station, channel) {
+                    self.stand(station, var)?;
+                }
+            }
+        }
+        Ok(())
+    }
+
+    // Begins the test of the next station that waits. Whether one did.
+    fn test_next(&mut self) -> Result<bool, NoMemory> {
+        let Some(station) = self.waiting.pop() else {
+            return Ok(false);
+        };
+        self.begin(station, USUAL)?;
+        Ok(true)
+    }
+
+    fn prefer_entry(&mut self, facility: u32, channel: u8) -> Result<(), NoMemory> {
+        let Some(station) = self.grid.station(facility) else {
+            return Ok(());
+        };
+        let Some(var) = self.grid.var_of(station, channel) else {
+            return Ok(());
+        };
+        if self.play.is_in_set(station) {
+            self.prefer(station, var)?;
+        }
+        Ok(())
+    }
+
+    // The tested station fits. Whether another one waits, whose test then begins beside it.
+    fn settle(&mut self) -> Result<bool, NoMemory> {
+        self.adopt();
+        self.end()?;
+        if self.waiting.is_empty() {
+            return Ok(false);
+        }
+        let station = self.tested;
+        let channel = self.play.standing(station).channel;
+        self.stand(station, channel)?;
+        self.test_next()
+    }
+
+    fn channel_of(&self, facility: u32) -> Option<u8> {
+        let station = self.grid.station(facility)?;
+        let var = self.play.standing(station).channel;
+        if self.is_channel(var) {
+            Some(self.grid.channel(var))
+        } else {
+            None
+        }
+    }
+}
+
+// Whether each entry is of a later station than the one before.
+fn ascends(entries: &[(u32, u8)]) -> bool
+    ensures { OnTrue result (IsAscending entries.now) }
+{
+    for i in 1..entries.len() {
+        if entries[i - 1].0 >= entries[i].0 {
+            return false;
+        }
+    }
+    true
+}

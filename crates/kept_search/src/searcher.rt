@@ -1,0 +1,196 @@
+//! The searcher as its caller sees it: it is told a query, and goes on at it as far as it is let.
+
+use crate::engine::Engine;
+use crate::grid::Grid;
+use crate::policy::{PATIENT, USUAL};
+use crate::query::Found;
+use crate::shortening::Shortening;
+use crate::suggestion::{Disproof, Suggestion};
+use pack_defs::book::Book;
+use pack_defs::channel_map::ChannelMap;
+use std::alloc::{AllocError as NoMemory, Global};
+
+/// How far the searcher came with a query.
+#[derive(Debug, Drop)]
+pub enum Progress {
+    /// It can go on.
+    Open,
+    /// It is at its end.
+    Ended(Suggestion),
+    /// Its effort is spent.
+    Spent,
+    /// No query was begun, or what was known was of other stations than it is about. All is forgotten.
+    Lost,
+}
+
+/// A searcher for the queries of an auction, one after the other. It keeps what it learnt, as long as each query is about the
+/// stations on air, which only become more, and one that is tested; where a query isn't, what it suggests may be worth nothing.
+#[derive(Drop)]
+pub struct Searcher {
+    engine: Option<Engine>,
+    shortening: Option<Shortening>,
+    seed: u64,
+    // So many conflicts each policy may come to at each tested station, and are left to the one that searches; whether that is
+    // the last one.
+    effort: u32,
+    left: u32,
+    is_patient: bool,
+}
+
+impl Searcher {
+    /// A searcher that knows nothing. Its seed breaks the ties of the order in which variables are decided, so that searchers
+    /// of different seeds search differently; with seed 0 these are broken by the variables' order.
+    pub fn new(seed: u64) -> Searcher {
+        Searcher {
+            engine: None,
+            shortening: None,
+            seed,
+            effort: 0,
+            left: 0,
+            is_patient: false,
+        }
+    }
+
+    /// Forgets all.
+    pub fn forget(&mut self) {
+        self.engine = None;
+        self.shortening = None;
+    }
+
+    /// Begins a query: is there a map of exactly the stations of this ascending set that violates no pair of the book? Of the set
+    /// those stations are tested which have no channel in the last map. The search begins from another fit, where one is given:
+    /// what the tested station's last one changed. At each tested station it may come to so many conflicts, and to as many once
+    /// more by another policy; where it finds a log that is longer than that, it searches for a shorter one.
+    ///
+    /// # Errors
+    ///
+    /// Want of memory. No query is begun then, and the searcher can be used again.
+    pub fn begin(
+        &mut self,
+        alloc: Global,
+        book: &Book,
+        set: &[u32],
+        last: &ChannelMap,
+        from: Option<&ChannelMap>,
+        effort: u32,
+    ) -> Result<(), NoMemory> {
+        self.shortening = None;
+        let kept = self.engine.take();
+        let mut engine = of_book(alloc, book, kept, self.seed)?;
+        engine.begin_query(set, last, from)?;
+        self.engine = Some(engine);
+        self.effort = effort;
+        self.left = effort;
+        self.is_patient = false;
+        Ok(())
+    }
+
+    /// Goes on at the query that was begun, with the same set and last map, for so many conflicts at most.
+    ///
+    /// # Errors
+    ///
+    /// Want of memory. The query is no longer begun then, and the searcher can be used again.
+    pub fn go_on(
+        &mut self,
+        alloc: Global,
+        set: &[u32],
+        last: &ChannelMap,
+        conflicts: u32,
+    ) -> Result<Progress, NoMemory> {
+        if let Some(shortening) = self.shortening.take() {
+            return self.shorten(alloc, shortening, conflicts);
+        }
+        let Some(mut engine) = self.engine.take() else {
+            return Ok(Progress::Lost);
+        };
+        let conflicts = conflicts.min(self.left);
+        match engine.search(alloc, conflicts)? {
+            Found::Open => {
+                self.left = self.left.saturating_sub(conflicts);
+                self.keep_open(engine)
+            }
+            Found::Next => {
+                self.left = self.effort;
+                self.is_patient = false;
+                self.engine = Some(engine);
+                Ok(Progress::Open)
+            }
+            Found::Fits => {
+                let Some(fit) = engine.fit(alloc, set, last)? else {
+                    return Ok(Progress::Lost);
+                };
+                self.engine = Some(engine);
+                Ok(Progress::Ended(Suggestion::Fit(fit)))
+            }
+            Found::Refuted { line } => {
+                let disproof = Disproof::of(alloc, &engine, line)?;
+                self.say_unfit(alloc, engine, disproof)
+            }
+            Found::Lost => Ok(Progress::Lost),
+        }
+    }
+
+    // The search goes on, by the next policy where its effort is spent.
+    fn keep_open(&mut self, mut engine: Engine) -> Result<Progress, NoMemory> {
+        if self.left == 0 && !self.is_patient {
+            self.is_patient = true;
+            self.left = self.effort;
+            engine.go_on_by(PATIENT)?;
+        }
+        self.engine = Some(engine);
+        if self.left == 0 {
+            return Ok(Progress::Spent);
+        }
+        Ok(Progress::Open)
+    }
+
+    // A disproof is the suggestion, unless a shorter one is worth a search.
+    fn say_unfit(
+        &mut self,
+        alloc: Global,
+        engine: Engine,
+        disproof: Disproof,
+    ) -> Result<Progress, NoMemory> {
+        if !Shortening::is_worth(&disproof, self.effort) {
+            self.engine = Some(engine);
+            return Ok(Progress::Ended(Suggestion::Unfit(disproof)));
+        }
+        let tested = engine.grid.facility(engine.tested);
+        let shortening = Shortening::begin(alloc, &engine.grid, disproof, tested, self.effort)?;
+        self.engine = Some(engine);
+        self.shortening = Some(shortening);
+        Ok(Progress::Open)
+    }
+
+    // Goes on with the search for a shorter disproof.
+    fn shorten(
+        &mut self,
+        alloc: Global,
+        mut shortening: Shortening,
+        conflicts: u32,
+    ) -> Result<Progress, NoMemory> {
+        if shortening.go_on(alloc, conflicts)? {
+            let best = shortening.into_best();
+            return Ok(Progress::Ended(Suggestion::Unfit(best)));
+        }
+        self.shortening = Some(shortening);
+        Ok(Progress::Open)
+    }
+}
+
+// What was kept, if that may be of the book, or else what knows nothing of it.
+fn of_book(
+    alloc: Global,
+    book: &Book,
+    kept: Option<Engine>,
+    seed: u64,
+) -> Result<Engine, NoMemory> {
+    if let Some(engine) = kept {
+        if engine.grid.may_be_of(book) {
+            return Ok(engine);
+        }
+    }
+    let mut engine = Engine::new(alloc, Grid::of(alloc, book)?, USUAL)?;
+    engine.scatter(seed);
+    Ok(engine)
+}

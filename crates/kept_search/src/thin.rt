@@ -1,0 +1,108 @@
+//! Half of the lines that are little used are dropped now and then, and the rest moved together.
+
+use crate::cells::{filled, write};
+use crate::clauses::{ClauseHead, Clauses};
+use crate::engine::Engine;
+use crate::hint::Hint;
+use crate::literal::Literal;
+use crate::policy::{GLUE_KEPT, LINES_BETWEEN, LINES_SPARE};
+use crate::trail::Value;
+use std::alloc::{AllocError as NoMemory, Global};
+use std::cmp::OrderedFloat;
+use std::mem::replace;
+
+impl Engine {
+    /// At level 0: where so many lines came since the last time, drops half of those of more than a few levels, the least used
+    /// first.
+    pub(crate) fn thin_out(&mut self, alloc: Global) -> Result<(), NoMemory> {
+        if self.clauses.lines() <= self.room {
+            return Ok(());
+        }
+        let bound = self.middle_use(alloc)?;
+        let fresh = Clauses::new(alloc, self.trail.vars())?;
+        let old = replace(&mut self.clauses, fresh);
+        for head in old.heads() {
+            if !is_dropped(&old, *head, bound) {
+                self.move_clause(&old, *head)?;
+            }
+        }
+        self.clauses.count_on_from(&old);
+        self.room = self.clauses.lines().saturating_add(LINES_BETWEEN);
+        self.let_lines_go(alloc)
+    }
+
+    // The use below which half of the lines are that may be dropped.
+    fn middle_use(&self, alloc: Global) -> Result<f64, NoMemory> {
+        let mut uses = Vec::new(alloc);
+        for head in self.clauses.heads() {
+            if may_drop(&self.clauses, *head) {
+                uses.push(head.used)?;
+            }
+        }
+        uses.sort_unstable_by_key(|used| OrderedFloat(*used));
+        let middle = uses.len() / 2;
+        if middle < uses.len() {
+            Ok(uses[middle])
+        } else {
+            Ok(0.0)
+        }
+    }
+
+    // Stores a clause again, unless it is true for good. Of its literals those are left out which say that a station on air is
+    // not in the set.
+    fn move_clause(&mut self, old: &Clauses, head: ClauseHead) -> Result<(), NoMemory> {
+        self.line.clear();
+        for code in old.codes(head.at) {
+            let literal = Literal { code: *code };
+            match self.trail.value(literal) {
+                Value::True => return Ok(()),
+                Value::False => {
+                    if self.is_channel(literal.var()) {
+                        self.line.push(literal)?;
+                    }
+                }
+                Value::Open => self.line.push(literal)?,
+            }
+        }
+        self.open_first();
+        let _at = self
+            .clauses
+            .add(&self.line, head.name, head.glue, head.used)?;
+        Ok(())
+    }
+
+    // Brings two literals of the line that are not false to its front, if it has them. How many it found.
+    pub(crate) fn open_first(&mut self) -> usize {
+        let mut found: usize = 0;
+        for place in 0..self.line.len() {
+            if found < 2 && place >= found && self.trail.value(self.line[place]) != Value::False {
+                self.line.swap(found, place);
+                found = found + 1;
+            }
+        }
+        found
+    }
+
+    // Where many lines are held, lets go of those that no clause and no fact needs.
+    fn let_lines_go(&mut self, alloc: Global) -> Result<(), NoMemory> {
+        if !self.lines.is_full(LINES_SPARE) {
+            return Ok(());
+        }
+        let mut needed = filled(alloc, self.lines.len(), false)?;
+        for head in self.clauses.heads() {
+            if let Hint::Line(line) = head.name {
+                write(&mut needed, line, true);
+            }
+        }
+        self.lines.sweep(alloc, &mut needed)
+    }
+}
+
+// Whether a clause is a line of more than two literals and of more than a few levels.
+fn may_drop(clauses: &Clauses, head: ClauseHead) -> bool {
+    matches!(head.name, Hint::Line(_)) && head.glue > GLUE_KEPT && clauses.size(head.at) > 2
+}
+
+fn is_dropped(clauses: &Clauses, head: ClauseHead, bound: f64) -> bool {
+    may_drop(clauses, head) && head.used < bound
+}

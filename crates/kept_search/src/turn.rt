@@ -1,0 +1,113 @@
+//! One turn of the search: propagate, and then learn from a conflict, begin anew, or decide.
+
+use crate::cells::read;
+use crate::engine::Engine;
+use crate::hint::{Hint, Reason};
+use crate::literal::Literal;
+use crate::play::NOBODY;
+use crate::trail::Value;
+use std::alloc::{AllocError as NoMemory, Global};
+
+/// What a turn came to.
+#[derive(Clone, Copy, Debug, PartialEq, Eq)]
+pub(crate) enum Turn {
+    Going,
+    /// A line more.
+    Learnt,
+    /// No station in play is without a channel, and nobody stands in another's way.
+    Fits,
+    /// The tested station can't be in the set, as the line of this number says.
+    Refuted { line: u32 },
+    /// What the searcher knows is at odds with itself: it was asked about other stations than it had been told.
+    Lost,
+}
+
+impl Engine {
+    /// Goes on until a line is learnt or the search ends, by one step.
+    pub(crate) fn turn(&mut self, alloc: Global) -> Result<Turn, NoMemory> {
+        if self.is_lost {
+            return Ok(Turn::Lost);
+        }
+        if let Some(conflict) = self.propagate(alloc)? {
+            return self.learn_from(conflict);
+        }
+        if self.is_due && self.trail.level() > 1 {
+            self.is_due = false;
+            self.go_back(0)?;
+            self.thin_out(alloc)?;
+            return Ok(Turn::Going);
+        }
+        if self.trail.level() == 0 {
+            return self.suppose();
+        }
+        match self.pick() {
+            None => Ok(Turn::Fits),
+            Some(literal) => {
+                self.trail.begin_level()?;
+                self.assign(literal, Reason::Chosen)?;
+                Ok(Turn::Going)
+            }
+        }
+    }
+
+    // A conflict becomes a line, and the line's first literal becomes true.
+    fn learn_from(&mut self, conflict: Reason) -> Result<Turn, NoMemory> {
+        if self.trail.level() == 0 {
+            return Ok(Turn::Lost);
+        }
+        let level = self.analyse(conflict)?;
+        let glue = self.glue();
+        let number = self.lines.add(&self.line, &self.hints)?;
+        self.go_back(level)?;
+        let first = read(&self.line, 0, Literal::of(0));
+        if self.line.len() == 1 {
+            self.assign(first, Reason::Chosen)?;
+            self.lines.set_fact(first.var(), number);
+        } else {
+            let used = self.clauses.use_of_new();
+            let at = self
+                .clauses
+                .add(&self.line, Hint::Line(number), glue, used)?;
+            self.assign(first, Reason::Clause { at })?;
+        }
+        if self.restarts.is_due() {
+            self.is_due = true;
+        }
+        Ok(Turn::Learnt)
+    }
+
+    // The first decision is that the tested station is in the set. Where none is tested, those on air fit.
+    fn suppose(&mut self) -> Result<Turn, NoMemory> {
+        if self.tested == NOBODY {
+            return Ok(Turn::Fits);
+        }
+        let selector = self.selector(self.tested);
+        match self.trail.value(Literal::of(selector)) {
+            Value::False => match self.lines.fact(selector) {
+                Some(line) => Ok(Turn::Refuted { line }),
+                None => Ok(Turn::Lost),
+            },
+            Value::True => {
+                self.trail.begin_level()?;
+                Ok(Turn::Going)
+            }
+            Value::Open => {
+                self.trail.begin_level()?;
+                self.assign(Literal::of(selector), Reason::Chosen)?;
+                Ok(Turn::Going)
+            }
+        }
+    }
+
+    // The most active open variable of a station in play, with the value that it had last.
+    fn pick(&mut self) -> Option<Literal> {
+        for _ in 0..self.play.order.len() {
+            let var = self.play.order.take()?;
+            if self.trail.is_open(var) && self.play.is_in_set(self.grid.owner(var)) {
+                let value = self.policy.channels_first || self.play.phase(var);
+                return Some(Literal::with(var, value));
+            }
+        }
+        None
+    }
+}
