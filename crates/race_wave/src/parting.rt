@@ -32,11 +32,11 @@ pub(crate) fn room_for(alloc: Global, count: u32) -> Result<Room, NoMemory>
 }
 
 // The passes and the racers, in order.
-pub(crate) fn parted(
-    runners: Vec<Runner<RacerKind>>,
+pub(crate) fn parted<R: Drop>(
+    runners: Vec<Runner<R>>,
     mut passes: Vec<Pass>,
-    mut racers: Vec<RacerKind>,
-) -> (Vec<Pass>, Vec<RacerKind>)
+    mut racers: Vec<R>,
+) -> (Vec<Pass>, Vec<R>)
     requires empty { (passes.items ≡ []) × (racers.items ≡ []) }
     requires room { (length runners.items ≤ vec_capacity passes) × (length runners.items ≤ vec_capacity racers) }
     ensures passes { result.0.items ≡ map (λ r. r.pass) runners.items }
