@@ -3,3 +3,4 @@ pub mod StationsPlaced
 pub mod StationsAscend
 pub mod Limits
 pub mod ChannelsOf
+pub mod WrittenLemmas

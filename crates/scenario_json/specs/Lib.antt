@@ -3,3 +3,4 @@ pub mod Steps
 pub mod Members
 pub mod ScenarioOf
 pub mod Joined
+pub mod Written

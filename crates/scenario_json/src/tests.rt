@@ -1,4 +1,4 @@
-//! Texts that are read, and texts that are refused.
+//! Texts that are read, texts that are refused, and texts that are written.
 
 mod accepted;
 mod joined;
@@ -6,6 +6,7 @@ mod kinds;
 mod limits;
 mod order;
 mod texts;
+mod written;
 
 use crate::error::ScenarioErr;
 use crate::name::Name;
