@@ -4,3 +4,4 @@ pub mod StationsAscend
 pub mod Limits
 pub mod ChannelsOf
 pub mod WrittenLemmas
+pub mod WrittenText

@@ -1,5 +1,5 @@
--- What is written of a scenario has no float, nests three deep, and reads as that scenario.
-use Rattle.std.proofs.Common.{◌≡◌, ◌∙◌, ℕ, suc, ◌+◌, ◌<◌, ◌≤◌, Bool, true, false, ◌||◌, ◌==◌, nat_lt, nat_le, List, [], ◌∷◌, ◌++◌, length, get_or, map, take, max, sum, All, Option, Some, None, append_assoc, append-nil, refl, sym, ap, subst, arith}
+-- What is written of a scenario has no float, does not nest deep, and reads as that scenario.
+use Rattle.std.proofs.Common.{◌≡◌, ◌∙◌, ℕ, suc, ◌+◌, ◌<◌, ◌≤◌, true, false, ◌==◌, List, [], ◌∷◌, ◌++◌, length, get_or, map, take, max, sum, All, Option, Some, None, append_assoc, append-nil, refl, sym, ap, subst, arith}
 use Rattle.std.specs.Prelude.{Result, Ok, Err, IfOk}
 use Rattle.std.specs.Bool.{⊤}
 use Rattle.std.specs.Option.{MatchOption, is_some}
@@ -8,7 +8,7 @@ use Rattle.std.proofs.Math.Nat.{max-le}
 use Rattle.std.proofs.lemmas.Bool.{eq-eqb, le-leb, le-ltb, ne_eqb, or_from, or_left, or_right}
 use Rattle.std.proofs.lemmas.List.{length-map, take_all}
 use Rattle.std.proofs.lemmas.List.Elements.{All-head, All-more, All-tail}
-use Rattle.serde_json.specs.Data.{Data, Items, Members, depth, items_depth, object, string}
+use Rattle.serde_json.specs.Data.{Data, depth, items_depth, object, string}
 use Rattle.serde_json.specs.Find.{as_object, get}
 use Rattle.serde_json.specs.View.{items_of}
 use Rattle.serde_json.specs.Written.{has_float, items_have_float}
@@ -30,7 +30,8 @@ use Rattle.scenario_json.specs.Name.{name_text}
 use Rattle.scenario_json.specs.Members.{list, listed, number, object_in, within}
 use Rattle.scenario_json.specs.Steps.{◌>>=◌, each_from}
 use Rattle.scenario_json.specs.ScenarioOf.{decrement_in, decrements_in, fall_in, has_id, json_in, kind_in, listed_in, new_id, placed, rated_in, scenario_in, scenario_of, seed_in, station_in, stations_from, stations_in, value_from, value_in, with_prover, worker_in, workers_in}
-use Rattle.scenario_json.specs.Written.{IsFileNumber, IsOfAFile, data_for, kind_text, last_members, list_for, members_for, station_for, value_for, whole_for, worker_for}
+use Rattle.scenario_json.specs.Written.{IsFileNumber, data_for, kind_text, last_members, list_for, members_for, station_for, value_for, whole_for, worker_for}
+use Rattle.scenario_json.proofs.Limits.{IsDecrement}
 use Rattle.scenario_json.proofs.StationsAscend.{ids}
 
 -- ---- no float
@@ -148,9 +149,6 @@ each-reads P read write one at (x ∷ xs) all =
     rw (one at x (All-head P x xs all), each-reads P read write one (at + 1) xs (All-tail P x xs all)) refl
 
 -- ---- how the price falls
-
-abbrev IsDecrement : ℕ → Type 0
-IsDecrement n = (1 ≤ n) × (n ≤ 1000000)
 
 decrement-reads : (at n : ℕ) → IsDecrement n → decrement_in at (whole_for n) ≡ Ok n
 decrement-reads at n limits = within-passes names.Decrements at 1 1000000 n limits.0 limits.1
@@ -338,9 +336,8 @@ members-read d version top opening fall stations workers sc whole e f g h k l is
     (then-reads (workers_in d) workers _ _ l
     (ap (λ x. Ok x) is)))))))
 
-pub data-reads : (sc : Scenario) → IsOfAFile sc → scenario_in (data_for sc) ≡ Ok sc
-data-reads sc file =
-    let limits : IsWithinLimits sc = file.limits in
+pub data-reads : (sc : Scenario) → IsWithinLimits sc → All IsFileNumber sc.stations → sc.owners ≡ None → scenario_in (data_for sc) ≡ Ok sc
+data-reads sc limits numbers by_value =
     let d : Data = data_for sc in
     let tells : Tells sc d = members-tell sc.fall sc in
     let rises : is_ascending (ids sc.stations) ≡ true = ascending-from (ids sc.stations) limits.ascend in
@@ -352,9 +349,9 @@ data-reads sc file =
     (number-reads names.Top 0 14 51 d sc.top tells.top_is limits.least_top limits.top)
     (number-reads names.Opening 0 1 1000000 d sc.opening tells.opening_is limits.some_opening limits.opening)
     (fall-reads sc.fall sc sc.version sc.opening limits.version limits.fall)
-    (all-stations-read d sc.stations tells.stations_are limits.stations rises file.numbers limits.each_station)
+    (all-stations-read d sc.stations tells.stations_are limits.stations rises numbers limits.each_station)
     (all-workers-read d sc.workers tells.workers_are limits.some_worker limits.workers limits.each_worker limits.prover)
-    (made sc None file.by_value)
+    (made sc None by_value)
   where
     versions-from : (f : Fall) (version : ℕ) → version ≡ version_of f → 1 ≤ version
     versions-from (Listed ds) version e = omega (arith, e)
@@ -365,9 +362,9 @@ data-reads sc file =
     versions-to (Rated rate floor) version e = omega (arith, e)
 
 -- a text of this value is a text of the scenario
-pub text-reads : (sc : Scenario) (bytes : List ℕ) → IsOfAFile sc → json_in bytes ≡ Ok (data_for sc) → scenario_of bytes ≡ Ok sc
+pub text-reads : (sc : Scenario) (bytes : List ℕ) → IsWithinLimits sc → All IsFileNumber sc.stations → sc.owners ≡ None → json_in bytes ≡ Ok (data_for sc) → scenario_of bytes ≡ Ok sc
 unfolding scenario_of
-text-reads sc bytes file is = then-reads (json_in bytes) (data_for sc) _ _ is (data-reads sc file)
+text-reads sc bytes limits numbers by_value is = then-reads (json_in bytes) (data_for sc) _ _ is (data-reads sc limits numbers by_value)
 
 pub numbers-more : (xs : List Station) (i : ℕ) (d : Station) → i < length xs → (get_or xs i d).id ≤ 4294967295 → All IsFileNumber (take i xs) → All IsFileNumber (take (i + 1) xs)
 numbers-more xs i d inside one all = All-more IsFileNumber xs i d inside all one

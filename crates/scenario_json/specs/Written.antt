@@ -77,9 +77,14 @@ data_for sc = object (members_for sc.fall sc)
 abbrev pub IsFileNumber : Station → Type 0
 IsFileNumber x = x.id ≤ 4294967295
 
--- The scenario is one that a file can hold: within the limits, its stations' numbers those of a file, and no line of an
--- owner.
+-- the worker's seed is one of a file, at most 2^64 - 1
+abbrev pub IsFileSeed : Worker → Type 0
+IsFileSeed w = w.seed ≤ 18446744073709551615
+
+-- The scenario is one that a file can hold: within the limits, its stations' numbers and its workers' seeds those of a
+-- file, and no line of an owner.
 pub record IsOfAFile (sc : Scenario) : Type 0 where
   pub limits : IsWithinLimits sc
   pub numbers : All IsFileNumber sc.stations
+  pub seeds : All IsFileSeed sc.workers
   pub by_value : sc.owners ≡ None

@@ -1,5 +1,5 @@
-use Rattle.scenario_json.proofs.WrittenLemmas.{text-reads}
+use Rattle.scenario_json.proofs.WrittenText.{written-reads}
 use Rattle.scenario_json.proofs.laws.written_reads_back.Goals as goal
 
 pub returns : goal.returns
-returns c = text-reads
+returns c = written-reads

@@ -1,4 +1,4 @@
-use Rattle.std.proofs.Common.{◌≡◌, ◌≤◌, ◌∙◌, All, Ok, false, Some, ap, refl, subst, sym}
+use Rattle.std.proofs.Common.{◌≡◌, ◌≤◌, ◌∙◌, All, false, Some, ap, subst, sym}
 use Rattle.std.proofs.lemmas.Result.{IfOk-weaker}
 use Rattle.serde_json.specs.Data.{depth}
 use Rattle.serde_json.specs.Read.{max_depth}
@@ -22,5 +22,5 @@ returns-clause-reads_back c =
     let numbers : All IsFileNumber c.args.sc.now.stations = subst (All IsFileNumber) c.as_slice.ensures c.have_file_numbers.ensures in
     ok-both c.to_vec.result c.to_vec.ensures.utf8 c.to_vec.ensures.reads_back
     (λ v utf8 read limits by_value.
-    text-reads c.args.sc.now v.items (record { limits = limits; numbers = numbers; by_value = by_value })
+    text-reads c.args.sc.now v.items limits numbers by_value
     (sym (json-is v.items (data_for c.args.sc.now) utf8 (read shallow ∙ ap (λ d. Some d) same))))
