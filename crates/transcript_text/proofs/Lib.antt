@@ -17,3 +17,7 @@ pub mod TextSaid
 pub mod Sizes
 pub mod RecordSpelled
 pub mod RecordReads
+pub mod Stays
+pub mod Ahead
+pub mod Cuts
+pub mod Fed

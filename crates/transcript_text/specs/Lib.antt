@@ -7,3 +7,4 @@ pub mod LogLines
 pub mod Reading
 pub mod Spelled
 pub mod Named
+pub mod Pieces

@@ -11,7 +11,11 @@ pub mod laws;
 mod log_lines;
 mod on_air;
 mod parts;
+mod pieces;
 pub mod read;
+pub mod reader;
+#[cfg(test)]
+mod reader_tests;
 mod reading;
 #[cfg(test)]
 mod samples;

@@ -4,12 +4,13 @@ ghost use Rattle.std.specs.Prelude.{◌≡◌};
 ghost use Rattle.pack_defs.specs.Scenario.{StationsAscend};
 ghost use Rattle.lrat_text.specs.Lines.{whole_lines};
 ghost use Rattle.transcript_text.specs.Reading.{empty_start, fit_start, order_of, start_at, start_by, text_end, transcript_of, version_at};
+ghost use Rattle.transcript_text.specs.Pieces.{ended_by, goes_on, opened_at};
 ghost use Rattle.transcript_text.specs.Steps.{Gives};
 
 use crate::error::TextErr;
 use crate::fields::{LineFields, TextLines, count_at, line_end, next_field, next_line, word_at};
 use crate::log_lines::entries_at;
-use crate::steps::steps_at;
+use crate::steps::{StepsRead, steps_on};
 use crate::transcript::Transcript;
 use auction_core::record::Shown;
 use lrat_text::lines::{is_whole, split_line};
@@ -119,8 +120,8 @@ fn start_at<'a>(
     start_by(alloc, sc, n, kind, fields, rest)
 }
 
-// That nothing stands behind the last line.
-fn text_end<'a>(whole: bool, lines: TextLines<'a>) -> Result<(), TextErr>
+/// That nothing stands behind the last line.
+pub(crate) fn text_end<'a>(whole: bool, lines: TextLines<'a>) -> Result<(), TextErr>
     ensures { Gives (λ u. u) (text_end whole lines.entry) result }
 {
     match split_line(lines.text) {
@@ -134,6 +135,61 @@ fn text_end<'a>(whole: bool, lines: TextLines<'a>) -> Result<(), TextErr>
     }
 }
 
+/// The transcript at its start, and the lines behind that.
+#[tactic(auto, unfolding(crate::specs::Pieces::opened_at))]
+pub(crate) fn opened_at<'a>(
+    alloc: Global,
+    sc: &Scenario,
+    text: &'a [u8],
+) -> Result<(Transcript, TextLines<'a>), TextErr>
+    requires { StationsAscend sc.now }
+    ensures { Gives (λ x. x) (opened_at sc.now (whole_lines text.now)) result }
+{
+    let (order, lines) = version_at(text)?;
+    let (start, lines) = start_at(alloc, sc, lines)?;
+    let begun = Transcript {
+        order,
+        start,
+        steps: Items::from_vec(Vec::new(alloc)),
+    };
+    Ok((begun, lines))
+}
+
+// The transcript that reading came to, where no more lines come.
+#[tactic(auto, unfolding(crate::specs::Pieces::ended_by))]
+fn ended_by<'a>(whole: bool, read: StepsRead<'a>) -> Result<Transcript, TextErr>
+    ensures { Gives (λ t. t) (ended_by whole read.entry) result }
+{
+    let StepsRead {
+        begun,
+        rest,
+        ended,
+    } = read;
+    if ended {
+        text_end(whole, rest)?;
+        return Ok(begun);
+    }
+    Err(TextErr::Truncated)
+}
+
+/// The transcript that begins so, where these lines are its last; and whether the text ends with the last of them.
+pub(crate) fn goes_on<'a>(
+    alloc: Global,
+    sc: &Scenario,
+    book: &Book,
+    begun: Transcript,
+    whole: bool,
+    lines: TextLines<'a>,
+) -> Result<Transcript, TextErr>
+    requires { StationsAscend sc.now }
+    ensures { Gives (λ t. t) (goes_on sc.now book.now begun whole lines.entry) result }
+{
+    match steps_on(alloc, sc, book, begun, lines) {
+        Ok(read) => return ended_by(whole, read),
+        Err(why) => return Err(why),
+    }
+}
+
 /// The transcript that a text says, of an auction by this scenario and this book. It goes over the text once, but for
 /// the first line of a receipt's log and of a proof from outside, whose number is read before it; and for each proof
 /// over some stations it counts the clauses of these, by their pairs. It takes memory for what it read, whatever the
@@ -144,7 +200,6 @@ fn text_end<'a>(whole: bool, lines: TextLines<'a>) -> Result<(), TextErr>
 /// `Version` where the first line is whole and names no version; `BadLine` of the first whole line that may not stand
 /// where it stands, or where any bytes stand behind the `end` line; `Truncated` where the text ends before its `end`
 /// line does; `NoMemory` where memory ran out.
-#[tactic(auto, unfolding(crate::specs::Reading::transcript_of))]
 pub fn read_transcript(
     alloc: Global,
     text: &[u8],
@@ -154,13 +209,8 @@ pub fn read_transcript(
     requires { StationsAscend sc.now }
     ensures { Gives (λ t. t) (transcript_of sc.now book.now text.now) result }
 {
-    let (order, lines) = version_at(text)?;
-    let (start, lines) = start_at(alloc, sc, lines)?;
-    let (steps, lines) = steps_at(alloc, sc, book, lines)?;
-    text_end(is_whole(text), lines)?;
-    Ok(Transcript {
-        order,
-        start,
-        steps: Items::from_vec(steps),
-    })
+    match opened_at(alloc, sc, text) {
+        Ok((begun, lines)) => return goes_on(alloc, sc, book, begun, is_whole(text), lines),
+        Err(why) => return Err(why),
+    }
 }

@@ -1,9 +1,10 @@
 //! The reading of a transcript's steps.
 
-ghost use Rattle.std.specs.Prelude.{◌≡◌, ◌≤◌, length};
+ghost use Rattle.std.specs.Prelude.{◌≡◌, ◌≤◌, IfOk};
 ghost use Rattle.pack_defs.specs.Scenario.{StationsAscend};
 ghost use Rattle.transcript_text.specs.Fields.{most_counted};
-ghost use Rattle.transcript_text.specs.Reading.{IsCounted, fit_step, log_step, next_step, outside_step, step_at, step_of, steps_at, undecided_step};
+ghost use Rattle.transcript_text.specs.Reading.{IsCounted, fit_step, log_step, next_step, outside_step, step_at, step_of, undecided_step};
+ghost use Rattle.transcript_text.specs.Pieces.{IsAtEnd, ReadsOn, stopped};
 ghost use Rattle.transcript_text.specs.Steps.{Gives};
 
 use crate::error::TextErr;
@@ -12,7 +13,7 @@ use crate::head::{Head, StepTest};
 use crate::heads::head_at;
 use crate::log_lines::{entries_at, log_at, stations_of};
 use crate::reading::{NumberedLog, Receipts, numbered_log, receipts_at};
-use crate::transcript::TranscriptStep;
+use crate::transcript::{Transcript, TranscriptStep};
 use auction_core::record::{Shown, Step};
 use cert_types::answer::Refutation;
 use cert_types::outside::OutsideProof;
@@ -20,9 +21,11 @@ use cnf_encode::count::clause_count;
 use pack_defs::book::Book;
 use pack_defs::channel_map::ChannelMap;
 use pack_defs::items::Items;
+use pack_defs::order::Order;
 use pack_defs::scenario::Scenario;
 use rup_check::line::Log;
 use std::alloc::Global;
+use std::marker::Model;
 
 // A step of a transcript.
 fn step_of(test: StepTest, shown: Shown, firsts: Vec<u64>) -> TranscriptStep
@@ -187,28 +190,86 @@ fn next_step<'a>(
     step_at(alloc, sc, book, head, rest)
 }
 
-/// The steps, up to the last line.
-pub(crate) fn steps_at<'a>(
+/// What reading steps came to: the transcript with them, the lines behind them, and whether its `end` line was read.
+#[derive(Drop)]
+pub(crate) struct StepsRead<'a> {
+    pub(crate) begun: Transcript,
+    pub(crate) rest: TextLines<'a>,
+    pub(crate) ended: bool,
+}
+
+impl<'a> Model for StepsRead<'a> {
+    ghost use Rattle.transcript_text.specs.Pieces.{StepsSoFar};
+
+    ghost Value = { StepsSoFar };
+
+    ghost view = { λ s. record { begun = s.begun; rest = s.rest; ended = s.ended } };
+}
+
+// What reading came to, with these steps.
+fn so_far<'a>(
+    order: Order,
+    start: Shown,
+    steps: Vec<TranscriptStep>,
+    rest: TextLines<'a>,
+    ended: bool,
+) -> StepsRead<'a>
+    ensures { result ≡ record { begun = record { order = order; start = start; steps = steps.items }; rest = rest.entry; ended = ended } }
+{
+    let steps = Items::from_vec(steps);
+    StepsRead {
+        begun: Transcript {
+            order,
+            start,
+            steps,
+        },
+        rest,
+        ended,
+    }
+}
+
+// What stopped by this error comes to: want of lines is none.
+fn stopped<'a>(why: TextErr, read: StepsRead<'a>) -> Result<StepsRead<'a>, TextErr>
+    ensures { result ≡ stopped why read.entry }
+{
+    match why {
+        TextErr::Version => return Err(TextErr::Version),
+        TextErr::BadLine { n } => return Err(TextErr::BadLine { n }),
+        TextErr::Truncated => return Ok(read),
+        TextErr::NoMemory => return Err(TextErr::NoMemory),
+    }
+}
+
+/// Reads on from the steps that a transcript begins with, up to the last line, or as far as whole steps are there. No
+/// error is for want of lines.
+pub(crate) fn steps_on<'a>(
     alloc: Global,
     sc: &Scenario,
     book: &Book,
+    begun: Transcript,
     lines: TextLines<'a>,
-) -> Result<(Vec<TranscriptStep>, TextLines<'a>), TextErr>
+) -> Result<StepsRead<'a>, TextErr>
     requires { StationsAscend sc.now }
-    ensures { Gives (λ x. (x.0.items, x.1)) (steps_at sc.now book.now (length lines.entry.left) 0 lines.entry) result }
+    ensures read { ReadsOn sc.now book.now begun lines.entry result }
+    ensures waits { IfOk result (λ x. IsAtEnd sc.now book.now x) }
 {
-    let mut steps = Vec::new(alloc);
+    let Transcript {
+        order,
+        start,
+        steps,
+    } = begun;
+    let mut steps = steps.into_vec();
     let mut rest = lines;
     loop {
-        match next_step(alloc, sc, book, steps.len() as u64, rest) {
+        match next_step(alloc, sc, book, steps.len() as u64, rest.again()) {
             Ok((next, after)) => match next {
                 Some(step) => {
                     rest = after;
                     steps.push(step)?;
                 }
-                None => return Ok((steps, after)),
+                None => return Ok(so_far(order, start, steps, after, true)),
             },
-            Err(why) => return Err(why),
+            Err(why) => return stopped(why, so_far(order, start, steps, rest, false)),
         }
     }
 }

@@ -5,15 +5,13 @@ ghost use Rattle.pack_defs.specs.Scenario.{StationsAscend};
 
 use crate::TextErr;
 use crate::read::read_transcript;
+use crate::reader_tests::{Answer, is_same, reads_in_pieces};
 use crate::samples::{Given, lone_bid, lone_station, three_bids, three_stations, written};
 use pack_defs::book::Book;
 use pack_defs::order::Order;
 use pack_defs::scenario::Scenario;
 use std::alloc::{AllocError as NoMemory, Global};
 use std::test::Fail;
-
-// What a text is read as: the order of its tests, and how many steps it has.
-type Answer = Result<(Order, usize), TextErr>;
 
 fn read(alloc: Global, sc: &Scenario, book: &Book, text: &[u8]) -> Answer
     requires { StationsAscend sc.now }
@@ -22,15 +20,11 @@ fn read(alloc: Global, sc: &Scenario, book: &Book, text: &[u8]) -> Answer
     Ok((transcript.order, transcript.steps.as_slice().len()))
 }
 
-// Whether reading the text gives this.
+// Whether reading the text gives this, and so does reading it in pieces.
 fn reads(alloc: Global, sc: &Scenario, book: &Book, text: &[u8], answer: Answer) -> bool
     requires { StationsAscend sc.now }
 {
-    match (read(alloc, sc, book, text), answer) {
-        (Ok(said), Ok(wanted)) => said.0 == wanted.0 && said.1 == wanted.1,
-        (Err(why), Err(wanted)) => why == wanted,
-        _ => false,
-    }
+    is_same(read(alloc, sc, book, text), answer) && reads_in_pieces(alloc, sc, book, text, answer)
 }
 
 // The first of these texts, each behind this one, that is not read as it should be.

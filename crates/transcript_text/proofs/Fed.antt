@@ -1,0 +1,153 @@
+-- What a reader of pieces makes of them.
+use Rattle.std.proofs.Common.{◌≡◌, ◌≤◌, ◌<◌, ◌∙◌, ◌&&◌, ◌==◌, ℕ, Bool, true, false, List, [], ◌∷◌, ◌++◌, Result, Ok, Err, IfOk, refl, sym, ap, subst, arith, length, take, drop, append_assoc, append-nil, if◌then◌else◌}
+use Rattle.std.proofs.lemmas.List.{take-append-drop}
+use Rattle.pack_defs.specs.declared.scenario.Scenario.{Scenario}
+use Rattle.pack_defs.specs.Book.{BookView}
+use Rattle.lrat_text.specs.Lines.{is_whole, whole_lines}
+use Rattle.transcript_text.specs.declared.error.TextErr.{TextErr}
+use Rattle.transcript_text.specs.declared.error.TextErr.TheVariants.{Version, BadLine, Truncated, NoMemory}
+use Rattle.transcript_text.specs.declared.reader.Stage.{Stage}
+use Rattle.transcript_text.specs.declared.reader.Stage.TheVariants.{Opening, Steps, Whole, Refused}
+use Rattle.transcript_text.specs.declared.transcript.Transcript.{Transcript}
+use Rattle.transcript_text.specs.Steps.{◌>>=◌, Fails, Gives}
+use Rattle.transcript_text.specs.Fields.{LinesLeft}
+use Rattle.transcript_text.specs.Reading.{text_end, transcript_of}
+use Rattle.transcript_text.specs.Pieces.{HasLinesOf, HasRead, IsStageBy, ReadSoFar, ReadsOn, ReadsSame, SaysSame, StepsSoFar, begins, comes_to, ends_or_goes_on, goes_on, opened_at, said_by, with_lines}
+use Rattle.transcript_text.proofs.Ahead.{begins-from, begins-not, stays-fails, transcript-begins}
+use Rattle.transcript_text.proofs.Cuts.{lines-append, some-bytes, whole-append}
+use Rattle.transcript_text.proofs.Stays.{opened-stays}
+
+-- ---- from stage to stage
+
+-- what was read of lines under another name, and seen from within
+read-seen : (sc : Scenario) (book : BookView) (begun : Transcript) (asked lines : LinesLeft) (x y : StepsSoFar) → asked ≡ lines → y ≡ x → ReadsOn sc book begun asked (Ok x) → ReadsOn sc book begun lines (Ok y)
+read-seen sc book begun asked lines x y p q read = subst (λ (y : StepsSoFar). ReadsOn sc book begun lines (Ok y)) (sym q) (subst (λ (ls : LinesLeft). ReadsOn sc book begun ls (Ok x)) p read)
+
+pub whole-says : (sc : Scenario) (book : BookView) (begun : Transcript) (asked lines : LinesLeft) (x y : StepsSoFar) → asked ≡ lines → y ≡ x → ReadsOn sc book begun asked (Ok x) → y.ended ≡ true
+    → SaysSame sc book (Steps begun) lines (Whole y.begun) y.rest
+unfolding comes_to
+whole-says sc book begun asked lines x y p q read e = λ whole more.
+    read-seen sc book begun asked lines x y p q read whole more ∙ ap (λ (ended : Bool). ends_or_goes_on sc book ended y.begun whole (with_lines y.rest more)) e
+
+pub steps-say : (sc : Scenario) (book : BookView) (begun : Transcript) (asked lines : LinesLeft) (x y : StepsSoFar) → asked ≡ lines → y ≡ x → ReadsOn sc book begun asked (Ok x) → y.ended ≡ false
+    → SaysSame sc book (Steps begun) lines (Steps y.begun) y.rest
+unfolding comes_to
+steps-say sc book begun asked lines x y p q read e = λ whole more.
+    read-seen sc book begun asked lines x y p q read whole more ∙ ap (λ (ended : Bool). ends_or_goes_on sc book ended y.begun whole (with_lines y.rest more)) e
+
+refused-says : (sc : Scenario) (book : BookView) (before stage : Stage) (lines : LinesLeft) (why : TextErr) → stage ≡ Refused why
+    → ((whole : Bool) (more : List (List ℕ)) → comes_to sc book before whole (with_lines lines more) ≡ Err why) → SaysSame sc book before lines stage lines
+unfolding comes_to
+refused-says sc book before stage lines why is h = λ whole more. h whole more ∙ sym (ap (λ (s : Stage). comes_to sc book s whole (with_lines lines more)) is)
+
+stopped-says : (sc : Scenario) (book : BookView) (begun : Transcript) (lines : LinesLeft) (why : TextErr) (stage : Stage) → ReadsOn sc book begun lines (Err why) → IsStageBy why (Refused why) stage → SaysSame sc book (Steps begun) lines stage lines
+unfolding comes_to
+stopped-says sc book begun lines Version stage read is = refused-says sc book (Steps begun) stage lines Version is read
+stopped-says sc book begun lines (BadLine n) stage read is = refused-says sc book (Steps begun) stage lines (BadLine n) is read
+stopped-says sc book begun lines Truncated stage read is = refused-says sc book (Steps begun) stage lines Truncated is read
+stopped-says sc book begun lines NoMemory stage read is = absurd is
+
+pub steps-stopped : (sc : Scenario) (book : BookView) (begun : Transcript) (asked lines : LinesLeft) (why : TextErr) (stage : Stage) → asked ≡ lines → ReadsOn sc book begun asked (Err why) → IsStageBy why (Refused why) stage
+    → SaysSame sc book (Steps begun) lines stage lines
+steps-stopped sc book begun asked lines why stage p read is = stopped-says sc book begun lines why stage (subst (λ (ls : LinesLeft). ReadsOn sc book begun ls (Err why)) p read) is
+
+opening-stays : (sc : Scenario) (book : BookView) (lines : LinesLeft) (why : TextErr) (stage : Stage) → Fails why (opened_at sc lines.left) → IsStageBy why Opening stage → SaysSame sc book Opening lines stage lines
+unfolding comes_to
+opening-stays sc book lines Version stage h is =
+    refused-says sc book Opening stage lines Version is (λ whole more. begins-not sc book lines.left Version whole more (stays-fails more _ _ Version (opened-stays more sc lines.left) h))
+opening-stays sc book lines (BadLine n) stage h is =
+    refused-says sc book Opening stage lines (BadLine n) is (λ whole more. begins-not sc book lines.left (BadLine n) whole more (stays-fails more _ _ (BadLine n) (opened-stays more sc lines.left) h))
+opening-stays sc book lines Truncated stage h is = λ whole more. sym (ap (λ (s : Stage). comes_to sc book s whole (with_lines lines more)) is)
+opening-stays sc book lines NoMemory stage h is = absurd is
+
+pub opening-stopped : (sc : Scenario) (book : BookView) (asked : List (List ℕ)) (lines : LinesLeft) (why : TextErr) (stage : Stage) → asked ≡ lines.left → Fails why (opened_at sc asked) → IsStageBy why Opening stage
+    → SaysSame sc book Opening lines stage lines
+opening-stopped sc book asked lines why stage p h is = opening-stays sc book lines why stage (subst (λ (ls : List (List ℕ)). Fails why (opened_at sc ls)) p h) is
+
+pub opening-says : {E : Type 0} (sc : Scenario) (book : BookView) (asked : List (List ℕ)) (lines behind : LinesLeft) (begun : Transcript) (r : Result (Stage × LinesLeft) E) → asked ≡ lines.left → opened_at sc asked ≡ Ok (begun, behind)
+    → IfOk r (λ x. SaysSame sc book (Steps begun) behind x.0 x.1) → IfOk r (λ x. SaysSame sc book Opening lines x.0 x.1)
+unfolding comes_to
+opening-says sc book asked lines behind begun (Ok x) p e h = λ whole more.
+    begins-from sc book lines.left begun behind whole more (subst (λ (ls : List (List ℕ)). opened_at sc ls ≡ Ok (begun, behind)) p e) ∙ h whole more
+opening-says sc book asked lines behind begun (Err e') p e h = tt
+
+-- ---- from bytes to bytes
+
+-- a text in two parts, of which the first ends with its last line
+said-apart : (sc : Scenario) (book : BookView) (read : ReadSoFar) (text part behind : List ℕ) → text ≡ part ++ behind → is_whole part ≡ true
+    → said_by sc book read text ≡ comes_to sc book read.stage (is_whole behind) (with_lines (record { number = read.number; left = whole_lines part }) (whole_lines behind))
+said-apart sc book read text part behind e w =
+    ap (λ (bytes : List ℕ). said_by sc book read bytes) e
+    ∙ ap (λ (b : Bool). comes_to sc book read.stage b (record { number = read.number; left = whole_lines (part ++ behind) })) (whole-append part behind w)
+    ∙ ap (λ (ls : List (List ℕ)). comes_to sc book read.stage (is_whole behind) (record { number = read.number; left = ls })) (lines-append part behind w)
+
+said-with : (sc : Scenario) (book : BookView) (read : ReadSoFar) (rest : LinesLeft) (text behind more : List ℕ) → rest ≡ record { number = read.number; left = whole_lines text } → HasLinesOf text behind read.left
+    → said_by sc book read (read.left ++ more) ≡ comes_to sc book read.stage (is_whole (behind ++ more)) (with_lines rest (whole_lines (behind ++ more)))
+said-with sc book read rest text behind more is h =
+    ap (λ (b : Bool). comes_to sc book read.stage b (record { number = read.number; left = whole_lines (read.left ++ more) })) (h.end more)
+    ∙ ap (λ (ls : List (List ℕ)). comes_to sc book read.stage (is_whole (behind ++ more)) (record { number = read.number; left = ls })) (h.lines more)
+    ∙ sym (ap (λ (ls : LinesLeft). comes_to sc book read.stage (is_whole (behind ++ more)) (with_lines ls (whole_lines (behind ++ more)))) is)
+
+pub reads-same : (sc : Scenario) (book : BookView) (old new : ReadSoFar) (lines rest : LinesLeft) (part text : List ℕ) → part ≡ take (length part) old.left → is_whole part ≡ true
+    → lines ≡ record { number = old.number; left = whole_lines part } → SaysSame sc book old.stage lines new.stage rest → rest ≡ record { number = new.number; left = whole_lines text }
+    → HasLinesOf text (drop (length part) old.left) new.left → ReadsSame sc book old new
+reads-same sc book old new lines rest part text front w are same is kept = λ more.
+    let behind = drop (length part) old.left in
+    let apart : old.left ++ more ≡ part ++ (behind ++ more) =
+    ap (λ (bytes : List ℕ). bytes ++ more) (sym (take-append-drop (length part) old.left) ∙ ap (λ (bytes : List ℕ). bytes ++ behind) (sym front)) ∙ append_assoc part behind more in
+    said-apart sc book old (old.left ++ more) part (behind ++ more) apart w
+    ∙ sym (ap (λ (ls : LinesLeft). comes_to sc book old.stage (is_whole (behind ++ more)) (with_lines ls (whole_lines (behind ++ more)))) are)
+    ∙ same (is_whole (behind ++ more)) (whole_lines (behind ++ more))
+    ∙ sym (said-with sc book new rest text behind more is kept)
+
+pub refused-said : (sc : Scenario) (book : BookView) (read : ReadSoFar) (why : TextErr) (bytes : List ℕ) → read.stage ≡ Refused why → said_by sc book read bytes ≡ Err why
+unfolding comes_to
+refused-said sc book read why bytes is = ap (λ (s : Stage). comes_to sc book s (is_whole bytes) (record { number = read.number; left = whole_lines bytes })) is
+
+pub behind-said : (sc : Scenario) (book : BookView) (read : ReadSoFar) (t : Transcript) (more : List ℕ) → read.stage ≡ Whole t → 0 < length read.left → said_by sc book read (read.left ++ more) ≡ Err (BadLine read.number)
+unfolding comes_to
+behind-said sc book read t more is some =
+    ap (λ (s : Stage). comes_to sc book s (is_whole (read.left ++ more)) (record { number = read.number; left = whole_lines (read.left ++ more) })) is ∙ go read.left some
+  where
+    go : (left : List ℕ) → 0 < length left → comes_to sc book (Whole t) (is_whole (left ++ more)) (record { number = read.number; left = whole_lines (left ++ more) }) ≡ Err (BadLine read.number)
+    go [] h = absurd (omega (arith, h))
+    go (c ∷ left) h = ap (λ (b : Bool). (if b then Ok tt else Err (BadLine read.number)) >>= λ u. Ok t) (some-bytes c (left ++ more))
+
+pub some-there : (n : ℕ) (xs : List ℕ) → n ≡ length xs → false ≡ (n == 0) → 0 < length xs
+some-there n [] is some = absurd cc (some ∙ ap (λ (n : ℕ). n == 0) is)
+some-there n (x ∷ xs) is some = omega arith
+
+-- ---- the reader
+
+pub has-none : (sc : Scenario) (book : BookView) (read : ReadSoFar) → read.stage ≡ Opening → read.left ≡ [] → HasRead sc book [] read
+unfolding comes_to
+has-none sc book read is empty = record {
+  says = λ more. transcript-begins sc book more
+      ∙ sym (ap (λ (s : Stage). comes_to sc book s (is_whole more) (record { number = read.number; left = whole_lines more })) is)
+      ∙ sym (ap (λ (left : List ℕ). said_by sc book read (left ++ more)) empty);
+}
+
+pub has-piece : (sc : Scenario) (book : BookView) (bytes piece : List ℕ) (old new : ReadSoFar) → HasRead sc book bytes old → new ≡ record { stage = old.stage; number = old.number; left = old.left ++ piece } → HasRead sc book (bytes ++ piece) new
+has-piece sc book bytes piece old new h is = subst (λ (read : ReadSoFar). HasRead sc book (bytes ++ piece) read) (sym is) (record {
+  says = λ more. ap (transcript_of sc book) (append_assoc bytes piece more) ∙ h.says (piece ++ more) ∙ sym (ap (said_by sc book old) (append_assoc old.left piece more));
+})
+
+pub has-same : (sc : Scenario) (book : BookView) (bytes : List ℕ) (old new : ReadSoFar) → HasRead sc book bytes old → ReadsSame sc book old new → HasRead sc book bytes new
+has-same sc book bytes old new h same = record { says = λ more. h.says more ∙ same more; }
+
+pub has-fault : (sc : Scenario) (book : BookView) (bytes : List ℕ) (old new : ReadSoFar) (why : TextErr) → HasRead sc book bytes old → ((more : List ℕ) → said_by sc book old (old.left ++ more) ≡ Err why) → new.stage ≡ Refused why → HasRead sc book bytes new
+has-fault sc book bytes old new why h fault is = record { says = λ more. h.says more ∙ fault more ∙ sym (refused-said sc book new why (new.left ++ more) is); }
+
+-- ---- the end
+
+pub says-all : (sc : Scenario) (book : BookView) (bytes : List ℕ) (read : ReadSoFar) (stage : Stage) → HasRead sc book bytes read → read.stage ≡ stage
+    → transcript_of sc book bytes ≡ comes_to sc book stage (is_whole read.left) (record { number = read.number; left = whole_lines read.left })
+says-all sc book bytes read stage h is =
+    ap (transcript_of sc book) (sym (append-nil bytes)) ∙ h.says [] ∙ ap (said_by sc book read) (append-nil read.left)
+    ∙ ap (λ (s : Stage). comes_to sc book s (is_whole read.left) (record { number = read.number; left = whole_lines read.left })) is
+
+pub err-fails : {A : Type 0} (r : Result A TextErr) (why : TextErr) → r ≡ Err why → Fails why r
+err-fails r Version e = e
+err-fails r (BadLine n) e = e
+err-fails r Truncated e = e
+err-fails r NoMemory e = tt

@@ -1,0 +1,31 @@
+use Rattle.std.proofs.Common.{◌≡◌, ◌∙◌, List, ℕ, None, Ok, Result, Some, ap, length, subst, sym}
+use Rattle.transcript_text.specs.Pieces.{ReadsOn, StepsSoFar, stopped}
+use Rattle.transcript_text.specs.Reading.{next_step}
+use Rattle.transcript_text.specs.Steps.{Fails}
+use Rattle.transcript_text.proofs.Ahead.{asked-same, end-read, step-read-as, stop-read}
+use Rattle.transcript_text.proofs.StepLoop.{step-fewer, took-line}
+use Rattle.transcript_text.proofs.steps.steps_on.Goals as goal
+
+pub loop-next-smaller : goal.loop-next-smaller
+loop-next-smaller c =
+    took-line c.loop-next.rest (next_step c.args.sc.now c.args.book.now (length c.loop-next.steps.items) c.loop-next.rest) c.in-Ok.next c.in-Ok.after (step-fewer c.args.sc.now c.args.book.now (length c.loop-next.steps.items) c.loop-next.rest)
+    (asked-same (λ r. r ≡ Ok (c.in-Ok.next, c.in-Ok.after)) c.args.sc.now c.args.book.now c.len.result (length c.loop-next.steps.items) c.again.result c.loop-next.rest (c.len.ensures ∙ c.loop-next.steps.ok.0) c.again.ensures c.in-Ok.ensures)
+
+pub loop-next-preserved : goal.loop-next-preserved
+loop-next-preserved c = record {
+  read = step-read-as c.args.sc.now c.args.book.now c.args.begun _ c.args.lines c.loop-next.rest c.in-Ok.after c.in-Some.step c.push.new.self.items c.loop-next.invariant.read
+      (asked-same (λ r. r ≡ Ok (c.in-Ok.next, c.in-Ok.after)) c.args.sc.now c.args.book.now c.len.result (length c.loop-next.steps.items) c.again.result c.loop-next.rest (c.len.ensures ∙ c.loop-next.steps.ok.0) c.again.ensures c.in-Ok.ensures ∙ ap (λ o. Ok (o, c.in-Ok.after)) c.in-Some.is) c.in_ok-push-in-Some.ensures.items;
+}
+
+pub returns-in-None-clause-read : goal.returns-in-None-clause-read
+returns-in-None-clause-read c =
+    subst (λ (x : StepsSoFar). ReadsOn c.args.sc.now c.args.book.now c.args.begun c.args.lines (Ok x)) (sym c.so_far.ensures)
+    (end-read c.args.sc.now c.args.book.now c.args.begun _ c.args.lines c.loop-next.rest c.in-Ok.after c.loop-next.invariant.read
+    (asked-same (λ r. r ≡ Ok (c.in-Ok.next, c.in-Ok.after)) c.args.sc.now c.args.book.now c.len.result (length c.loop-next.steps.items) c.again.result c.loop-next.rest (c.len.ensures ∙ c.loop-next.steps.ok.0) c.again.ensures c.in-Ok.ensures ∙ ap (λ o. Ok (o, c.in-Ok.after)) c.in-None.is))
+
+pub returns-in-Err-clause-read : goal.returns-in-Err-clause-read
+returns-in-Err-clause-read c =
+    subst (ReadsOn c.args.sc.now c.args.book.now c.args.begun c.args.lines) (sym c.stopped.ensures)
+    (subst (λ (x : StepsSoFar). ReadsOn c.args.sc.now c.args.book.now c.args.begun c.args.lines (stopped c.in-Err.why x)) (sym c.so_far-in-Err.ensures)
+    (stop-read c.args.sc.now c.args.book.now c.args.begun _ c.args.lines c.loop-next.rest c.in-Err.why c.loop-next.invariant.read
+    (asked-same (Fails c.in-Err.why) c.args.sc.now c.args.book.now c.len.result (length c.loop-next.steps.items) c.again.result c.loop-next.rest (c.len.ensures ∙ c.loop-next.steps.ok.0) c.again.ensures c.in-Err.ensures)))

@@ -1,0 +1,11 @@
+use Rattle.std.proofs.Common.{length}
+use Rattle.transcript_text.proofs.Ahead.{AreRead}
+use Rattle.transcript_text.proofs.steps.steps_on.Given as goal
+
+abbrev pub invariant-loop-next : goal.invariant-loop-next
+invariant-loop-next l = record {
+  read : AreRead l.sc l.book l.fn.begun l.fn.lines (record { order = l.order; start = l.start; steps = l.steps.items }) l.rest;
+}
+
+abbrev pub decreases-loop-next : goal.decreases-loop-next
+decreases-loop-next l = length l.rest.left

@@ -1,0 +1,54 @@
+//! A text that is there in part: its whole lines, and what stands behind them.
+
+ghost use Rattle.std.specs.Prelude.{◌≡◌, ◌++◌, IfOk, List, ℕ, length, take, true};
+ghost use Rattle.lrat_text.specs.Lines.{is_whole, whole_lines};
+ghost use Rattle.transcript_text.specs.Pieces.{HasLinesOf};
+
+use crate::fields::TextLines;
+use lrat_text::lines::is_whole;
+use std::alloc::{AllocError as NoMemory, Global};
+
+/// How many lines these bytes end.
+pub(crate) fn line_ends(bytes: &[u8]) -> u64 {
+    let mut ends = 0u64;
+    for byte in bytes {
+        if *byte == b'\n' {
+            ends = ends.saturating_add(1);
+        }
+    }
+    ends
+}
+
+/// The part of a text up to the end of its last whole line.
+pub(crate) fn whole_part(text: &[u8]) -> &[u8]
+    ensures front { result.now ≡ take (length result.now) text.now }
+    ensures whole { is_whole result.now ≡ true }
+    ensures lines { whole_lines result.now ≡ whole_lines text.now }
+{
+    let mut end = text.len();
+    while !is_whole(&text[..end]) {
+        end -= 1;
+    }
+    &text[..end]
+}
+
+/// The whole lines of a text, of which the first has this number; no memory is wanted for them, but a number that has
+/// no room is told so.
+pub(crate) fn lines_from(number: u64, text: &[u8]) -> Result<TextLines<'_>, NoMemory>
+    ensures { IfOk result (λ lines. lines ≡ record { number = number; left = whole_lines text.now }) }
+{
+    match number.checked_add(text.len() as u64) {
+        Some(_) => Ok(TextLines { number, text }),
+        None => Err(NoMemory),
+    }
+}
+
+/// The whole lines of a text, and behind them these bytes.
+pub(crate) fn kept_of(alloc: Global, text: &[u8], behind: &[u8]) -> Result<Vec<u8>, NoMemory>
+    ensures { IfOk result (λ kept. HasLinesOf text.now behind.now kept.items) }
+{
+    let mut kept = Vec::new(alloc);
+    kept.extend_from_slice(whole_part(text))?;
+    kept.extend_from_slice(behind)?;
+    Ok(kept)
+}

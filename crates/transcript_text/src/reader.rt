@@ -1,0 +1,316 @@
+//! The reader of a transcript that comes in pieces: whatever its length, no more of the text is held than the step that is
+//! read and one piece.
+
+ghost use Rattle.std.specs.Prelude.{◌≡◌, ◌++◌, [], ℕ, Err, IfOk, IfSome, List};
+ghost use Rattle.pack_defs.specs.Scenario.{StationsAscend};
+ghost use Rattle.pack_defs.specs.Book.{BookView};
+ghost use Rattle.pack_defs.specs.declared.scenario.Scenario.{Scenario};
+ghost use Rattle.transcript_text.specs.declared.reader.Stage.TheVariants.{Opening, Steps, Refused};
+ghost use Rattle.transcript_text.specs.Pieces.{HasRead, IsStageBy, ReadsSame, SaysSame, said_by};
+ghost use Rattle.transcript_text.specs.Reading.{transcript_of};
+ghost use Rattle.transcript_text.specs.Steps.{Gives};
+
+use crate::error::TextErr;
+use crate::fields::{TextLines, next_line};
+use crate::head::Head;
+use crate::heads::head_at;
+use crate::pieces::{kept_of, line_ends, lines_from, whole_part};
+use crate::read::{goes_on, opened_at, read_transcript, text_end};
+use crate::steps::steps_on;
+use crate::transcript::Transcript;
+use lrat_text::lines::is_whole;
+use pack_defs::book::Book;
+use pack_defs::scenario::Scenario;
+use std::alloc::{AllocError as NoMemory, Global};
+use std::marker::Model;
+
+/// How far the reading of a transcript came.
+#[derive(Drop)]
+pub(crate) enum Stage {
+    /// Not behind the start.
+    Opening,
+    /// Behind the start, and the last of these steps.
+    Steps(Transcript),
+    /// Behind the `end` line.
+    Whole(Transcript),
+    /// To the first fault.
+    Refused(TextErr),
+}
+
+/// Reads a transcript that comes in pieces, cut anywhere. What it says and why it is refused is told at
+/// [`read_transcript`](crate::read::read_transcript).
+#[derive(Drop)]
+pub struct TranscriptReader {
+    alloc: Global,
+    stage: Stage,
+    // The number of the first line that isn't read.
+    number: u64,
+    // The bytes from that line on.
+    left: Vec<u8>,
+    // How many whole lines they have.
+    lines: u64,
+    // With how many the next step may be whole.
+    wanted: u64,
+}
+
+impl Model for TranscriptReader {
+    ghost use Rattle.transcript_text.specs.Pieces.{ReadSoFar};
+
+    ghost Value = { ReadSoFar };
+
+    ghost view = { λ r. record { stage = r.stage; number = r.number; left = r.left.items } };
+}
+
+// The stage where reading stopped by this error: this one, where lines are wanted.
+fn stage_by(why: TextErr, waiting: Stage) -> Result<Stage, NoMemory>
+    ensures { IfOk result (λ stage. IsStageBy why waiting stage) }
+{
+    match why {
+        TextErr::Version => return Ok(Stage::Refused(TextErr::Version)),
+        TextErr::BadLine { n } => return Ok(Stage::Refused(TextErr::BadLine { n })),
+        TextErr::Truncated => return Ok(waiting),
+        TextErr::NoMemory => return Err(NoMemory),
+    }
+}
+
+// Reads steps, as far as whole ones are there.
+fn steps_read<'a>(
+    alloc: Global,
+    sc: &Scenario,
+    book: &Book,
+    begun: Transcript,
+    lines: TextLines<'a>,
+) -> Result<(Stage, TextLines<'a>), NoMemory>
+    requires { StationsAscend sc.now }
+    ensures { IfOk result (λ x. SaysSame sc.now book.now (Steps begun) lines.entry x.0 x.1) }
+{
+    match steps_on(alloc, sc, book, begun, lines.again()) {
+        Ok(read) => {
+            if read.ended {
+                return Ok((Stage::Whole(read.begun), read.rest));
+            }
+            return Ok((Stage::Steps(read.begun), read.rest));
+        }
+        Err(why) => return Ok((stage_by(why, Stage::Refused(why))?, lines)),
+    }
+}
+
+// Reads from the first line on, as far as whole steps are there.
+fn opening_read<'a>(
+    alloc: Global,
+    sc: &Scenario,
+    book: &Book,
+    lines: TextLines<'a>,
+) -> Result<(Stage, TextLines<'a>), NoMemory>
+    requires { StationsAscend sc.now }
+    ensures { IfOk result (λ x. SaysSame sc.now book.now Opening lines.entry x.0 x.1) }
+{
+    match opened_at(alloc, sc, lines.text) {
+        Ok((begun, behind)) => return steps_read(alloc, sc, book, begun, behind),
+        Err(why) => return Ok((stage_by(why, Stage::Opening)?, lines)),
+    }
+}
+
+// Reads on from a stage, as far as whole steps are there.
+fn stage_read<'a>(
+    alloc: Global,
+    sc: &Scenario,
+    book: &Book,
+    stage: Stage,
+    lines: TextLines<'a>,
+) -> Result<(Stage, TextLines<'a>), NoMemory>
+    requires { StationsAscend sc.now }
+    ensures { IfOk result (λ x. SaysSame sc.now book.now stage lines.entry x.0 x.1) }
+{
+    match stage {
+        Stage::Opening => return opening_read(alloc, sc, book, lines),
+        Stage::Steps(begun) => return steps_read(alloc, sc, book, begun, lines),
+        Stage::Whole(transcript) => return Ok((Stage::Whole(transcript), lines)),
+        Stage::Refused(why) => return Ok((Stage::Refused(why), lines)),
+    }
+}
+
+// How many lines the step has whose first line is the next one, as far as that line tells: receipts count their own.
+// `there` of them are there, and are too few.
+fn step_lines<'a>(sc: &Scenario, steps: usize, lines: TextLines<'a>, there: u64) -> u64
+    requires { StationsAscend sc.now }
+{
+    let Ok((line, _)) = next_line(lines) else {
+        return 1;
+    };
+    let Ok(head) = head_at(sc, steps as u64, line) else {
+        return 1;
+    };
+    match head {
+        Head::Log { count, .. } => count.saturating_add(2),
+        Head::Fit { count, .. } => count.saturating_add(1),
+        Head::Outside { count, .. } => count.saturating_add(1),
+        Head::Undecided { .. } => there.saturating_mul(2),
+        _ => 1,
+    }
+}
+
+// With how many whole lines reading on pays, where these are there.
+fn lines_wanted<'a>(sc: &Scenario, stage: &Stage, lines: TextLines<'a>, there: u64) -> u64
+    requires { StationsAscend sc.now }
+{
+    match stage {
+        Stage::Opening => there.saturating_mul(2).max(1),
+        Stage::Steps(begun) => step_lines(sc, begun.steps.as_slice().len(), lines, there),
+        _ => 0,
+    }
+}
+
+impl TranscriptReader {
+    /// A reader before the first byte.
+    pub fn new(alloc: Global) -> TranscriptReader
+        ensures { (sc : Scenario) (book : BookView) → HasRead sc book [] result }
+    {
+        TranscriptReader {
+            alloc,
+            stage: Stage::Opening,
+            number: 1,
+            left: Vec::new(alloc),
+            lines: 0,
+            wanted: 1,
+        }
+    }
+
+    // A reader of a text with this fault, which keeps no more of it.
+    fn refused(alloc: Global, why: TextErr) -> TranscriptReader
+        ensures { result.stage ≡ Refused why }
+    {
+        TranscriptReader {
+            alloc,
+            stage: Stage::Refused(why),
+            number: 0,
+            left: Vec::new(alloc),
+            lines: 0,
+            wanted: 0,
+        }
+    }
+
+    // With a piece more, of which nothing is read.
+    fn with_piece(self, piece: &[u8]) -> Result<TranscriptReader, NoMemory>
+        ensures { IfOk result (λ fed. fed ≡ record { stage = self.stage; number = self.number; left = self.left ++ piece.now }) }
+    {
+        let TranscriptReader {
+            alloc,
+            stage,
+            number,
+            mut left,
+            lines,
+            wanted,
+        } = self;
+        left.extend_from_slice(piece)?;
+        Ok(TranscriptReader {
+            alloc,
+            stage,
+            number,
+            left,
+            lines: lines.saturating_add(line_ends(piece)),
+            wanted,
+        })
+    }
+
+    // The fault that the text has, whatever comes behind what is there.
+    fn fault(&self) -> Option<TextErr>
+        ensures { IfSome result (λ why. (sc : Scenario) (book : BookView) (more : List ℕ) → said_by sc book self.now (self.now.left ++ more) ≡ Err why) }
+    {
+        match &self.stage {
+            Stage::Refused(why) => return Some(*why),
+            Stage::Whole(_) => {
+                if self.left.is_empty() {
+                    return None;
+                }
+                return Some(TextErr::BadLine { n: self.number });
+            }
+            _ => return None,
+        }
+    }
+
+    // Reads on, as far as whole steps are there.
+    fn read_on(self, sc: &Scenario, book: &Book) -> Result<TranscriptReader, NoMemory>
+        requires { StationsAscend sc.now }
+        ensures { IfOk result (λ read. ReadsSame sc.now book.now self read) }
+    {
+        let TranscriptReader {
+            alloc,
+            stage,
+            number,
+            left,
+            ..
+        } = self;
+        let whole = whole_part(&left);
+        let (stage, rest) = stage_read(alloc, sc, book, stage, lines_from(number, whole)?)?;
+        let kept = kept_of(alloc, rest.text, &left[whole.len()..])?;
+        let lines = line_ends(&kept);
+        let number = rest.number;
+        let wanted = lines_wanted(sc, &stage, rest, lines);
+        Ok(TranscriptReader {
+            alloc,
+            stage,
+            number,
+            left: kept,
+            lines,
+            wanted,
+        })
+    }
+
+    /// Reads the next piece of the text, a transcript of an auction by this scenario and this book. A fault is told by
+    /// `finish`.
+    ///
+    /// # Errors
+    ///
+    /// `NoMemory` where memory ran out. The reader is gone then.
+    pub fn feed(
+        self,
+        sc: &Scenario,
+        book: &Book,
+        piece: &[u8],
+    ) -> Result<TranscriptReader, NoMemory>
+        requires { StationsAscend sc.now }
+        ensures { IfOk result (λ fed. (bytes : List ℕ) → HasRead sc.now book.now bytes self → HasRead sc.now book.now (bytes ++ piece.now) fed) }
+    {
+        let fed = self.with_piece(piece)?;
+        if fed.lines < fed.wanted {
+            return Ok(fed);
+        }
+        let alloc = fed.alloc;
+        let read = fed.read_on(sc, book)?;
+        match read.fault() {
+            Some(why) => return Ok(TranscriptReader::refused(alloc, why)),
+            None => return Ok(read),
+        }
+    }
+
+    /// The transcript that the whole text says, which ends here.
+    ///
+    /// # Errors
+    ///
+    /// Those of [`read_transcript`](crate::read::read_transcript).
+    pub fn finish(self, sc: &Scenario, book: &Book) -> Result<Transcript, TextErr>
+        requires { StationsAscend sc.now }
+        ensures { (bytes : List ℕ) → HasRead sc.now book.now bytes self → Gives (λ t. t) (transcript_of sc.now book.now bytes) result }
+    {
+        let TranscriptReader {
+            alloc,
+            stage,
+            number,
+            left,
+            ..
+        } = self;
+        match stage {
+            Stage::Opening => return read_transcript(alloc, &left, sc, book),
+            Stage::Steps(begun) => {
+                let lines = lines_from(number, &left)?;
+                return goes_on(alloc, sc, book, begun, is_whole(&left), lines);
+            }
+            Stage::Whole(transcript) => {
+                text_end(is_whole(&left), lines_from(number, &left)?)?;
+                return Ok(transcript);
+            }
+            Stage::Refused(why) => return Err(why),
+        }
+    }
+}
