@@ -187,6 +187,7 @@ transcript-opened sc book text = go (version_at (whole_lines text))
         ≡ ((r >>= begun-with order) >>= λ o. goes_on sc book o.0 (is_whole text) o.1)
     from order (Ok s) = refl
     from order (Err e) = refl
+
     go : (r : Result (Order × LinesLeft) TextErr)
         → (r >>= λ version. start_at sc version.1 >>= λ start. steps_at sc book (length start.1.left) 0 start.1 >>= λ steps. text_end (is_whole text) steps.1 >>= λ u. Ok (record { order = version.0; start = start.0; steps = steps.0 }))
         ≡ ((r >>= λ version. start_at sc version.1 >>= begun-with version.0) >>= λ o. goes_on sc book o.0 (is_whole text) o.1)
@@ -202,6 +203,7 @@ begins-opened sc book whole lines = go (version_at lines)
         ≡ ((r >>= begun-with order) >>= λ o. goes_on sc book o.0 whole o.1)
     from order (Ok s) = refl
     from order (Err e) = refl
+
     go : (r : Result (Order × LinesLeft) TextErr)
         → (r >>= λ version. start_at sc version.1 >>= λ start. goes_on sc book (record { order = version.0; start = start.0; steps = [] }) whole start.1)
         ≡ ((r >>= λ version. start_at sc version.1 >>= begun-with version.0) >>= λ o. goes_on sc book o.0 whole o.1)

@@ -12,7 +12,7 @@ use Rattle.transcript_text.specs.declared.transcript.Transcript.{Transcript}
 use Rattle.transcript_text.specs.Steps.{◌>>=◌, Fails, Gives}
 use Rattle.transcript_text.specs.Fields.{LinesLeft}
 use Rattle.transcript_text.specs.Reading.{text_end, transcript_of}
-use Rattle.transcript_text.specs.Pieces.{HasLinesOf, HasRead, IsStageBy, ReadSoFar, ReadsOn, ReadsSame, SaysSame, StepsSoFar, begins, comes_to, ends_or_goes_on, goes_on, opened_at, said_by, with_lines}
+use Rattle.transcript_text.specs.Pieces.{HasLinesOf, HasRead, IsStageBy, ReadSoFar, ReadsOn, ReadsSame, SaysSame, StepsSoFar, begins, comes_to, ended_by, ends_or_goes_on, goes_on, opened_at, said_by, with_lines}
 use Rattle.transcript_text.proofs.Ahead.{begins-from, begins-not, stays-fails, transcript-begins}
 use Rattle.transcript_text.proofs.Cuts.{lines-append, some-bytes, whole-append}
 use Rattle.transcript_text.proofs.Stays.{opened-stays}
@@ -133,21 +133,52 @@ has-piece sc book bytes piece old new h is = subst (λ (read : ReadSoFar). HasRe
 })
 
 pub has-same : (sc : Scenario) (book : BookView) (bytes : List ℕ) (old new : ReadSoFar) → HasRead sc book bytes old → ReadsSame sc book old new → HasRead sc book bytes new
-has-same sc book bytes old new h same = record { says = λ more. h.says more ∙ same more; }
+has-same sc book bytes old new h same = record { says = λ more. h.says more ∙ same more }
 
 pub has-fault : (sc : Scenario) (book : BookView) (bytes : List ℕ) (old new : ReadSoFar) (why : TextErr) → HasRead sc book bytes old → ((more : List ℕ) → said_by sc book old (old.left ++ more) ≡ Err why) → new.stage ≡ Refused why → HasRead sc book bytes new
-has-fault sc book bytes old new why h fault is = record { says = λ more. h.says more ∙ fault more ∙ sym (refused-said sc book new why (new.left ++ more) is); }
+has-fault sc book bytes old new why h fault is = record { says = λ more. h.says more ∙ fault more ∙ sym (refused-said sc book new why (new.left ++ more) is) }
 
 -- ---- the end
 
-pub says-all : (sc : Scenario) (book : BookView) (bytes : List ℕ) (read : ReadSoFar) (stage : Stage) → HasRead sc book bytes read → read.stage ≡ stage
+says-all : (sc : Scenario) (book : BookView) (bytes : List ℕ) (read : ReadSoFar) (stage : Stage) → HasRead sc book bytes read → read.stage ≡ stage
     → transcript_of sc book bytes ≡ comes_to sc book stage (is_whole read.left) (record { number = read.number; left = whole_lines read.left })
 says-all sc book bytes read stage h is =
     ap (transcript_of sc book) (sym (append-nil bytes)) ∙ h.says [] ∙ ap (said_by sc book read) (append-nil read.left)
     ∙ ap (λ (s : Stage). comes_to sc book s (is_whole read.left) (record { number = read.number; left = whole_lines read.left })) is
 
-pub err-fails : {A : Type 0} (r : Result A TextErr) (why : TextErr) → r ≡ Err why → Fails why r
+err-fails : {A : Type 0} (r : Result A TextErr) (why : TextErr) → r ≡ Err why → Fails why r
 err-fails r Version e = e
 err-fails r (BadLine n) e = e
 err-fails r Truncated e = e
 err-fails r NoMemory e = tt
+
+says-now : (sc : Scenario) (book : BookView) (bytes : List ℕ) (read : ReadSoFar) (stage : Stage) (whole : Bool) (lines : LinesLeft) (text again : List ℕ) → HasRead sc book bytes read → read.stage ≡ stage
+    → lines ≡ record { number = read.number; left = whole_lines text } → text ≡ read.left → whole ≡ is_whole again → again ≡ read.left → transcript_of sc book bytes ≡ comes_to sc book stage whole lines
+says-now sc book bytes read stage whole lines text again h is l t w a =
+    says-all sc book bytes read stage h is
+    ∙ ap (λ (b : Bool). comes_to sc book stage b (record { number = read.number; left = whole_lines read.left })) (sym (w ∙ ap is_whole a))
+    ∙ ap (λ (ls : LinesLeft). comes_to sc book stage whole ls) (sym (l ∙ ap (λ (xs : List ℕ). record { number = read.number; left = whole_lines xs }) t))
+
+pub opening-ends : (sc : Scenario) (book : BookView) (bytes text : List ℕ) (read : ReadSoFar) (result : Result Transcript TextErr) → HasRead sc book bytes read → read.stage ≡ Opening → text ≡ read.left
+    → Gives (λ (t : Transcript). t) (transcript_of sc book text) result → Gives (λ (t : Transcript). t) (transcript_of sc book bytes) result
+unfolding comes_to
+opening-ends sc book bytes text read result h is t =
+    subst (λ (r : Result Transcript TextErr). Gives (λ (t : Transcript). t) r result) (ap (transcript_of sc book) t ∙ transcript-begins sc book read.left ∙ sym (says-all sc book bytes read Opening h is))
+
+pub steps-end-so : (sc : Scenario) (book : BookView) (bytes : List ℕ) (read : ReadSoFar) (begun : Transcript) (whole : Bool) (lines : LinesLeft) (text again : List ℕ) (result : Result Transcript TextErr) → HasRead sc book bytes read
+    → read.stage ≡ Steps begun → lines ≡ record { number = read.number; left = whole_lines text } → text ≡ read.left → whole ≡ is_whole again → again ≡ read.left
+    → Gives (λ (t : Transcript). t) (goes_on sc book begun whole lines) result → Gives (λ (t : Transcript). t) (transcript_of sc book bytes) result
+unfolding comes_to
+steps-end-so sc book bytes read begun whole lines text again result h is l t w a =
+    subst (λ (r : Result Transcript TextErr). Gives (λ (t : Transcript). t) r result) (sym (says-now sc book bytes read (Steps begun) whole lines text again h is l t w a))
+
+pub whole-ends : (sc : Scenario) (book : BookView) (bytes : List ℕ) (read : ReadSoFar) (begun : Transcript) (whole : Bool) (lines : LinesLeft) (text again : List ℕ) (result : Result Transcript TextErr) → HasRead sc book bytes read
+    → read.stage ≡ Whole begun → lines ≡ record { number = read.number; left = whole_lines text } → text ≡ read.left → whole ≡ is_whole again → again ≡ read.left
+    → Gives (λ (t : Transcript). t) (ended_by whole (record { begun = begun; rest = lines; ended = true })) result → Gives (λ (t : Transcript). t) (transcript_of sc book bytes) result
+unfolding comes_to ended_by
+whole-ends sc book bytes read begun whole lines text again result h is l t w a =
+    subst (λ (r : Result Transcript TextErr). Gives (λ (t : Transcript). t) r result) (sym (says-now sc book bytes read (Whole begun) whole lines text again h is l t w a))
+
+pub refused-ends : (sc : Scenario) (book : BookView) (bytes : List ℕ) (read : ReadSoFar) (why : TextErr) → HasRead sc book bytes read → read.stage ≡ Refused why → Fails why (transcript_of sc book bytes)
+unfolding comes_to
+refused-ends sc book bytes read why h is = err-fails (transcript_of sc book bytes) why (says-all sc book bytes read (Refused why) h is)

@@ -120,8 +120,8 @@ fn start_at<'a>(
     start_by(alloc, sc, n, kind, fields, rest)
 }
 
-/// That nothing stands behind the last line.
-pub(crate) fn text_end<'a>(whole: bool, lines: TextLines<'a>) -> Result<(), TextErr>
+// That nothing stands behind the last line.
+fn text_end<'a>(whole: bool, lines: TextLines<'a>) -> Result<(), TextErr>
     ensures { Gives (λ u. u) (text_end whole lines.entry) result }
 {
     match split_line(lines.text) {
@@ -155,16 +155,12 @@ pub(crate) fn opened_at<'a>(
     Ok((begun, lines))
 }
 
-// The transcript that reading came to, where no more lines come.
+/// The transcript that reading came to, where no more lines come.
 #[tactic(auto, unfolding(crate::specs::Pieces::ended_by))]
-fn ended_by<'a>(whole: bool, read: StepsRead<'a>) -> Result<Transcript, TextErr>
+pub(crate) fn ended_by<'a>(whole: bool, read: StepsRead<'a>) -> Result<Transcript, TextErr>
     ensures { Gives (λ t. t) (ended_by whole read.entry) result }
 {
-    let StepsRead {
-        begun,
-        rest,
-        ended,
-    } = read;
+    let StepsRead { begun, rest, ended } = read;
     if ended {
         text_end(whole, rest)?;
         return Ok(begun);

@@ -15,8 +15,8 @@ use crate::fields::{TextLines, next_line};
 use crate::head::Head;
 use crate::heads::head_at;
 use crate::pieces::{kept_of, line_ends, lines_from, whole_part};
-use crate::read::{goes_on, opened_at, read_transcript, text_end};
-use crate::steps::steps_on;
+use crate::read::{ended_by, goes_on, opened_at, read_transcript};
+use crate::steps::{StepsRead, steps_on};
 use crate::transcript::Transcript;
 use lrat_text::lines::is_whole;
 use pack_defs::book::Book;
@@ -306,9 +306,14 @@ impl TranscriptReader {
                 let lines = lines_from(number, &left)?;
                 return goes_on(alloc, sc, book, begun, is_whole(&left), lines);
             }
-            Stage::Whole(transcript) => {
-                text_end(is_whole(&left), lines_from(number, &left)?)?;
-                return Ok(transcript);
+            Stage::Whole(begun) => {
+                let rest = lines_from(number, &left)?;
+                let read = StepsRead {
+                    begun,
+                    rest,
+                    ended: true,
+                };
+                return ended_by(is_whole(&left), read);
             }
             Stage::Refused(why) => return Err(why),
         }

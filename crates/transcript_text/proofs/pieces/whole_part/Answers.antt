@@ -4,7 +4,7 @@ use Rattle.transcript_text.proofs.Cuts.{lines-of-part, no-line-sooner, none-behi
 use Rattle.transcript_text.proofs.pieces.whole_part.Goals as goal
 
 pub loop-end-init : goal.loop-end-init
-loop-end-init c = record { within = omega arith; behind = none-behind c.args.text.now; }
+loop-end-init c = record { within = omega arith; behind = none-behind c.args.text.now }
 
 pub slice_bounds-is_whole-end : goal.slice_bounds-is_whole-end
 slice_bounds-is_whole-end c = sym (length-take-le c.loop-end.end c.args.text.now c.loop-end.invariant.within)

@@ -1,29 +1,22 @@
-use Rattle.std.proofs.Common.{rules, ◌≡◌, ◌++◌, [], ℕ, Err, IfOk, IfSome, List, ◌+◌, ◌-◌, ◌*◌, ◌<◌, ◌≤◌, length, ◌/◌, ◌%◌, Bool, true, false, nat_eq, nat_lt, ◌∷◌, slice_index_or, slice_set, bit_and, bit_or, Fits, w8, w32, w64, Bor, MutBor}
-use Rattle.pack_defs.specs.Scenario.{StationsAscend}
-use Rattle.pack_defs.specs.Book.{BookView}
-use Rattle.pack_defs.specs.declared.scenario.Scenario.{Scenario}
-use Rattle.transcript_text.specs.declared.reader.Stage.TheVariants.{Opening, Steps, Refused}
-use Rattle.transcript_text.specs.Pieces.{HasRead, IsStageBy, ReadsSame, SaysSame, said_by}
-use Rattle.transcript_text.specs.Reading.{transcript_of}
-use Rattle.transcript_text.specs.Steps.{Gives}
+use Rattle.std.proofs.Common.{subst, sym}
+use Rattle.transcript_text.specs.Pieces.{HasRead}
+use Rattle.transcript_text.proofs.Fed.{opening-ends, refused-ends, steps-end-so, whole-ends}
 use Rattle.transcript_text.proofs.reader.TranscriptReader.finish.Goals as goal
 
--- src/reader.rt:304:31
 pub returns-in-Opening : goal.returns-in-Opening
-returns-in-Opening c = ?
+returns-in-Opening c = λ bytes h.
+    opening-ends c.args.sc.now c.args.book.now bytes c.deref.result.now (record { stage = c.self.inside.stage; number = c.self.inside.number; left = c.self.inside.left.items }) c.read_transcript.result
+    (subst (HasRead c.args.sc.now c.args.book.now bytes) (sym c.self.view_is) h) c.in-Opening.is c.deref.ensures.value c.read_transcript.ensures
 
--- src/reader.rt:307:17
 pub returns-in-Steps : goal.returns-in-Steps
-returns-in-Steps c = ?
+returns-in-Steps c = λ bytes h.
+    steps-end-so c.args.sc.now c.args.book.now bytes (record { stage = c.self.inside.stage; number = c.self.inside.number; left = c.self.inside.left.items }) c.in-Steps.begun c.is_whole.result c.in_ok-lines-in-Steps.lines c.deref-in-Steps.result.now c.deref-in-Steps-2.result.now c.goes_on.result
+    (subst (HasRead c.args.sc.now c.args.book.now bytes) (sym c.self.view_is) h) c.in-Steps.is c.in_ok-lines-in-Steps.ensures c.deref-in-Steps.ensures.value c.is_whole.ensures c.deref-in-Steps-2.ensures.value c.goes_on.ensures
 
--- src/reader.rt:310:17
-pub returns-in_err-text_end-in-Whole : goal.returns-in_err-text_end-in-Whole
-returns-in_err-text_end-in-Whole c = ?
-
--- src/reader.rt:311:17
 pub returns-in-Whole : goal.returns-in-Whole
-returns-in-Whole c = ?
+returns-in-Whole c = λ bytes h.
+    whole-ends c.args.sc.now c.args.book.now bytes (record { stage = c.self.inside.stage; number = c.self.inside.number; left = c.self.inside.left.items }) c.in-Whole.begun c.is_whole-in-Whole.result c.in_ok-rest-in-Whole.rest c.deref-in-Whole.result.now c.deref-in-Whole-2.result.now c.ended_by.result
+    (subst (HasRead c.args.sc.now c.args.book.now bytes) (sym c.self.view_is) h) c.in-Whole.is c.in_ok-rest-in-Whole.ensures c.deref-in-Whole.ensures.value c.is_whole-in-Whole.ensures c.deref-in-Whole-2.ensures.value c.ended_by.ensures
 
--- src/reader.rt:313:36
 pub returns-in-Refused : goal.returns-in-Refused
-returns-in-Refused c = ?
+returns-in-Refused c = λ bytes h. refused-ends c.args.sc.now c.args.book.now bytes (record { stage = c.self.inside.stage; number = c.self.inside.number; left = c.self.inside.left.items }) c.in-Refused.why (subst (HasRead c.args.sc.now c.args.book.now bytes) (sym c.self.view_is) h) c.in-Refused.is
