@@ -13,6 +13,7 @@ pub mod RunLemmas
 pub mod SaysLemmas
 pub mod StartLemmas
 pub mod Statuses
+pub mod TextReading
 pub mod TranscriptLemmas
 pub mod VerifyCases
 pub mod VerifyEndLemmas

@@ -1,4 +1,4 @@
--- The loading of a transcript and its check, from what their parts did.
+-- The reading of a transcript and its check, from what their parts did.
 use Rattle.std.proofs.Common.{◌≡◌, ◌≤◌, ◌∙◌, ℕ, Bool, List, refl, sym, ap, subst}
 use Rattle.std.specs.Prelude.{Option, Some, None, Ok, Err, Result}
 use Rattle.outside_io.specs.Files.{StoredFile}
@@ -23,18 +23,18 @@ use Rattle.auction_cmd.specs.Ends.IsNotLoaded.{Unloaded, LongText}
 use Rattle.auction_cmd.specs.Ends.VerifyEnds.{NotLoaded, NotSound, VerifyStarved}
 use Rattle.auction_cmd.specs.Outside.{Outside}
 use Rattle.auction_cmd.specs.Records.{IsRecordIn}
-use Rattle.auction_cmd.specs.Transcripts.{ExplainsDenied, ExplainsLoad, IsLoaded, IsVerdict, not_read}
+use Rattle.auction_cmd.specs.Transcripts.{ExplainsDenied, ExplainsLoad, IsTextRead, IsVerdict, not_read}
 use Rattle.auction_cmd.specs.Verified.{CanBeNamed, record_by, shown_or, verified}
 use Rattle.auction_cmd.specs.Words.{VerifyNames}
 use Rattle.auction_cmd.proofs.RecordLemmas.{record-in}
 use Rattle.auction_cmd.proofs.SaysLemmas.{rises-before}
 
--- ---- the loading
+-- ---- the reading
 
 -- the end where it was not loaded
 pub unloaded-ends : (names : VerifyNames) (before after : Outside) (status : ℕ) (found : Option Record) (inputs : Inputs) (why : LoadErr) (told : Option (List StoredFile)) (steady : Bool) (faults : ℕ) →
     AreHeld names.inputs before inputs → told ≡ before.files → steady ≡ before.steady → before.faults ≤ faults →
-    IsLoaded {A = List ℕ} (λ v. v) told steady faults after.faults names.transcript (Err why) →
+    IsTextRead inputs told steady faults after.faults names.transcript (Err why) →
     ExplainsLoad names.transcript why before.held after.held before.cuts after.cuts status →
     found ≡ None → after.files ≡ before.files → VerifyEnds names before after status found
 unloaded-ends names before after status found inputs Failed told steady faults are is same kept h e none files =

@@ -1,4 +1,4 @@
--- What the steps of `verify` answer: the loading of the transcript, and its check.
+-- What the steps of `verify` answer: the reading of the transcript, and its check.
 use Rattle.std.specs.Prelude.{◌≡◌, ◌<◌, ◌≤◌, ℕ, Bool, true, List, length, Option, Some, None, Result, Ok, Err, ⊤}
 use Rattle.outside_io.specs.Faults.{HasRisen}
 use Rattle.outside_io.specs.Files.{StoredFile, bytes_of}
@@ -7,6 +7,7 @@ use Rattle.outside_io.specs.declared.folder.LoadErr.TheVariants.{Failed, TooLong
 use Rattle.auction_core.specs.declared.record.Record.{Record}
 use Rattle.transcript_text.specs.declared.error.TextErr.{TextErr}
 use Rattle.transcript_text.specs.declared.error.TextErr.TheVariants.{Version, BadLine, Truncated, NoMemory as NoRoom}
+use Rattle.transcript_text.specs.Pieces.{HasRead, ReadSoFar}
 use Rattle.auction_cmd.specs.declared.fault.TranscriptFault.{TranscriptFault}
 use Rattle.auction_cmd.specs.declared.fault.TranscriptFault.TheVariants.{Unread}
 use Rattle.auction_cmd.specs.declared.inputs.Inputs.{Inputs}
@@ -17,17 +18,18 @@ use Rattle.auction_cmd.specs.Records.{IsRecordIn}
 use Rattle.auction_cmd.specs.Says.{Says, long_line, memory_line, unread_line}
 use Rattle.auction_cmd.specs.Verified.{fault_line}
 
--- The bytes of this name's file, seen so, are those that the folder tells, and no more than a file may have; or the file
--- can't be read, which for a steady folder says that it isn't there; or it is too long. Memory may run out.
-abbrev pub IsLoaded : {A : Type 0} → (A → List ℕ) → Option (List StoredFile) → Bool → ℕ → ℕ → List ℕ → Result A LoadErr → Type 0
-IsLoaded seen told steady before now name (Ok x) =
-    (files : List StoredFile) → told ≡ Some files → (bytes_of files name ≡ Some (seen x)) × (length (seen x) ≤ file_limit)
-IsLoaded seen told steady before now name (Err Failed) =
+-- The reader has read bytes that are those of this name's file, where the folder tells its files, and no more than a file may
+-- have; or the file can't be read, which for a steady folder says that it isn't there; or it is too long. Memory may run out.
+abbrev pub IsTextRead : Inputs → Option (List StoredFile) → Bool → ℕ → ℕ → List ℕ → Result ReadSoFar LoadErr → Type 0
+IsTextRead inputs told steady before now name (Ok read) =
+    (bytes : List ℕ) × HasRead inputs.scenario inputs.book bytes read ×
+    ((files : List StoredFile) → told ≡ Some files → (bytes_of files name ≡ Some bytes) × (length bytes ≤ file_limit))
+IsTextRead inputs told steady before now name (Err Failed) =
     HasRisen before now × ((files : List StoredFile) → told ≡ Some files → steady ≡ true → bytes_of files name ≡ None)
-IsLoaded seen told steady before now name (Err TooLong) =
+IsTextRead inputs told steady before now name (Err TooLong) =
     (files : List StoredFile) → told ≡ Some files →
     (bytes : List ℕ) × (bytes_of files name ≡ Some bytes) × (file_limit < length bytes)
-IsLoaded seen told steady before now name (Err NoLoad) = ⊤
+IsTextRead inputs told steady before now name (Err NoLoad) = ⊤
 
 -- the status and the line of a transcript that was not loaded
 abbrev pub ExplainsLoad : List ℕ → LoadErr → Option (List ℕ) → Option (List ℕ) → ℕ → ℕ → ℕ → Type 0

@@ -1,15 +1,14 @@
 //! The command `verify`: a transcript is checked step by step, and the result that it shows is printed.
 
-ghost use Rattle.std.specs.Prelude.{◌≡◌, ◌≤◌, IfOk, Ok};
+ghost use Rattle.std.specs.Prelude.{◌≡◌, ◌≤◌, ℕ, IfOk, List, Ok};
 ghost use Rattle.pack_defs.specs.Scenario.{IsWithinLimits};
 ghost use Rattle.auction_core.specs.Backed.{undecided_of};
 ghost use Rattle.auction_core.specs.Setup.{IsOfAuction};
-ghost use Rattle.transcript_text.specs.Reading.{transcript_of};
-ghost use Rattle.transcript_text.specs.Steps.{Gives};
+ghost use Rattle.transcript_text.specs.Pieces.{HasRead};
 ghost use Rattle.auction_cmd.specs.Ends.{VerifyEnds};
 ghost use Rattle.auction_cmd.specs.Outside.{outside};
 ghost use Rattle.auction_cmd.specs.Records.{IsRecordIn, result_of};
-ghost use Rattle.auction_cmd.specs.Transcripts.{ExplainsDenied, ExplainsLoad, IsLoaded, IsVerdict, not_read};
+ghost use Rattle.auction_cmd.specs.Transcripts.{ExplainsDenied, ExplainsLoad, IsTextRead, IsVerdict, not_read};
 ghost use Rattle.auction_cmd.specs.Verified.{record_by, verified};
 ghost use Rattle.auction_cmd.specs.Words.{verify_seen};
 
@@ -29,7 +28,7 @@ use transcript_check::VerifyErr;
 use transcript_check::verify::verify as check_transcript;
 use transcript_text::TextErr;
 use transcript_text::again::is_named;
-use transcript_text::read::read_transcript;
+use transcript_text::reader::TranscriptReader;
 use transcript_text::transcript::Transcript;
 
 // Why there is no record of a transcript.
@@ -40,16 +39,27 @@ pub enum Denied {
     NoMemory,
 }
 
-// The bytes of the transcript of this name.
-fn load_text<F: Folder>(alloc: Global, folder: &mut F, name: &str) -> Result<Vec<u8>, LoadErr>
-    ensures loaded { IsLoaded (λ v. v.items) (F.files folder.old) (F.steady folder.old) (F.faults folder.old) (F.faults folder.new) name.now result }
+// What is read of the transcript of this name, up to its end. A fault of its text is told once it has been read.
+fn read_text<F: Folder>(
+    alloc: Global,
+    folder: &mut F,
+    inputs: &Inputs,
+    name: &str,
+) -> Result<TranscriptReader, LoadErr>
+    requires { IsWithinLimits inputs.now.scenario }
+    ensures read { IsTextRead inputs.now (F.files folder.old) (F.steady folder.old) (F.faults folder.old) (F.faults folder.new) name.now result }
     ensures files { F.files folder.new ≡ F.files folder.old }
     ensures counted { F.faults folder.old ≤ F.faults folder.new }
 {
-    let mut bytes = Vec::new(alloc);
-    match folder.load(name, FILE_LIMIT, &mut bytes) {
-        Ok(()) => Ok(bytes),
-        Err(why) => Err(why),
+    let mut reader = TranscriptReader::new(alloc);
+    let mut piece = Vec::new(alloc);
+    folder.begin(name, FILE_LIMIT)?;
+    loop {
+        folder.piece(&mut piece)?;
+        if piece.is_empty() {
+            return Ok(reader);
+        }
+        reader = reader.feed(&inputs.scenario, &inputs.book, &piece)?;
     }
 }
 
@@ -70,17 +80,6 @@ fn say_unloaded<K: Sink>(out: &mut K, name: &str, why: LoadErr) -> u8
             say_memory(out);
             8
         }
-    }
-}
-
-// The transcript that these bytes are. They go with the call.
-fn transcript_from(alloc: Global, inputs: &Inputs, text: Vec<u8>) -> Result<Transcript, TextErr>
-    requires { IsWithinLimits inputs.now.scenario }
-    ensures { Gives (λ t. t) (transcript_of inputs.now.scenario inputs.now.book text.items) result }
-{
-    match read_transcript(alloc, &text, &inputs.scenario, &inputs.book) {
-        Ok(transcript) => Ok(transcript),
-        Err(why) => Err(why),
     }
 }
 
@@ -112,12 +111,12 @@ fn not_read(why: TextErr) -> Denied
     }
 }
 
-// The record that the text of a transcript shows. It touches nothing outside.
-fn record_of(alloc: Global, inputs: &Inputs, text: Vec<u8>) -> Result<Record, Denied>
+// The record that the text of a transcript shows, of which this was read. It touches nothing outside.
+fn record_of(alloc: Global, inputs: &Inputs, read: TranscriptReader) -> Result<Record, Denied>
     requires { IsOfAuction inputs.now.scenario inputs.now.book }
-    ensures { IsVerdict inputs.now (verified inputs.now text.items) result }
+    ensures { (text : List ℕ) → HasRead inputs.now.scenario inputs.now.book text read → IsVerdict inputs.now (verified inputs.now text) result }
 {
-    match transcript_from(alloc, inputs, text) {
+    match read.finish(&inputs.scenario, &inputs.book) {
         Ok(transcript) => record_from(alloc, inputs, transcript),
         Err(why) => Err(not_read(why)),
     }
@@ -166,12 +165,12 @@ pub fn verify<F: Folder, K: Sink>(
         Ok(inputs) => inputs,
         Err(stop) => return Finish::without_record(explain(out, &files.inputs, stop)),
     };
-    let text = match load_text(alloc, folder, files.transcript) {
-        Ok(text) => text,
+    let read = match read_text(alloc, folder, &inputs, files.transcript) {
+        Ok(read) => read,
         Err(why) => return Finish::without_record(say_unloaded(out, files.transcript, why)),
     };
     is_named(&inputs.scenario, &inputs.book);
-    let record = match record_of(alloc, &inputs, text) {
+    let record = match record_of(alloc, &inputs, read) {
         Ok(record) => record,
         Err(why) => return Finish::without_record(say_denied(out, files.transcript, why)),
     };

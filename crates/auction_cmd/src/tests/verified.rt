@@ -247,7 +247,8 @@ fn a_file_or_the_sink_fails(rt: HostRuntime) -> Result<(), Fail> {
             Change::Missing("tr.txt"),
             "status 3; said: cannot read tr.txt\n; no record; nothing stored",
         ),
-        // Domains and rows are three calls each, the scenario and the transcript one.
+        // Domains, rows and the transcript are begun and handed out in pieces, of which the last is empty; the scenario is one
+        // load.
         (
             Change::Call(7),
             "status 3; said: cannot read s.json\n; no record; faults: 1",
@@ -256,9 +257,18 @@ fn a_file_or_the_sink_fails(rt: HostRuntime) -> Result<(), Fail> {
             Change::Call(8),
             "status 3; said: cannot read tr.txt\n; no record; faults: 1",
         ),
-        // Nothing is read or stored behind the transcript.
         (
             Change::Call(9),
+            "status 3; said: cannot read tr.txt\n; no record; faults: 1",
+        ),
+        // A fault of the text is told once it has been read to its end.
+        (
+            Change::Stops("tr.txt", "transcript 3\n", 10),
+            "status 3; said: cannot read tr.txt\n; no record; faults: 1",
+        ),
+        // Nothing is read or stored behind the transcript.
+        (
+            Change::Call(11),
             "status 0; said: facility,outcome,round,price\n1,exit,2,0\n2,exit,1,0\n3,frozen,2,60\n; faults: 0",
         ),
         (

@@ -1,0 +1,16 @@
+use Rattle.std.proofs.Common.{◌≡◌, ◌≤◌, ◌-◌}
+use Rattle.auction_cmd.specs.Inputs.{file_limit}
+use Rattle.auction_cmd.proofs.TextReading.{IsReading}
+use Rattle.auction_cmd.proofs.verify.read_text.Given as goal
+
+abbrev pub invariant-loop-piece : goal.invariant-loop-piece
+invariant-loop-piece g l = record {
+  so_far : IsReading l.fn.inputs (g.F.Folder.files l.fn.folder) l.fn.name (g.F.Folder.left l.folder) (g.F.Folder.come l.folder) l.reader;
+  files : g.F.Folder.files l.folder ≡ g.F.Folder.files l.fn.folder;
+  steady : g.F.Folder.steady l.folder ≡ g.F.Folder.steady l.fn.folder;
+  most : g.F.Folder.most l.folder ≡ file_limit;
+  kept : g.F.Folder.faults l.fn.folder ≤ g.F.Folder.faults l.folder;
+}
+
+abbrev pub decreases-loop-piece : goal.decreases-loop-piece
+decreases-loop-piece g l = g.F.Folder.most l.folder - g.F.Folder.come l.folder
