@@ -1,5 +1,5 @@
 -- Step after step, as far as lines are there: what it makes of all that comes behind.
-use Rattle.std.proofs.Common.{◌≡◌, ◌<◌, ◌≤◌, ◌+◌, ◌∙◌, ℕ, zero, suc, Bool, true, false, List, [], ◌∷◌, ◌++◌, Option, Some, None, Result, Ok, Err, IfOk, if◌then◌else◌, refl, sym, ap, subst, arith, length, length-append, append_assoc, append-nil}
+use Rattle.std.proofs.Common.{◌≡◌, ◌≤◌, ◌+◌, ◌∙◌, ℕ, zero, suc, Bool, true, false, List, [], ◌∷◌, ◌++◌, Option, Some, None, Result, Ok, Err, IfOk, if◌then◌else◌, refl, sym, ap, subst, arith, length, length-append, append_assoc, append-nil}
 use Rattle.pack_defs.specs.declared.scenario.Scenario.{Scenario}
 use Rattle.pack_defs.specs.declared.order.Order.{Order}
 use Rattle.auction_core.specs.declared.record.Shown.{Shown}
@@ -12,7 +12,7 @@ use Rattle.transcript_text.specs.declared.transcript.TranscriptStep.{TranscriptS
 use Rattle.transcript_text.specs.Steps.{◌>>=◌, Fails, Gives}
 use Rattle.transcript_text.specs.Fields.{LinesLeft}
 use Rattle.transcript_text.specs.Reading.{next_step, start_at, step_or, steps_at, text_end, transcript_of, version_at}
-use Rattle.transcript_text.specs.Pieces.{IsAtEnd, ReadsOn, StepsSoFar, begins, comes_to, ended_by, ends_or_goes_on, goes_on, opened_at, stopped, with_lines}
+use Rattle.transcript_text.specs.Pieces.{IsAtEnd, ReadsOn, StepsSoFar, begins, ended_by, ends_or_goes_on, goes_on, opened_at, stopped, with_lines}
 use Rattle.transcript_text.proofs.Fronts.{stops}
 use Rattle.transcript_text.proofs.StepLoop.{Fewer, next-truncated, step-fewer}
 use Rattle.transcript_text.proofs.Stays.{Stays, next-step-stays, opened-stays}

@@ -1,5 +1,5 @@
 -- What a reader of pieces makes of them.
-use Rattle.std.proofs.Common.{◌≡◌, ◌≤◌, ◌<◌, ◌∙◌, ◌&&◌, ◌==◌, ℕ, Bool, true, false, List, [], ◌∷◌, ◌++◌, Result, Ok, Err, IfOk, refl, sym, ap, subst, arith, length, take, drop, append_assoc, append-nil, if◌then◌else◌}
+use Rattle.std.proofs.Common.{◌≡◌, ◌<◌, ◌∙◌, ◌==◌, ℕ, Bool, true, false, List, [], ◌∷◌, ◌++◌, Result, Ok, Err, IfOk, sym, ap, subst, arith, length, take, drop, append_assoc, append-nil, if◌then◌else◌}
 use Rattle.std.proofs.lemmas.List.{take-append-drop}
 use Rattle.pack_defs.specs.declared.scenario.Scenario.{Scenario}
 use Rattle.pack_defs.specs.Book.{BookView}
@@ -11,8 +11,8 @@ use Rattle.transcript_text.specs.declared.reader.Stage.TheVariants.{Opening, Ste
 use Rattle.transcript_text.specs.declared.transcript.Transcript.{Transcript}
 use Rattle.transcript_text.specs.Steps.{◌>>=◌, Fails, Gives}
 use Rattle.transcript_text.specs.Fields.{LinesLeft}
-use Rattle.transcript_text.specs.Reading.{text_end, transcript_of}
-use Rattle.transcript_text.specs.Pieces.{HasLinesOf, HasRead, IsStageBy, ReadSoFar, ReadsOn, ReadsSame, SaysSame, StepsSoFar, begins, comes_to, ended_by, ends_or_goes_on, goes_on, opened_at, said_by, with_lines}
+use Rattle.transcript_text.specs.Reading.{transcript_of}
+use Rattle.transcript_text.specs.Pieces.{HasLinesOf, HasRead, IsStageBy, ReadSoFar, ReadsOn, ReadsSame, SaysSame, StepsSoFar, comes_to, ended_by, ends_or_goes_on, goes_on, opened_at, said_by, with_lines}
 use Rattle.transcript_text.proofs.Ahead.{begins-from, begins-not, stays-fails, transcript-begins}
 use Rattle.transcript_text.proofs.Cuts.{lines-append, some-bytes, whole-append}
 use Rattle.transcript_text.proofs.Stays.{opened-stays}

@@ -12,9 +12,9 @@ use Rattle.transcript_text.specs.declared.head.Head.{Head}
 use Rattle.transcript_text.specs.declared.head.Head.TheVariants.{Fit, Same, NoChannel, Log, Dead, Outside, Undecided, End}
 use Rattle.transcript_text.specs.Steps.{◌>>=◌}
 use Rattle.transcript_text.specs.Spelling.{clauses_in}
-use Rattle.transcript_text.specs.Fields.{LinesLeft, FieldsLeft, count_at, line_end, next_line, next_field, number_at, word_at}
+use Rattle.transcript_text.specs.Fields.{LinesLeft, count_at, line_end, next_line, next_field, number_at, word_at}
 use Rattle.transcript_text.specs.LogLines.{log_at, log_line, entries_at, entry_at, moves_at, stations_at}
-use Rattle.transcript_text.specs.Reading.{some_log, numbered_log, lines_receipt, moves_receipt, receipt_count, receipt_by, receipt_at, receipts_at, head_at, fit_step, log_step, outside_step, undecided_step, step_at, next_step, order_of, version_or, version_at, fit_start, empty_start, start_by, start_at}
+use Rattle.transcript_text.specs.Reading.{some_log, numbered_log, lines_receipt, moves_receipt, receipt_count, receipt_by, receipt_at, receipts_at, head_at, fit_step, log_step, outside_step, undecided_step, step_at, next_step, order_of, version_or, version_at, fit_start, empty_start, start_at}
 use Rattle.transcript_text.specs.Pieces.{opened_at, with_lines}
 
 -- the second reading, with these lines behind, gives what the first gave, unless the first wants more lines

@@ -1,21 +1,19 @@
 -- Reading goes forward: a step takes a line at least.
-use Rattle.std.proofs.Common.{◌≡◌, ◌<◌, ◌≤◌, ◌+◌, ◌==◌, ◌∙◌, ℕ, zero, suc, Bool, true, false, List, [], ◌∷◌, ◌++◌, Option, Some, None, Result, Ok, Err, refl, sym, ap, subst, arith, length, append-nil, if◌then◌else◌}
+use Rattle.std.proofs.Common.{◌≡◌, ◌<◌, ◌≤◌, ◌+◌, ◌==◌, ℕ, zero, suc, Bool, true, false, List, [], ◌∷◌, Option, Some, None, Result, Ok, Err, refl, subst, arith, length, if◌then◌else◌}
 use Rattle.std.specs.Prelude.{codes}
 use Rattle.std.specs.Str.{bytes_eq}
 use Rattle.pack_defs.specs.declared.scenario.Scenario.{Scenario}
 use Rattle.pack_defs.specs.Book.{BookView}
 use Rattle.lrat_text.specs.LogText.{greatest}
 use Rattle.transcript_text.specs.declared.error.TextErr.{TextErr}
-use Rattle.transcript_text.specs.declared.error.TextErr.TheVariants.{Version, BadLine, Truncated, NoMemory}
+use Rattle.transcript_text.specs.declared.error.TextErr.TheVariants.{Truncated}
 use Rattle.transcript_text.specs.declared.head.Head.{Head}
 use Rattle.transcript_text.specs.declared.head.Head.TheVariants.{Fit, Same, NoChannel, Log, Dead, Outside, Undecided, End}
-use Rattle.transcript_text.specs.declared.transcript.TranscriptStep.{TranscriptStep}
-use Rattle.transcript_text.specs.Steps.{◌>>=◌, Fails}
+use Rattle.transcript_text.specs.Steps.{◌>>=◌}
 use Rattle.transcript_text.specs.Spelling.{clauses_in}
 use Rattle.transcript_text.specs.Fields.{LinesLeft, FieldsLeft, next_line, next_field, number_at, word_at}
 use Rattle.transcript_text.specs.LogLines.{log_at, log_line, entries_at, entry_at, moves_at, stations_at}
-use Rattle.transcript_text.specs.Reading.{some_log, numbered_log, lines_receipt, moves_receipt, receipt_count, receipt_by, receipt_at, receipts_at, head_at, fit_step, log_step, outside_step, undecided_step, step_at, next_step, step_or, steps_at}
-use Rattle.transcript_text.proofs.Fronts.{in_front, front-more, stops}
+use Rattle.transcript_text.specs.Reading.{some_log, numbered_log, lines_receipt, moves_receipt, receipt_count, receipt_by, receipt_at, receipts_at, head_at, fit_step, log_step, outside_step, undecided_step, step_at, next_step}
 
 -- no more lines are left than before, where the step wasn't refused
 abbrev pub NoMore : {A : Type 0} → LinesLeft → Result (A × LinesLeft) TextErr → Type 0
@@ -135,44 +133,6 @@ pub next-truncated : (sc : Scenario) (book : BookView) (steps n : ℕ) (left : L
 unfolding next_step
 next-truncated sc book steps n [] h = refl
 next-truncated sc book steps n (line ∷ left) h = absurd (omega (arith, h))
-
--- ---- the loop over the steps
-
-steps-step : (sc : Scenario) (book : BookView) (fuel m n : ℕ) (rest : LinesLeft) → fuel ≡ suc m
-    → steps_at sc book fuel n rest ≡ (next_step sc book n rest >>= λ next. step_or next.0 next.1 (λ rest. steps_at sc book m (n + 1) rest))
-unfolding steps_at
-steps-step sc book fuel m n rest e = rw e refl
-
-steps-none : (sc : Scenario) (book : BookView) (fuel n : ℕ) (rest : LinesLeft) → fuel ≡ 0 → steps_at sc book fuel n rest ≡ Err Truncated
-unfolding steps_at
-steps-none sc book fuel n rest e = rw e refl
-
-same-fault : {A B : Type 0} (e : TextErr) (r : Result A TextErr) (whole : Result B TextErr) → r ≡ Err Truncated → whole ≡ Err Truncated → Fails e r → Fails e whole
-same-fault Version r whole p q h = absurd cc
-same-fault (BadLine n) r whole p q h = absurd cc
-same-fault Truncated r whole p q h = q
-same-fault NoMemory r whole p q h = tt
-
-pub steps-stop : (sc : Scenario) (book : BookView) (front : List TranscriptStep) (why : TextErr) (fuel n : ℕ) (rest : LinesLeft) (total : Result (List TranscriptStep × LinesLeft) TextErr) → length rest.left ≤ fuel
-    → Fails why (next_step sc book n rest) → in_front front (steps_at sc book fuel n rest) ≡ total → Fails why total
-steps-stop sc book front why zero n rest total le fails so =
-    let cut : next_step sc book n rest ≡ Err Truncated = next-truncated sc book n rest.number rest.left le in
-    let all : total ≡ Err Truncated = sym so ∙ ap (in_front front) (steps-none sc book 0 n rest refl) in
-    same-fault why (next_step sc book n rest) total cut all fails
-steps-stop sc book front why (suc m) n rest total le fails so =
-    stops {A = List TranscriptStep × LinesLeft} (λ r. Ok (front ++ r.0, r.1)) why (steps_at sc book (suc m) n rest) total (sym so)
-    (stops (λ next. step_or next.0 next.1 (λ rest. steps_at sc book m (n + 1) rest)) why (next_step sc book n rest) (steps_at sc book (suc m) n rest) (steps-step sc book (suc m) m n rest refl) fails)
-
-pub steps-goes-on : (sc : Scenario) (book : BookView) (front : List TranscriptStep) (x : TranscriptStep) (fuel m n : ℕ) (rest after : LinesLeft) (total : Result (List TranscriptStep × LinesLeft) TextErr) → fuel ≡ suc m
-    → next_step sc book n rest ≡ Ok (Some x, after) → in_front front (steps_at sc book fuel n rest) ≡ total → in_front (front ++ x ∷ []) (steps_at sc book m (n + 1) after) ≡ total
-steps-goes-on sc book front x fuel m n rest after total f e so =
-    front-more front x (steps_at sc book m (n + 1) after)
-    ∙ sym (ap (in_front front) (steps-step sc book fuel m n rest f ∙ ap (λ r. r >>= λ next. step_or next.0 next.1 (λ rest. steps_at sc book m (n + 1) rest)) e)) ∙ so
-
-pub steps-end : (sc : Scenario) (book : BookView) (front : List TranscriptStep) (fuel m n : ℕ) (rest after : LinesLeft) (total : Result (List TranscriptStep × LinesLeft) TextErr) → fuel ≡ suc m
-    → next_step sc book n rest ≡ Ok (None, after) → in_front front (steps_at sc book fuel n rest) ≡ total → total ≡ Ok (front, after)
-steps-end sc book front fuel m n rest after total f e so =
-    sym so ∙ ap (in_front front) (steps-step sc book fuel m n rest f ∙ ap (λ r. r >>= λ next. step_or next.0 next.1 (λ rest. steps_at sc book m (n + 1) rest)) e) ∙ ap (λ xs. Ok (xs, after)) (append-nil front)
 
 -- a step that was read took a line
 pub took-line : {A : Type 0} (lines : LinesLeft) (r : Result (A × LinesLeft) TextErr) (x : A) (after : LinesLeft) → Fewer lines r → r ≡ Ok (x, after) → length after.left < length lines.left

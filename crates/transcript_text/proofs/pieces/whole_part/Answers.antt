@@ -1,4 +1,4 @@
-use Rattle.std.proofs.Common.{◌≡◌, ◌∙◌, arith, length, sym}
+use Rattle.std.proofs.Common.{◌∙◌, arith, sym}
 use Rattle.std.proofs.lemmas.List.{length-take-le}
 use Rattle.transcript_text.proofs.Cuts.{lines-of-part, no-line-sooner, none-behind, some-end}
 use Rattle.transcript_text.proofs.pieces.whole_part.Goals as goal

@@ -1,4 +1,4 @@
-use Rattle.std.proofs.Common.{◌≡◌, ◌∙◌, List, ℕ, None, Ok, Result, Some, ap, length, subst, sym}
+use Rattle.std.proofs.Common.{◌≡◌, ◌∙◌, Ok, ap, length, subst, sym}
 use Rattle.transcript_text.specs.Pieces.{ReadsOn, StepsSoFar, stopped}
 use Rattle.transcript_text.specs.Reading.{next_step}
 use Rattle.transcript_text.specs.Steps.{Fails}
