@@ -141,7 +141,12 @@ fn cut_at_every_byte(rt: HostRuntime) -> Result<(), Fail> {
     let sc = three_bids(alloc, 70, 1000)?;
     assert!(rt; reads(alloc, &sc, &book, THREE, Ok((Order::ByFacility, 5))));
     for end in 0..THREE.len() {
-        assert!(rt; is_same(read(alloc, &sc, &book, &THREE[..end]), Err(TextErr::Truncated)));
+        assert!(rt;
+            is_same(
+                read(alloc, &sc, &book, &THREE[..end]),
+                Err(TextErr::Truncated)
+            )
+        );
     }
     Ok(())
 }
