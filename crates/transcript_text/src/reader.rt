@@ -1,6 +1,6 @@
-//! The reader of a transcript that comes in pieces: whatever its length, no more of the text is held than the step that
-//! is read and one piece. A step is tried once as many lines are there as its first line counts. Receipts are counted by
-//! none, nor is the start: there, each try wants twice the lines of the one before.
+//! The reader of a transcript that comes in pieces. Whatever the text's length, it holds no more of it than the step that is
+//! read and one piece: a step is tried once as many lines are there as its first line counts. The start and receipts are
+//! counted by no first line; there each try wants twice the lines of the one before, and up to twice the step is held.
 
 ghost use Rattle.std.specs.Prelude.{◌≡◌, ◌++◌, [], ℕ, Err, IfOk, IfSome, List};
 ghost use Rattle.pack_defs.specs.Scenario.{StationsAscend};
