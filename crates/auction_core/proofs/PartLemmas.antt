@@ -142,21 +142,13 @@ pub merged-push : (label : ℕ → ℕ) (vs : List ℕ) (v n : ℕ) → merged_l
 merged-push label [] v n = refl
 merged-push label (w ∷ vs) v n = merged-push (merged_label label w n) vs v n
 
-pub merged-append : (label : ℕ → ℕ) (vs ws : List ℕ) (n : ℕ) → merged_labels (merged_labels label vs n) ws n ≡ merged_labels label (vs ++ ws) n
-merged-append label [] ws n = refl
-merged-append label (w ∷ vs) ws n = merged-append (merged_label label w n) vs ws n
-
--- one pair more
-pub merged-take : (L M N : ℕ → ℕ) (g : Pair → ℕ) (ps : List Pair) (i n : ℕ) (d : Pair) → i < length ps → M ≡ merged_labels L (map g (take i ps)) n → N ≡ merged_label M (g (get_or ps i d)) n → N ≡ merged_labels L (map g (take (i + 1) ps)) n
-merged-take L M N g ps i n d inside so_far step =
+-- one station more
+pub merged-take : (L M N : ℕ → ℕ) (vs : List ℕ) (i n d : ℕ) → i < length vs → M ≡ merged_labels L (take i vs) n → N ≡ merged_label M (get_or vs i d) n → N ≡ merged_labels L (take (i + 1) vs) n
+merged-take L M N vs i n d inside so_far step =
     step
-    ∙ (ap (λ f. merged_label f (g (get_or ps i d)) n) so_far
-    ∙ (sym (merged-push L (map g (take i ps)) (g (get_or ps i d)) n)
-    ∙ ap (λ vs. merged_labels L vs n) (sym (ap (map g) (take_more ps i d inside) ∙ map-push (take i ps) (get_or ps i d)))))
-  where
-    map-push : (xs : List Pair) (x : Pair) → map g (xs ++ x ∷ []) ≡ map g xs ++ g x ∷ []
-    map-push [] x = refl
-    map-push (y ∷ ys) x = ap (λ zs. g y ∷ zs) (map-push ys x)
+    ∙ (ap (λ f. merged_label f (get_or vs i d) n) so_far
+    ∙ (sym (merged-push L (take i vs) (get_or vs i d) n)
+    ∙ ap (λ ws. merged_labels L ws n) (sym (take_more vs i d inside))))
 
 -- ---- one after another, and at once
 
@@ -198,46 +190,15 @@ merged-from label vs (w ∷ ws) n z =
     let same : merged_label (at_once label vs n) w n ≡ at_once label (vs ++ w ∷ []) n = λ i y. at-once-push label vs w n y i in
     ap (λ f. merged_labels f ws n z) same ∙ (merged-from label (vs ++ w ∷ []) ws n z ∙ ap (λ xs. at_once label xs n z) (append_assoc vs (w ∷ []) ws))
 
--- ---- by the pairs of the book
+-- ---- by the neighbours that a book has
 
 same-truth : (a b : Bool) → (a ≡ true → b ≡ true) → (b ≡ true → a ≡ true) → a ≡ b
 same-truth true b f g = sym (f refl)
 same-truth false b f g = sym (false_from_ne_true b (λ yes. let no : false ≡ true = g yes in cc))
 
--- the other stations of a station's pairs
-abbrev pub others_of : BookView → ℕ → List ℕ
-others_of book u = map (λ (p : Pair). p.f) (filter (λ (p : Pair). p.g == u) book.pairs) ++ map (λ (p : Pair). p.g) (filter (λ (p : Pair). p.f == u) book.pairs)
-
-others-interfere : (book : BookView) (u v : ℕ) → Contains (others_of book u) v → interferes book u v ≡ true
-others-interfere book u v h =
-    elim (Contains-append_cases (map (λ (p : Pair). p.f) (filter (λ (p : Pair). p.g == u) book.pairs)) _ v h) [
-      | inl first ↦
-          let (p, listed, is) = Contains-from_map (λ (p : Pair). p.f) (filter (λ (p : Pair). p.g == u) book.pairs) v first in
-          let (there, end) = Contains-from_filter (λ (p : Pair). p.g == u) book.pairs p listed in
-          list_any-from (λ q. ((q.f == u) && (q.g == v)) || ((q.f == v) && (q.g == u))) book.pairs p there
-          (or_right ((p.f == u) && (p.g == v)) _ (and_from (p.f == v) (p.g == u) (eq-eqb p.f v is) end))
-      | inr second ↦
-          let (p, listed, is) = Contains-from_map (λ (p : Pair). p.g) (filter (λ (p : Pair). p.f == u) book.pairs) v second in
-          let (there, end) = Contains-from_filter (λ (p : Pair). p.f == u) book.pairs p listed in
-          list_any-from (λ q. ((q.f == u) && (q.g == v)) || ((q.f == v) && (q.g == u))) book.pairs p there
-          (or_left _ ((p.f == v) && (p.g == u)) (and_from (p.f == u) (p.g == v) end (eq-eqb p.g v is)))
-    ]
-
-interfere-others : (book : BookView) (u v : ℕ) → interferes book u v ≡ true → Contains (others_of book u) v
-interfere-others book u v h =
-    let (p, there, is) = list_any-gives (λ q. ((q.f == u) && (q.g == v)) || ((q.f == v) && (q.g == u))) book.pairs h in
-    ⊎_elim
-    (λ a.
-    let parts = and_parts (p.f == u) (p.g == v) a in
-    Contains-append_right (map (λ (p : Pair). p.f) (filter (λ (p : Pair). p.g == u) book.pairs)) _ v
-    (subst (λ w. Contains (map (λ (p : Pair). p.g) (filter (λ (p : Pair). p.f == u) book.pairs)) w) (eqb-true p.g v parts.1)
-    (Contains-map (λ (p : Pair). p.g) (filter (λ (p : Pair). p.f == u) book.pairs) p (Contains-filter (λ (p : Pair). p.f == u) book.pairs p there parts.0))))
-    (λ b.
-    let parts = and_parts (p.f == v) (p.g == u) b in
-    Contains-append_left (map (λ (p : Pair). p.f) (filter (λ (p : Pair). p.g == u) book.pairs)) _ v
-    (subst (λ w. Contains (map (λ (p : Pair). p.f) (filter (λ (p : Pair). p.g == u) book.pairs)) w) (eqb-true p.f v parts.0)
-    (Contains-map (λ (p : Pair). p.f) (filter (λ (p : Pair). p.g == u) book.pairs) p (Contains-filter (λ (p : Pair). p.g == u) book.pairs p there parts.1))))
-    (or_cases ((p.f == u) && (p.g == v)) ((p.f == v) && (p.g == u)) is)
+-- the list has just the stations that interfere with this one
+abbrev pub ListsNear : BookView → ℕ → List ℕ → Type 0
+ListsNear book u near = (t : ℕ) → is_in near t ≡ interferes book u t
 
 -- a station with a label is one of the list
 label-known : (parts : PartsView) (v : ℕ) → not (label_of parts v == 0) ≡ true → Contains (labelled parts) v
@@ -245,53 +206,41 @@ label-known parts v some =
     Contains-filter (λ w. not (label_of parts w == 0)) parts.stations v
     (is_in-gives parts.stations v (⊎_elim (λ yes. yes) (λ out. let none : not (label_of parts v == 0) ≡ false = ap (λ l. not (l == 0)) (label-out parts.stations parts.labels v out) in absurd (both_ways (not (label_of parts v == 0)) none some)) (cases_Bool (is_in parts.stations v)))) some
 
-pub meets-touches : (book : BookView) (parts : PartsView) (u l : ℕ) → meets (label_of parts) (others_of book u) l ≡ touches book (labelled parts) (label_of parts) u l
-meets-touches book parts u l = same-truth _ _
+pub meets-touches : (book : BookView) (parts : PartsView) (u l : ℕ) (near : List ℕ) → ListsNear book u near → meets (label_of parts) near l ≡ touches book (labelled parts) (label_of parts) u l
+meets-touches book parts u l near listed = same-truth _ _
     (λ h.
-    let (v, there, is) = list_any-gives (λ w. not (label_of parts w == 0) && (label_of parts w == l)) (others_of book u) h in
+    let (v, there, is) = list_any-gives (λ w. not (label_of parts w == 0) && (label_of parts w == l)) near h in
     let both = and_parts (not (label_of parts v == 0)) (label_of parts v == l) is in
     list_any-from (λ w. interferes book u w && (label_of parts w == l)) (labelled parts) v (label-known parts v both.0)
-    (and_from (interferes book u v) (label_of parts v == l) (others-interfere book u v there) both.1))
+    (and_from (interferes book u v) (label_of parts v == l) (sym (listed v) ∙ is_in-from near v there) both.1))
     (λ h.
     let (v, there, is) = list_any-gives (λ w. interferes book u w && (label_of parts w == l)) (labelled parts) h in
     let both = and_parts (interferes book u v) (label_of parts v == l) is in
-    list_any-from (λ w. not (label_of parts w == 0) && (label_of parts w == l)) (others_of book u) v (interfere-others book u v both.0)
+    list_any-from (λ w. not (label_of parts w == 0) && (label_of parts w == l)) near v (is_in-gives near v (listed v ∙ both.0))
     (and_from (not (label_of parts v == 0)) (label_of parts v == l) (Contains-from_filter (λ w. not (label_of parts w == 0)) parts.stations v there).1 both.1))
 
 -- the labels once the station's parts are merged and it has its own
-pub joined-is : (book : BookView) (parts : PartsView) (u n z : ℕ) → (if z == u then n else merged_labels (label_of parts) (others_of book u) n z) ≡ relabelled book (labelled parts) (label_of parts) u n z
-joined-is book parts u n z =
-    let start : label_of parts ≡ at_once (label_of parts) [] n = refl in
-    let merged = merged-from (label_of parts) [] (others_of book u) n z in
-    let same : merged_labels (label_of parts) (others_of book u) n z ≡ (if touches book (labelled parts) (label_of parts) u (label_of parts z) then n else label_of parts z) =
-    merged ∙ ap (λ b. if b then n else label_of parts z) (meets-touches book parts u (label_of parts z)) in
-    elim (z == u) as (λ b. (if b then n else merged_labels (label_of parts) (others_of book u) n z) ≡ (if b || touches book (labelled parts) (label_of parts) u (label_of parts z) then n else label_of parts z)) [
+pub joined-is : (book : BookView) (parts : PartsView) (u n z : ℕ) (near : List ℕ) → ListsNear book u near → (if z == u then n else merged_labels (label_of parts) near n z) ≡ relabelled book (labelled parts) (label_of parts) u n z
+joined-is book parts u n z near listed =
+    let same : merged_labels (label_of parts) near n z ≡ (if touches book (labelled parts) (label_of parts) u (label_of parts z) then n else label_of parts z) =
+    merged-from (label_of parts) [] near n z ∙ ap (λ b. if b then n else label_of parts z) (meets-touches book parts u (label_of parts z) near listed) in
+    elim (z == u) as (λ b. (if b then n else merged_labels (label_of parts) near n z) ≡ (if b || touches book (labelled parts) (label_of parts) u (label_of parts z) then n else label_of parts z)) [
       | true ↦ refl
       | false ↦ same
     ]
 
 -- ---- since when
 
--- one of the other stations has this label or a greater one
-pub since-is : (book : BookView) (parts : PartsView) (u time : ℕ) → 0 < time → list_any (λ v. nat_le time (label_of parts v)) (others_of book u) ≡ touches_since book parts u time
-since-is book parts u time some = same-truth _ _
+-- one of the stations near it has this label or a greater one
+pub since-is : (book : BookView) (parts : PartsView) (u time : ℕ) (near : List ℕ) → ListsNear book u near → 0 < time → list_any (λ v. nat_le time (label_of parts v)) near ≡ touches_since book parts u time
+since-is book parts u time near listed some = same-truth _ _
     (λ h.
-    let (v, there, is) = list_any-gives (λ w. nat_le time (label_of parts w)) (others_of book u) h in
+    let (v, there, is) = list_any-gives (λ w. nat_le time (label_of parts w)) near h in
     let least = leb-true time (label_of parts v) is in
     let on : not (label_of parts v == 0) ≡ true = ap not (ne_eqb (label_of parts v) 0 (λ e. omega (arith, some, least, e))) in
     list_any-from (λ w. interferes book u w && nat_le time (label_of parts w)) (labelled parts) v (label-known parts v on)
-    (and_from (interferes book u v) (nat_le time (label_of parts v)) (others-interfere book u v there) is))
+    (and_from (interferes book u v) (nat_le time (label_of parts v)) (sym (listed v) ∙ is_in-from near v there) is))
     (λ h.
     let (v, there, is) = list_any-gives (λ w. interferes book u w && nat_le time (label_of parts w)) (labelled parts) h in
     let both = and_parts (interferes book u v) (nat_le time (label_of parts v)) is in
-    list_any-from (λ w. nat_le time (label_of parts w)) (others_of book u) v (interfere-others book u v both.0) both.1)
-
-pub since-first : (parts : PartsView) (time : ℕ) (ps qs : List Pair) → list_any (λ (p : Pair). nat_le time (label_of parts p.f)) ps ≡ true → list_any (λ v. nat_le time (label_of parts v)) (map (λ (p : Pair). p.f) ps ++ map (λ (p : Pair). p.g) qs) ≡ true
-since-first parts time ps qs h =
-    list_any-append (λ v. nat_le time (label_of parts v)) (map (λ (p : Pair). p.f) ps) (map (λ (p : Pair). p.g) qs) ∙ or_left _ _ (list_any-map (λ v. nat_le time (label_of parts v)) (λ (p : Pair). p.f) ps ∙ h)
-
-pub since-second : (parts : PartsView) (time : ℕ) (ps qs : List Pair) → list_any (λ (p : Pair). nat_le time (label_of parts p.f)) ps ≡ false → list_any (λ v. nat_le time (label_of parts v)) (map (λ (p : Pair). p.f) ps ++ map (λ (p : Pair). p.g) qs) ≡ list_any (λ (p : Pair). nat_le time (label_of parts p.g)) qs
-since-second parts time ps qs h =
-    list_any-append (λ v. nat_le time (label_of parts v)) (map (λ (p : Pair). p.f) ps) (map (λ (p : Pair). p.g) qs)
-    ∙ (ap (λ b. b || list_any (λ v. nat_le time (label_of parts v)) (map (λ (p : Pair). p.g) qs)) (list_any-map (λ v. nat_le time (label_of parts v)) (λ (p : Pair). p.f) ps ∙ h)
-    ∙ list_any-map (λ v. nat_le time (label_of parts v)) (λ (p : Pair). p.g) qs)
+    list_any-from (λ w. nat_le time (label_of parts w)) near v (is_in-gives near v (listed v ∙ both.0)) both.1)

@@ -8,7 +8,6 @@ use Rattle.pack_defs.proofs.Members.{Contains-filter, Contains-from_filter, is_i
 use Rattle.pack_defs.proofs.Words.{ascending-from, same-ascending}
 use Rattle.pack_defs.specs.Book.{BookView}
 use Rattle.pack_defs.specs.Lists.{is_ascending, is_in}
-use Rattle.pack_defs.specs.declared.pair.Pair.{Pair}
 use Rattle.pack_defs.specs.declared.scenario.Scenario.{Scenario}
 use Rattle.pack_defs.specs.Scenario.{facilities}
 use Rattle.pack_defs.specs.Components.{component}
@@ -17,16 +16,12 @@ use Rattle.auction_core.specs.Parts.{IsPartsOf, PartsView, is_asked, label_in, l
 use Rattle.auction_core.specs.Rule.{IsAuction}
 use Rattle.auction_core.specs.State.{tested_set}
 use Rattle.auction_core.proofs.Answers.{filter-ascending}
-use Rattle.auction_core.proofs.PartLemmas.{label-at, meets, meets-touches, others_of}
+use Rattle.auction_core.proofs.PartLemmas.{ListsNear, label-at, meets, meets-touches}
 use Rattle.auction_core.proofs.Sets.{tested-rises}
 use Rattle.auction_core.proofs.Since.{asks-with-one}
 use Rattle.auction_core.proofs.Tied.{part-of}
 
 -- ---- marks
-
-marked-append : (label : ℕ → ℕ) (vs ws : List ℕ) (marks : List Bool) → marked label ws (marked label vs marks) ≡ marked label (vs ++ ws) marks
-marked-append label [] ws marks = refl
-marked-append label (v ∷ vs) ws marks = marked-append label vs ws (set marks (label v) true)
 
 marked-length : (label : ℕ → ℕ) (vs : List ℕ) (marks : List Bool) → length (marked label vs marks) ≡ length marks
 marked-length label [] marks = refl
@@ -78,9 +73,9 @@ or-none : (a b : Bool) → b ≡ false → (a || b) ≡ a
 or-none true b e = refl
 or-none false b e = e
 
--- the marks of the station's pairs tell what it touches
-pub asked-is : (book : BookView) (parts : PartsView) (s most : ℕ) (marks : List Bool) (set : List ℕ) → ((z : ℕ) → label_of parts z ≤ most) → marks ≡ marked (label_of parts) (others_of book s) (replicate (most + 1) false) → set ≡ filter (λ z. is_asked s marks z (label_of parts z)) parts.stations → set ≡ touched_set book parts s
-asked-is book parts s most marks set low are is =
+-- the marks of the stations near it tell what it touches
+pub asked-is : (book : BookView) (parts : PartsView) (s most : ℕ) (near : List ℕ) (marks : List Bool) (set : List ℕ) → ListsNear book s near → ((z : ℕ) → label_of parts z ≤ most) → marks ≡ marked (label_of parts) near (replicate (most + 1) false) → set ≡ filter (λ z. is_asked s marks z (label_of parts z)) parts.stations → set ≡ touched_set book parts s
+asked-is book parts s most near marks set listed low are is =
     is ∙ filter_agree (λ z. is_asked s marks z (label_of parts z)) (λ z. (z == s) || (not (label_of parts z == 0) && touches book (labelled parts) (label_of parts) s (label_of parts z))) (λ z. ap (λ b. (z == s) || b) (alike z)) parts.stations
   where
     none : List Bool
@@ -97,20 +92,10 @@ asked-is book parts s most marks set low are is =
           | true ↦ λ e. refl
           | false ↦ λ e.
               ap (λ xs. get_or xs l false) are
-              ∙ (has-mark (label_of parts) (others_of book s) none l inside
-              ∙ (or-none (list_any (λ v. label_of parts v == l) (others_of book s)) (get_or none l false) (get_or-replicate (most + 1) l false false (omega (arith, h)))
-              ∙ (some-label (label_of parts) (others_of book s) l e ∙ meets-touches book parts s l)))
+              ∙ (has-mark (label_of parts) near none l inside
+              ∙ (or-none (list_any (λ v. label_of parts v == l) near) (get_or none l false) (get_or-replicate (most + 1) l false false (omega (arith, h)))
+              ∙ (some-label (label_of parts) near l e ∙ meets-touches book parts s l near listed)))
         ]) refl
-
--- the marks of two lists of pairs, one after the other
-pub marks-are : (book : BookView) (parts : PartsView) (s : ℕ) (firsts seconds : List Pair) (none one both : List Bool) → firsts ≡ filter (λ (p : Pair). p.g == s) book.pairs → seconds ≡ filter (λ (p : Pair). p.f == s) book.pairs → one ≡ marked (label_of parts) (map (λ (p : Pair). p.f) firsts) none → both ≡ marked (label_of parts) (map (λ (p : Pair). p.g) seconds) one →
-    both ≡ marked (label_of parts) (others_of book s) none
-marks-are book parts s firsts seconds none one both to from first second =
-    second
-    ∙ (ap (marked (label_of parts) (map (λ (p : Pair). p.g) seconds)) first
-    ∙ (ap (λ (ps : List Pair). marked (label_of parts) (map (λ (p : Pair). p.g) ps) (marked (label_of parts) (map (λ (p : Pair). p.f) firsts) none)) from
-    ∙ (ap (λ (ps : List Pair). marked (label_of parts) (map (λ (p : Pair). p.g) (filter (λ (p : Pair). p.f == s) book.pairs)) (marked (label_of parts) (map (λ (p : Pair). p.f) ps) none)) to
-    ∙ marked-append (label_of parts) (map (λ (p : Pair). p.f) (filter (λ (p : Pair). p.g == s) book.pairs)) (map (λ (p : Pair). p.g) (filter (λ (p : Pair). p.f == s) book.pairs)) none)))
 
 -- ---- one station more of the pass
 

@@ -124,8 +124,9 @@ impl Clockwork {
         }
     }
 
-    /// The standing query; none where the auction has ended. It costs the tested station's pairs and two passes over the
-    /// stations. The only error is want of memory. A solver may be asked it, and an answer to it may be checked.
+    /// The standing query; none where the auction has ended. It costs a search by halves for each station near the tested
+    /// one and two passes over the stations. The only error is want of memory. A solver may be asked it, and an answer to it
+    /// may be checked.
     pub fn task(&self, alloc: Global) -> Result<Option<Task>, NoMemory>
         ensures task { IfOk result (λ task. task ≡ task_of self.now.scenario self.now.book self.now.state) }
         ensures query { IfOk result (λ task. MatchOption task ⊤ (IsQuery self.now.book)) }

@@ -7,7 +7,6 @@ ghost use Rattle.auction_core.specs.Parts.{is_asked, label_in, label_of, labelle
 
 use crate::air_map::place_of;
 use pack_defs::book::Book;
-use pack_defs::pair::Pair;
 use std::alloc::{AllocError as NoMemory, Global};
 use std::marker::Model;
 
@@ -51,33 +50,29 @@ impl Parts {
         label_at(&self.stations, &self.labels, station)
     }
 
-    /// The station goes on air, with this number: the parts that it interferes with become one, of this label. It costs the
-    /// station's pairs, and a pass over the stations for each of these parts. It takes no memory.
+    /// The station goes on air, with this number: the parts that it interferes with become one, of this label. It costs a
+    /// search by halves for each station near it, and a pass over the stations for each of these parts. It takes no memory.
     pub fn join(&mut self, book: &Book, station: u32, number: u32)
         requires { IsTrue (is_in self.old.stations station) }
         ensures stations { self.new.stations ≡ self.old.stations }
         ensures labels { (z : ℕ) → label_of self.new z ≡ relabelled book.now (labelled self.old) (label_of self.old) station number z }
     {
-        self.merge_firsts(book.pairs_to(station), number);
-        self.merge_seconds(book.pairs_from(station), number);
+        self.merge_all(book.neighbours(station), number);
         self.put(station, number);
     }
 
-    /// Whether the station interferes with one on air whose part changed at this time or later. It costs the station's
-    /// pairs.
+    /// Whether the station interferes with one on air whose part changed at this time or later. It costs a search by
+    /// halves for each station near it.
     pub fn touches_since(&self, book: &Book, station: u32, time: u32) -> bool
         requires { 0 < time }
         ensures { result ≡ touches_since book.now self.now station time }
     {
-        if self.any_first(book.pairs_to(station), time) {
-            return true;
-        }
-        self.any_second(book.pairs_from(station), time)
+        self.any_since(book.neighbours(station), time)
     }
 
     /// The station and the stations on air of the labels that it touches, ascending: those that a test of it asks about. No
-    /// label is above `most`. It costs the station's pairs, a pass over the stations, and room for `most` marks. The only
-    /// error is want of memory.
+    /// label is above `most`. It costs a search by halves for each station near it, a pass over the stations, and room for
+    /// `most` marks. The only error is want of memory.
     pub fn touched_set(
         &self,
         alloc: Global,
@@ -89,44 +84,17 @@ impl Parts {
         ensures { IfOk result (λ set. set.items ≡ touched_set book.now self.now station) }
     {
         let mut marks = vec![in alloc; false; most as usize + 1]?;
-        self.mark_firsts(book.pairs_to(station), &mut marks);
-        self.mark_seconds(book.pairs_from(station), &mut marks);
+        self.mark(book.neighbours(station), &mut marks);
         self.marked(alloc, station, &marks)
     }
 
-    // The label of each first station of these pairs is marked. Pairs to one station ascend by their first one, so each of
-    // these is looked up once.
-    fn mark_firsts(&self, pairs: &[Pair], marks: &mut Vec<bool>)
+    // The label of each of these stations is marked.
+    fn mark(&self, near: &[u32], marks: &mut Vec<bool>)
         requires { (z : ℕ) → label_of self.now z < length marks.old.items }
-        ensures { marks.new.items ≡ marked (label_of self.now) (map (λ p. p.f) pairs.now) marks.old.items }
+        ensures { marks.new.items ≡ marked (label_of self.now) near.now marks.old.items }
     {
-        let mut first = 0;
-        let mut label = self.label(first);
-        for p in pairs {
-            label = self.label_beside(p.f, first, label);
-            first = p.f;
-            marks[label as usize] = true;
-        }
-    }
-
-    // The label of a station, beside that of another one, which may be the same.
-    fn label_beside(&self, station: u32, other: u32, label: u32) -> u32
-        requires { label ≡ label_of self.now other }
-        ensures { result ≡ label_of self.now station }
-    {
-        if station == other {
-            return label;
-        }
-        self.label(station)
-    }
-
-    // The label of each second station of these pairs is marked.
-    fn mark_seconds(&self, pairs: &[Pair], marks: &mut Vec<bool>)
-        requires { (z : ℕ) → label_of self.now z < length marks.old.items }
-        ensures { marks.new.items ≡ marked (label_of self.now) (map (λ p. p.g) pairs.now) marks.old.items }
-    {
-        for p in pairs {
-            let label = self.label(p.g) as usize;
+        for v in near {
+            let label = self.label(*v) as usize;
             marks[label] = true;
         }
     }
@@ -139,23 +107,13 @@ impl Parts {
         asked(alloc, &self.stations, &self.labels, station, marks)
     }
 
-    // The parts of the first stations of these pairs have this label.
-    fn merge_firsts(&mut self, pairs: &[Pair], number: u32)
+    // The parts of these stations have this label.
+    fn merge_all(&mut self, near: &[u32], number: u32)
         ensures stations { self.new.stations ≡ self.old.stations }
-        ensures labels { label_of self.new ≡ merged_labels (label_of self.old) (map (λ p. p.f) pairs.now) number }
+        ensures labels { label_of self.new ≡ merged_labels (label_of self.old) near.now number }
     {
-        for p in pairs {
-            self.merge(p.f, number);
-        }
-    }
-
-    // The parts of the second stations of these pairs have this label.
-    fn merge_seconds(&mut self, pairs: &[Pair], number: u32)
-        ensures stations { self.new.stations ≡ self.old.stations }
-        ensures labels { label_of self.new ≡ merged_labels (label_of self.old) (map (λ p. p.g) pairs.now) number }
-    {
-        for p in pairs {
-            self.merge(p.g, number);
+        for v in near {
+            self.merge(*v, number);
         }
     }
 
@@ -186,24 +144,12 @@ impl Parts {
         self.labels[place] = number;
     }
 
-    // Whether the first station of one of these pairs has this label or a greater one.
-    fn any_first(&self, pairs: &[Pair], time: u32) -> bool
-        ensures { result ≡ list_any (λ p. nat_le time (label_of self.now p.f)) pairs.now }
+    // Whether one of these stations has this label or a greater one.
+    fn any_since(&self, near: &[u32], time: u32) -> bool
+        ensures { result ≡ list_any (λ v. nat_le time (label_of self.now v)) near.now }
     {
-        for p in pairs {
-            if time <= self.label(p.f) {
-                return true;
-            }
-        }
-        false
-    }
-
-    // Whether the second station of one of these pairs has this label or a greater one.
-    fn any_second(&self, pairs: &[Pair], time: u32) -> bool
-        ensures { result ≡ list_any (λ p. nat_le time (label_of self.now p.g)) pairs.now }
-    {
-        for p in pairs {
-            if time <= self.label(p.g) {
+        for v in near {
+            if time <= self.label(*v) {
                 return true;
             }
         }

@@ -99,8 +99,8 @@ impl Past {
         self.steps.reserve(more)
     }
 
-    /// The station goes on air, and joins the parts that it interferes with. It costs the station's pairs, and a pass over
-    /// the stations for each of these parts. It takes no memory.
+    /// The station goes on air, and joins the parts that it interferes with. It costs a search by halves for each station
+    /// near it, and a pass over the stations for each of these parts. It takes no memory.
     pub fn air(&mut self, book: &Book, station: u32)
         requires known { IsTrue (is_in self.old.parts.stations station) }
         requires few { self.old.on_air < 8192 }
