@@ -1,14 +1,13 @@
 -- The labels of the parts on air, beside the stations' places.
-use Rattle.std.proofs.Common.{◌≡◌, ℕ, zero, suc, ◌+◌, ◌<◌, ◌≤◌, Bool, true, false, not, ◌==◌, ◌&&◌, ◌||◌, nat_le, if◌then◌else◌, List, [], ◌∷◌, ◌++◌, map, filter, take, length, get_or, Contains, refl, sym, ap, ◌∙◌, subst, ⊎_elim, inl, inr, eqb-true, eq-eqb, ne_eqb, arith, append_assoc, append-nil}
+use Rattle.std.proofs.Common.{◌≡◌, ℕ, zero, suc, ◌+◌, ◌<◌, ◌≤◌, Bool, true, false, not, ◌==◌, ◌&&◌, ◌||◌, nat_le, if◌then◌else◌, List, [], ◌∷◌, ◌++◌, map, take, length, get_or, Contains, refl, sym, ap, ◌∙◌, subst, ⊎_elim, eqb-true, eq-eqb, ne_eqb, arith, append_assoc, append-nil}
 use Rattle.std.specs.Prelude.{slice_set}
 use Rattle.std.specs.List.{list_any}
-use Rattle.std.proofs.lemmas.Bool.{and_parts, and_from, or_cases, or_left, or_right, both_ways, false_from_ne_true, cases_Bool, cond-true, cond-false, leb-true}
+use Rattle.std.proofs.lemmas.Bool.{and_parts, and_from, both_ways, false_from_ne_true, cases_Bool, cond-true, cond-false, leb-true}
 use Rattle.std.proofs.lemmas.List.{take_more}
 use Rattle.std.proofs.lemmas.List.Folds.{list_any-append}
-use Rattle.std.proofs.lemmas.List.Elements.{Contains-get_or, Contains-append_left, Contains-append_right, Contains-append_cases}
-use Rattle.pack_defs.proofs.Members.{Contains-filter, Contains-from_filter, Contains-map, Contains-from_map, is_in-from, is_in-gives, list_any-from, list_any-gives}
-use Rattle.pack_defs.proofs.Words.{ascending-rest, below-later, list_any-map}
-use Rattle.pack_defs.specs.declared.pair.Pair.{Pair}
+use Rattle.std.proofs.lemmas.List.Elements.{Contains-get_or}
+use Rattle.pack_defs.proofs.Members.{Contains-filter, Contains-from_filter, is_in-from, is_in-gives, list_any-from, list_any-gives}
+use Rattle.pack_defs.proofs.Words.{ascending-rest, below-later}
 use Rattle.pack_defs.specs.Book.{BookView}
 use Rattle.pack_defs.specs.Components.{interferes}
 use Rattle.pack_defs.specs.Lists.{is_ascending, is_in}
