@@ -3,6 +3,8 @@
 
 #[cfg(test)]
 mod gate_tests;
+#[cfg(test)]
+mod memory_tests;
 mod muster;
 mod parting;
 #[cfg(test)]
