@@ -123,7 +123,7 @@ impl Searcher {
                 Ok(Progress::Ended(Suggestion::Fit(fit)))
             }
             Found::Refuted { line } => {
-                let disproof = Disproof::of(alloc, &engine, line)?;
+                let disproof = Disproof::of(alloc, &mut engine, line)?;
                 self.say_unfit(alloc, engine, disproof)
             }
             Found::Lost => Ok(Progress::Lost),

@@ -56,7 +56,7 @@ impl Shortening {
                 }
             }
             Found::Refuted { line } => {
-                let found = Disproof::of(alloc, &self.engine, line)?;
+                let found = Disproof::of(alloc, &mut self.engine, line)?;
                 if found.len() < self.best.len() {
                     self.best = found;
                 }
