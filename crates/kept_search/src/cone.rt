@@ -1,55 +1,99 @@
 //! What a refutation needs of all that was learnt, backwards from its last line.
 
 use crate::cells::{filled, read, short, write};
-use crate::engine::Engine;
+use crate::grid::Grid;
 use crate::hint::Hint;
+use crate::lines::Lines;
 use std::alloc::{AllocError as NoMemory, Global};
 
-/// The lines that a last one needs, ascending, with it; and the stations whose clauses or channels they name, ascending.
+/// The lines that a last one needs, ascending, with it; and the stations whose clauses or channels they name, ascending. It is
+/// kept from one refutation to the next, so that one costs what it needs, and not what was ever learnt.
 #[derive(Drop)]
 pub(crate) struct Cone {
     pub(crate) lines: Vec<u32>,
     pub(crate) stations: Vec<u32>,
+    // Of each line that was learnt its place among these, from 1; 0 where it is none of them.
+    places: Vec<u32>,
 }
 
-impl Engine {
-    /// What the line of this number needs.
-    pub(crate) fn cone(&self, alloc: Global, last: u32) -> Result<Cone, NoMemory> {
-        let mut is_needed = filled(alloc, self.lines.len(), false)?;
-        let mut is_named = filled(alloc, self.grid.stations(), false)?;
-        let mut lines = Vec::new(alloc);
-        let mut waiting = vec![in alloc; last]?;
+impl Cone {
+    /// No line.
+    pub(crate) fn new(alloc: Global) -> Cone {
+        Cone {
+            lines: Vec::new(alloc),
+            stations: Vec::new(alloc),
+            places: Vec::new(alloc),
+        }
+    }
+
+    /// The place of a line among those that are needed, from 1; 0 where it isn't.
+    pub(crate) fn place(&self, line: u32) -> u32 {
+        read(&self.places, line, 0)
+    }
+
+    /// Gathers what the last of these lines needs, in the place of what was gathered before.
+    pub(crate) fn gather(
+        &mut self,
+        alloc: Global,
+        lines: &Lines,
+        grid: &Grid,
+        last: u32,
+    ) -> Result<(), NoMemory> {
+        self.clear();
+        self.places.resize(lines.len() as usize, 0)?;
+        self.need(last)?;
+        let mut is_named = filled(alloc, grid.stations(), false)?;
         let mut hints = Vec::new(alloc);
-        write(&mut is_needed, last, true);
-        for _ in 0..self.lines.len() {
-            let Some(line) = waiting.pop() else {
+        for at in 0..lines.len() {
+            if at >= short(self.lines.len()) {
                 break;
-            };
-            lines.push(line)?;
-            self.lines.hints(line, &mut hints)?;
+            }
+            lines.hints(read(&self.lines, at, 0), &mut hints)?;
             for hint in &hints {
                 match *hint {
                     Hint::Pair { v, w } => {
-                        write(&mut is_named, self.grid.owner(v), true);
-                        write(&mut is_named, self.grid.owner(w), true);
+                        write(&mut is_named, grid.owner(v), true);
+                        write(&mut is_named, grid.owner(w), true);
                     }
                     Hint::Own(station) => write(&mut is_named, station, true),
-                    Hint::Line(earlier) => {
-                        if !read(&is_needed, earlier, true) {
-                            write(&mut is_needed, earlier, true);
-                            waiting.push(earlier)?;
-                        }
-                    }
+                    Hint::Line(earlier) => self.need(earlier)?,
                 }
             }
         }
-        lines.sort_unstable();
-        let mut stations = Vec::new(alloc);
+        self.number_lines();
+        self.list_stations(&is_named)
+    }
+
+    fn clear(&mut self) {
+        for line in &self.lines {
+            write(&mut self.places, *line, 0);
+        }
+        self.lines.clear();
+        self.stations.clear();
+    }
+
+    // A line is needed. Its place is not known yet.
+    fn need(&mut self, line: u32) -> Result<(), NoMemory> {
+        if read(&self.places, line, 1) == 0 {
+            self.lines.push(line)?;
+            write(&mut self.places, line, 1);
+        }
+        Ok(())
+    }
+
+    fn number_lines(&mut self) {
+        self.lines.sort_unstable();
+        for (i, line) in self.lines.iter().enumerate() {
+            write(&mut self.places, *line, short(i).saturating_add(1));
+        }
+    }
+
+    fn list_stations(&mut self, is_named: &[bool]) -> Result<(), NoMemory> {
         for station in 0..short(is_named.len()) {
-            if read(&is_named, station, false) {
-                stations.push(station)?;
+            if read(is_named, station, false) {
+                self.stations.push(station)?;
             }
         }
-        Ok(Cone { lines, stations })
+        Ok(())
     }
 }

@@ -1,6 +1,7 @@
 //! The searcher itself: what it knows of the stations, and the steps that its parts are made of.
 
 use crate::clauses::Clauses;
+use crate::cone::Cone;
 use crate::grid::Grid;
 use crate::hint::{Hint, Reason};
 use crate::lines::Lines;
@@ -22,6 +23,7 @@ pub(crate) struct Engine {
     pub(crate) trail: Trail,
     pub(crate) clauses: Clauses,
     pub(crate) lines: Lines,
+    pub(crate) cone: Cone,
     pub(crate) play: Play,
     pub(crate) marks: Marks,
     pub(crate) policy: Policy,
@@ -48,6 +50,7 @@ impl Engine {
             trail: Trail::new(alloc, vars)?,
             clauses: Clauses::new(alloc, vars)?,
             lines: Lines::new(alloc, vars)?,
+            cone: Cone::new(alloc),
             play: Play::new(alloc, grid.stations(), vars)?,
             marks: Marks::new(alloc, vars)?,
             restarts: Restarts::new(policy.restart_unit),

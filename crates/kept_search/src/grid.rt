@@ -226,3 +226,44 @@ fn count_one(counts: &mut [u32], at: u32) -> u32 {
     write(counts, at, count.saturating_add(1));
     count
 }
+
+#[cfg(test)]
+impl Grid {
+    /// So many stations from 0, on so many channels from 14, no two of which may share one.
+    pub(crate) fn crowded(alloc: Global, stations: u32, channels: u8) -> Result<Grid, NoMemory> {
+        let mut grid = Grid::empty(alloc, 51, 0);
+        for station in 0..stations {
+            let first = grid.vars();
+            grid.facilities.push(station)?;
+            grid.firsts.push(first)?;
+            for row in 0..channels {
+                grid.owners.push(station)?;
+                grid.channels.push(row.saturating_add(14))?;
+                grid.add_column(station, row, stations, channels)?;
+            }
+        }
+        let (vars, end) = (grid.vars(), short(grid.rivals.len()));
+        grid.firsts.push(vars)?;
+        grid.begins.push(end)?;
+        Ok(grid)
+    }
+
+    // The rivals of a station's channel are the same channel of all others.
+    fn add_column(
+        &mut self,
+        station: u32,
+        row: u8,
+        stations: u32,
+        channels: u8,
+    ) -> Result<(), NoMemory> {
+        let begin = short(self.rivals.len());
+        self.begins.push(begin)?;
+        for other in 0..stations {
+            if other != station {
+                let var = other.saturating_mul(channels as u32);
+                self.rivals.push(var.saturating_add(row as u32))?;
+            }
+        }
+        Ok(())
+    }
+}

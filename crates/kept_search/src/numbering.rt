@@ -29,13 +29,13 @@ struct Numbering {
 }
 
 impl Engine {
-    /// The log that a cone is, without the literals that say of a station that it is in the set.
-    pub(crate) fn log(&self, alloc: Global, cone: &Cone) -> Result<Log, NoMemory> {
-        let numbering = Numbering::of(alloc, &self.grid, &cone.stations)?;
+    /// The log that the cone is, without the literals that say of a station that it is in the set.
+    pub(crate) fn log(&self, alloc: Global) -> Result<Log, NoMemory> {
+        let numbering = Numbering::of(alloc, &self.grid, &self.cone.stations)?;
         let mut lines = Lines::new(alloc);
         let (mut literals, mut hints) = (Vec::new(alloc), Vec::new(alloc));
         let (mut lits, mut numbers) = (Vec::new(alloc), Vec::new(alloc));
-        for line in &cone.lines {
+        for line in &self.cone.lines {
             self.lines.literals(*line, &mut literals)?;
             lits.clear();
             for literal in &literals {
@@ -49,7 +49,7 @@ impl Engine {
             self.lines.hints(*line, &mut hints)?;
             numbers.clear();
             for hint in &hints {
-                numbers.push(numbering.number(&self.grid, &cone.lines, *hint))?;
+                numbers.push(numbering.number(&self.grid, &self.cone, *hint))?;
             }
             lines.push(&lits, &numbers)?;
         }
@@ -111,13 +111,10 @@ impl Numbering {
     }
 
     // The number of a clause of the formula, or of a line behind it.
-    fn number(&self, grid: &Grid, lines: &[u32], hint: Hint) -> u64 {
+    fn number(&self, grid: &Grid, cone: &Cone, hint: Hint) -> u64 {
         match hint {
             Hint::Own(station) => read(&self.owns, station, 0) as u64,
-            Hint::Line(line) => match lines.binary_search(&line) {
-                Ok(place) => self.clauses.saturating_add(place as u64).saturating_add(1),
-                Err(_) => 0,
-            },
+            Hint::Line(line) => self.clauses.saturating_add(cone.place(line) as u64),
             Hint::Pair { v, w } => {
                 let (first, second) = (v.min(w), v.max(w));
                 if grid.owner(first) == grid.owner(second) {

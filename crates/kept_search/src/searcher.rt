@@ -123,7 +123,7 @@ impl Searcher {
                 Ok(Progress::Ended(Suggestion::Fit(fit)))
             }
             Found::Refuted { line } => {
-                let disproof = Disproof::of(alloc, &engine, line)?;
+                let disproof = Disproof::of(alloc, &mut engine, line)?;
                 self.say_unfit(alloc, engine, disproof)
             }
             Found::Lost => Ok(Progress::Lost),
@@ -162,14 +162,17 @@ impl Searcher {
         Ok(Progress::Open)
     }
 
-    // Goes on with the search for a shorter disproof.
+    // Goes on with the search for a shorter disproof. Where memory runs out, what is known is forgotten as well.
     fn shorten(
         &mut self,
         alloc: Global,
         mut shortening: Shortening,
         conflicts: u32,
     ) -> Result<Progress, NoMemory> {
-        if shortening.go_on(alloc, conflicts)? {
+        let kept = self.engine.take();
+        let is_over = shortening.go_on(alloc, conflicts)?;
+        self.engine = kept;
+        if is_over {
             let best = shortening.into_best();
             return Ok(Progress::Ended(Suggestion::Unfit(best)));
         }

@@ -56,7 +56,7 @@ impl Shortening {
                 }
             }
             Found::Refuted { line } => {
-                let found = Disproof::of(alloc, &self.engine, line)?;
+                let found = Disproof::of(alloc, &mut self.engine, line)?;
                 if found.len() < self.best.len() {
                     self.best = found;
                 }
@@ -107,4 +107,50 @@ fn engine_over(
     let mut engine = Engine::new(alloc, grid.part(alloc, &stations)?, policy)?;
     engine.begin_beside_all(tested, policy)?;
     Ok(engine)
+}
+
+#[cfg(test)]
+mod tests {
+    use super::*;
+    use rup_check::line::Log;
+    use rup_check::lines::Lines;
+    use std::test::Fail;
+
+    // A disproof of five stations, whose log has so many lines, all empty.
+    fn disproof(alloc: Global, lines: u32) -> Result<Disproof, NoMemory> {
+        let mut log = Log {
+            lines: Lines::new(alloc),
+        };
+        for _ in 0..lines {
+            log.lines.push(&[], &[])?;
+        }
+        let mut stations = Vec::new(alloc);
+        for station in 0..5 {
+            stations.push(station)?;
+        }
+        Ok(Disproof { stations, log })
+    }
+
+    // The shortest disproof that is found of five stations on four channels, where one of so many lines is known.
+    fn shortest(alloc: Global, lines: u32) -> Result<Option<Disproof>, NoMemory> {
+        let grid = Grid::crowded(alloc, 5, 4)?;
+        let best = disproof(alloc, lines)?;
+        let mut shortening = Shortening::begin(alloc, &grid, best, 4, 1000)?;
+        for _ in 0..1000 {
+            if shortening.go_on(alloc, 16)? {
+                return Ok(Some(shortening.into_best()));
+            }
+        }
+        Ok(None)
+    }
+
+    #[test]
+    fn the_shorter_log_is_said(rt: HostRuntime) -> Result<(), Fail> {
+        for (lines, is_shorter) in [(500, true), (100, true), (1, false)] {
+            let best = shortest(rt.alloc(), lines)?.ok_or("no end")?;
+            assert_eq!(rt; best.len() < lines as usize, is_shorter, "{lines} lines");
+            assert!(rt; best.log.ends_empty(), "{lines} lines");
+        }
+        Ok(())
+    }
 }

@@ -23,11 +23,13 @@ pub struct Disproof {
 
 impl Disproof {
     /// What the line of this number needs of all that an engine learnt.
-    pub(crate) fn of(alloc: Global, engine: &Engine, line: u32) -> Result<Disproof, NoMemory> {
-        let cone = engine.cone(alloc, line)?;
-        let log = engine.log(alloc, &cone)?;
+    pub(crate) fn of(alloc: Global, engine: &mut Engine, line: u32) -> Result<Disproof, NoMemory> {
+        engine
+            .cone
+            .gather(alloc, &engine.lines, &engine.grid, line)?;
+        let log = engine.log(alloc)?;
         let mut stations = Vec::new(alloc);
-        for station in &cone.stations {
+        for station in &engine.cone.stations {
             stations.push(engine.grid.facility(*station))?;
         }
         Ok(Disproof { stations, log })
