@@ -89,7 +89,7 @@ rows-one g h size i end text new e m n old =
     let k : 1 + i ≡ i + 1 = omega arith in
     let j : i ≡ 1 + i - 1 = omega arith in
     let rows : made_rows_at h (i + 1) end ≡ made_rows_at (behind_links g size (1 + i - 1)) (1 + i) (block_end size (1 + i)) =
-        ap (λ x. made_rows_at x (i + 1) end) (e ∙ ap (behind_links g size) j)
-        ∙ (ap (λ x. made_rows_at (behind_links g size (1 + i - 1)) (i + 1) x) m
-        ∙ ap (λ s. made_rows_at (behind_links g size (1 + i - 1)) s (block_end size s)) (sym k)) in
+    ap (λ x. made_rows_at x (i + 1) end) (e ∙ ap (behind_links g size) j)
+    ∙ (ap (λ x. made_rows_at (behind_links g size (1 + i - 1)) (i + 1) x) m
+    ∙ ap (λ s. made_rows_at (behind_links g size (1 + i - 1)) s (block_end size s)) (sym k)) in
     written-more (λ s. made_rows_at (behind_links g size (s - 1)) s (block_end size s)) 1 i text new old (n ∙ ap (λ r. text ++ r) rows)

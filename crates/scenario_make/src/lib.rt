@@ -16,6 +16,8 @@
 mod draws;
 mod lines;
 pub mod make;
+#[cfg(test)]
+mod plain;
 mod rows;
 mod stations;
 #[cfg(test)]
