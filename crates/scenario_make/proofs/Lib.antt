@@ -1,2 +1,5 @@
 pub mod RangeLemmas
 pub mod DrawLemmas
+pub mod ScenarioLemmas
+pub mod LineReadings
+pub mod DomainReadings

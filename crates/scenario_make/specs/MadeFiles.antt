@@ -4,6 +4,7 @@ use Rattle.std.specs.List.{flat_map, range_with_len}
 use Rattle.rand_pcg.specs.Lcg.{Lcg}
 use Rattle.serde_json.specs.Written.{compact_text}
 use Rattle.pack_defs.specs.Lists.{is_empty}
+use Rattle.pack_defs.specs.declared.domain.Domain.{Domain}
 use Rattle.pack_defs.specs.declared.fall.Fall.TheVariants.{Listed}
 use Rattle.pack_defs.specs.declared.scenario.Scenario.{Scenario}
 use Rattle.pack_defs.specs.declared.station.Station.{Station}
@@ -31,6 +32,10 @@ made_facilities size = range_with_len 1 size
 -- the line of a station, whose channels are 14 to 17
 abbrev pub made_domain_line : ℕ → List ℕ
 made_domain_line s = key_line (codes "DOMAIN") (s ∷ 14 ∷ 15 ∷ 16 ∷ 17 ∷ [])
+
+-- what it says of the station
+abbrev pub made_domain : ℕ → Domain
+made_domain s = record { station = s; channels = 14 ∷ 15 ∷ 16 ∷ 17 ∷ [] }
 
 -- the domain file
 abbrev pub made_domains : ℕ → List ℕ

@@ -14,6 +14,7 @@
 #![tactic(auto)]
 
 mod draws;
+pub mod laws;
 mod lines;
 pub mod make;
 #[cfg(test)]
