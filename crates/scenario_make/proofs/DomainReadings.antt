@@ -32,7 +32,7 @@ row-is : (s : ℕ) → s ≤ 4294967295 → domain_row (codes "DOMAIN" ∷ map d
 unfolding domain_row channels_to_keep
 row-is s h =
     from-fields (decimal s) (map decimal (14 ∷ 15 ∷ 16 ∷ 17 ∷ [])) s (14 ∷ 15 ∷ 16 ∷ 17 ∷ []) (number-again s h)
-    (numbers-again (14 ∷ 15 ∷ 16 ∷ 17 ∷ []) (omega arith, omega arith, omega arith, omega arith, tt))
+    (numbers-again (14 ∷ 15 ∷ 16 ∷ 17 ∷ []) (omega arith, (omega arith, (omega arith, (omega arith, tt)))))
 
 no-row : (a n s : ℕ) → a + n ≤ s → channels_of (map made_domain (range_with_len a n)) s ≡ None
 no-row a zero s h = refl
@@ -61,7 +61,7 @@ unfolding after_lines lines_of
 lines-add zero i line h = let e : i ≡ i + 0 = omega arith in ap (λ k. Ok (map made_domain (range_with_len 1 k))) e
 lines-add (suc n) i line h =
     let s = 1 + i in
-    let small : AreSmall (s ∷ 14 ∷ 15 ∷ 16 ∷ 17 ∷ []) = (omega (arith, h), omega arith, omega arith, omega arith, omega arith, tt) in
+    let small : AreSmall (s ∷ 14 ∷ 15 ∷ 16 ∷ 17 ∷ []) = (omega (arith, h), (omega arith, (omega arith, (omega arith, (omega arith, tt))))) in
     let next : 1 + (i + 1) ≡ 1 + i + 1 = omega arith in
     let all : i + 1 + n ≡ i + suc n = omega arith in
     line-adds add_domain_row (map made_domain (range_with_len 1 i)) (map made_domain (range_with_len 1 (i + 1))) line (codes "DOMAIN") s (14 ∷ 15 ∷ 16 ∷ 17 ∷ []) (flat_map made_domain_line (range_with_len (1 + i + 1) n)) domain-key small (row-adds i s (omega (arith, h)) refl)
@@ -70,7 +70,9 @@ lines-add (suc n) i line h =
 
 pub domains-read : (size : ℕ) → size ≤ 4096 → domains_of (made_domains size) ≡ Ok (map made_domain (made_facilities size))
 unfolding domains_of
-domains-read size h = lines-add size 0 1 (omega (arith, h))
+domains-read size h =
+    let all : 0 + size ≡ size = omega arith in
+    lines-add size 0 1 (omega (arith, h)) ∙ ap (λ k. Ok (map made_domain (range_with_len 1 k))) all
 
 -- ---- each station has a row
 

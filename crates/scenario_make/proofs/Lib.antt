@@ -3,3 +3,4 @@ pub mod DrawLemmas
 pub mod ScenarioLemmas
 pub mod LineReadings
 pub mod DomainReadings
+pub mod RowReadings

@@ -195,7 +195,7 @@ unfolding rows_from strip_bom without_trailing
 domain-key = record {
   begins = λ xs. refl;
   unmarked = λ xs. refl;
-  plain = (omega arith, omega arith, omega arith, omega arith, omega arith, omega arith, tt);
+  plain = (omega arith, (omega arith, (omega arith, (omega arith, (omega arith, (omega arith, tt))))));
   trim = refl;
   some = refl;
 }
@@ -205,7 +205,7 @@ unfolding rows_from strip_bom without_trailing
 same-key = record {
   begins = λ xs. refl;
   unmarked = λ xs. refl;
-  plain = (omega arith, omega arith, tt);
+  plain = (omega arith, (omega arith, tt));
   trim = refl;
   some = refl;
 }
@@ -215,7 +215,7 @@ unfolding rows_from strip_bom without_trailing
 adjacent-key = record {
   begins = λ xs. refl;
   unmarked = λ xs. refl;
-  plain = (omega arith, omega arith, omega arith, omega arith, omega arith, tt);
+  plain = (omega arith, (omega arith, (omega arith, (omega arith, (omega arith, tt)))));
   trim = refl;
   some = refl;
 }
