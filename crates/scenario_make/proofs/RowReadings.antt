@@ -89,7 +89,7 @@ adds-line domains key n ns row k small is told line rest h =
 -- ---- rows
 
 from-fields : (offset : Offset) (a b s : List ℕ) (others : List (List ℕ)) (x y z : ℕ) (ts : List ℕ) → number a ≡ Some x → number b ≡ Some y → number s ≡ Some z → numbers others ≡ Some ts → row_from offset a b s others ≡ row_on offset x y z ts
-from-fields offset a b s others x y z ts na nb ns no = rw (na, nb, ns, no) refl
+from-fields offset a b s others x y z ts first second third rest = rw (first, second, third, rest) refl
 
 same-row : (c s : ℕ) (ts : List ℕ) → AreSmall (c ∷ c ∷ s ∷ ts) → interference_row (codes "CO" ∷ map decimal (c ∷ c ∷ s ∷ ts)) ≡ row_on (record { above = 0; below = 0 }) c c s ts
 unfolding interference_row
@@ -101,7 +101,7 @@ unfolding interference_row
 adjacent-row c d s ts h =
     from-fields (record { above = 1; below = 0 }) (decimal c) (decimal d) (decimal s) (map decimal ts) c d s ts (number-again c h.0) (number-again d h.1.0) (number-again s h.1.1.0) (numbers-again ts h.1.1.1)
 
-row : ℕ → ℕ → ℕ → List ℕ → Row
+abbrev row : ℕ → ℕ → ℕ → List ℕ → Row
 row c d s ts = record { channel = c; other_channel = d; station = s; others = ts }
 
 same-line : (domains : List Domain) (c s : ℕ) (ts : List ℕ) → AreSmall (c ∷ c ∷ s ∷ ts) → row_on (record { above = 0; below = 0 }) c c s ts ≡ Ok (row c c s ts) → Adds domains (key_line (codes "CO") (c ∷ c ∷ s ∷ ts)) (length ts)
@@ -115,22 +115,35 @@ adjacent-line domains c d s h is = adds-line domains (codes "ADJ+1") c (d ∷ s 
 link-lines : (domains : List Domain) (s : ℕ) (ts : List ℕ) (k : ℕ) → AreSmall (s ∷ ts) → length ts ≤ k → Adds domains (made_link_lines s ts) (4 * k)
 link-lines domains s [] k h few = adds-nothing domains (4 * k)
 link-lines domains s (t ∷ ts) k h few =
-    let all = t ∷ ts in
-    let a = adds-more domains _ (length all) k few (same-line domains 14 s all (omega arith, (omega arith, h)) refl) in
-    let b = adds-more domains _ (length all) k few (same-line domains 15 s all (omega arith, (omega arith, h)) refl) in
-    let c = adds-more domains _ (length all) k few (same-line domains 16 s all (omega arith, (omega arith, h)) refl) in
-    let d = adds-more domains _ (length all) k few (same-line domains 17 s all (omega arith, (omega arith, h)) refl) in
-    let total : k + (k + (k + (k + 0))) ≤ 4 * k = omega arith in
-    adds-more domains (made_link_lines s all) (k + (k + (k + (k + 0)))) (4 * k) total
-    (adds-both domains _ _ k (k + (k + (k + 0))) a (adds-both domains _ _ k (k + (k + 0)) b (adds-both domains _ _ k (k + 0) c (adds-both domains _ [] k 0 d (adds-nothing domains 0)))))
+    let all : List ℕ = t ∷ ts in
+    let first : List ℕ = key_line (codes "CO") (14 ∷ 14 ∷ s ∷ all) in
+    let second : List ℕ = key_line (codes "CO") (15 ∷ 15 ∷ s ∷ all) in
+    let third : List ℕ = key_line (codes "CO") (16 ∷ 16 ∷ s ∷ all) in
+    let fourth : List ℕ = key_line (codes "CO") (17 ∷ 17 ∷ s ∷ all) in
+    let a = adds-more domains first (length all) k few (same-line domains 14 s all (omega arith, (omega arith, h)) refl) in
+    let b = adds-more domains second (length all) k few (same-line domains 15 s all (omega arith, (omega arith, h)) refl) in
+    let c = adds-more domains third (length all) k few (same-line domains 16 s all (omega arith, (omega arith, h)) refl) in
+    let d = adds-more domains fourth (length all) k few (same-line domains 17 s all (omega arith, (omega arith, h)) refl) in
+    adds-more domains (first ++ (second ++ (third ++ (fourth ++ [])))) (k + (k + (k + (k + 0)))) (4 * k) (omega arith)
+    (adds-both domains first (second ++ (third ++ (fourth ++ []))) k (k + (k + (k + 0))) a
+    (adds-both domains second (third ++ (fourth ++ [])) k (k + (k + 0)) b
+    (adds-both domains third (fourth ++ []) k (k + 0) c
+    (adds-both domains fourth [] k 0 d (adds-nothing domains 0)))))
 
 adjacent-lines : (domains : List Domain) (s : ℕ) (adjacent : Bool) → s ≤ 4294967294 → Adds domains (made_adjacent_lines s adjacent) 3
 adjacent-lines domains s false h = adds-nothing domains 3
 adjacent-lines domains s true h =
-    let a = adjacent-line domains 14 15 s (omega arith, (omega arith, (omega (arith, h), (omega (arith, h), tt)))) refl in
-    let b = adjacent-line domains 15 16 s (omega arith, (omega arith, (omega (arith, h), (omega (arith, h), tt)))) refl in
-    let c = adjacent-line domains 16 17 s (omega arith, (omega arith, (omega (arith, h), (omega (arith, h), tt)))) refl in
-    adds-both domains _ _ 1 2 a (adds-both domains _ _ 1 1 b (adds-both domains _ [] 1 0 c (adds-nothing domains 0)))
+    let first : List ℕ = key_line (codes "ADJ+1") (14 ∷ 15 ∷ s ∷ (s + 1) ∷ []) in
+    let second : List ℕ = key_line (codes "ADJ+1") (15 ∷ 16 ∷ s ∷ (s + 1) ∷ []) in
+    let third : List ℕ = key_line (codes "ADJ+1") (16 ∷ 17 ∷ s ∷ (s + 1) ∷ []) in
+    let small : AreSmall (s ∷ (s + 1) ∷ []) = (omega (arith, h), (omega (arith, h), tt)) in
+    let a = adjacent-line domains 14 15 s (omega arith, (omega arith, small)) refl in
+    let b = adjacent-line domains 15 16 s (omega arith, (omega arith, small)) refl in
+    let c = adjacent-line domains 16 17 s (omega arith, (omega arith, small)) refl in
+    adds-more domains (first ++ (second ++ (third ++ []))) (1 + (1 + (1 + 0))) 3 (omega arith)
+    (adds-both domains first (second ++ (third ++ [])) 1 (1 + (1 + 0)) a
+    (adds-both domains second (third ++ []) 1 (1 + 0) b
+    (adds-both domains third [] 1 0 c (adds-nothing domains 0))))
 
 few-pass : (p : ℕ → Bool) (a n : ℕ) → length (filter p (range_with_len a n)) ≤ n
 few-pass p a zero = omega arith
@@ -169,7 +182,7 @@ all-rows domains g size a (suc n) low h few =
     let near = ends-near size a low few in
     let here = rows-at domains (behind_links g size (a - 1)) a (block_end size a) near.0 (omega (arith, h)) near.1 in
     let rest = all-rows domains g size (a + 1) n (omega (arith, low)) (omega (arith, h)) few in
-    adds-more domains _ (63 + n * 63) (suc n * 63) (omega arith)
+    adds-more domains (made_rows_at (behind_links g size (a - 1)) a (block_end size a) ++ flat_map (λ s. made_rows_at (behind_links g size (s - 1)) s (block_end size s)) (range_with_len (a + 1) n)) (63 + n * 63) (suc n * 63) (omega arith)
     (adds-both domains (made_rows_at (behind_links g size (a - 1)) a (block_end size a)) (flat_map (λ s. made_rows_at (behind_links g size (s - 1)) s (block_end size s)) (range_with_len (a + 1) n)) 63 (n * 63) here rest)
 
 -- the rows over any domains are read
