@@ -1,17 +1,16 @@
 -- The made domain file, read again: each station has the channels 14 to 17.
-use Rattle.std.proofs.Common.{◌≡◌, ◌≢◌, ◌∙◌, ◌<◌, ◌≤◌, ◌+◌, ◌==◌, ◌∷◌, ◌++◌, [], ℕ, zero, suc, Bool, List, Some, None, true, false, not, nat_lt, nat_le, find, length, map, decimal, ne_eqb, eqb-true, eq-eqb, inl, inr, refl, sym, ap, arith}
+use Rattle.std.proofs.Common.{◌≡◌, ◌∙◌, ◌<◌, ◌≤◌, ◌+◌, ◌==◌, ◌∷◌, ◌++◌, [], ℕ, zero, suc, Bool, List, Some, None, true, false, not, nat_le, find, length, map, decimal, ne_eqb, eq-eqb, inl, inr, refl, sym, ap, arith}
 use Rattle.std.specs.Prelude.{Result, Ok, codes}
 use Rattle.std.specs.List.{flat_map, range_with_len}
-use Rattle.std.specs.Option.{is_some, ok_or}
+use Rattle.std.specs.Option.{is_some}
 use Rattle.std.proofs.lemmas.Bool.{cases_Bool, lt-leb, lt-ltb, or_right}
 use Rattle.std.proofs.lemmas.List.FromFn.{length-map-range_with_len}
-use Rattle.pack_defs.specs.declared.domain.Domain.{Domain}
 use Rattle.pack_defs.specs.Lists.{is_in}
 use Rattle.constraint_files.specs.Domains.{add_domain_row, channels_of, channels_to_keep, domain_from, domain_naming, domain_row, domains_of, put_domain, with_domain}
 use Rattle.constraint_files.specs.Numbers.{number, numbers}
 use Rattle.constraint_files.specs.Records.{after_lines, after_records, lines_of}
 use Rattle.constraint_files.specs.declared.error.RowWhy.{RowWhy}
-use Rattle.scenario_make.specs.MadeFiles.{behind_commas, key_line, made_domain, made_domain_line, made_domains, made_facilities}
+use Rattle.scenario_make.specs.MadeFiles.{key_line, made_domain, made_domain_line, made_domains, made_facilities}
 use Rattle.scenario_make.proofs.LineReadings.{AreSmall, IsKey, domain-key, line-first, line-record, number-again, numbers-again}
 use Rattle.scenario_make.proofs.RangeLemmas.{map-more}
 

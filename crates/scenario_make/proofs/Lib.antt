@@ -4,3 +4,4 @@ pub mod ScenarioLemmas
 pub mod LineReadings
 pub mod DomainReadings
 pub mod RowReadings
+pub mod AcceptedLemmas

@@ -1,7 +1,6 @@
 -- A line of the two constraint files, read again: its one record has the key and the numbers.
-use Rattle.std.proofs.Common.{◌≡◌, ◌∙◌, ◌<◌, ◌≤◌, ◌+◌, ◌^◌, ◌∷◌, ◌++◌, [], ℕ, Bool, List, Some, true, false, not, filter, length, map, reverse, decimal, ne_eqb, refl, sym, ap, subst, arith, append_assoc}
+use Rattle.std.proofs.Common.{◌≡◌, ◌∙◌, ◌<◌, ◌≤◌, ◌∷◌, ◌++◌, [], ℕ, Bool, List, Some, true, false, not, filter, length, map, reverse, decimal, ne_eqb, refl, sym, ap, subst, arith, append_assoc}
 use Rattle.std.specs.Prelude.{codes}
-use Rattle.std.specs.Char.{is_ascii_digit}
 use Rattle.std.specs.List.{AllByRecursion}
 use Rattle.std.specs.Str.{all_ascii_digits}
 use Rattle.std.specs.Str.Parse.{digits_value}
@@ -151,8 +150,8 @@ one-record fields field (n ∷ ns) h =
 pub line-record : (key : List ℕ) (n : ℕ) (ns : List ℕ) → IsKey key → AreSmall (n ∷ ns) → line_records (key ++ behind_commas (n ∷ ns)) ≡ (key ∷ map decimal (n ∷ ns)) ∷ []
 line-record key n ns k h =
     let raw : records default_config (strip_bom (key ++ behind_commas (n ∷ ns))) ≡ (key ∷ map decimal (n ∷ ns)) ∷ [] =
-        ap (records default_config) (k.unmarked (decimal n ++ behind_commas ns))
-        ∙ (records-rows (key ++ behind_commas (n ∷ ns)) ∙ (k.begins (behind_commas (n ∷ ns)) ∙ one-record [] key (n ∷ ns) h)) in
+    ap (records default_config) (k.unmarked (decimal n ++ behind_commas ns))
+    ∙ (records-rows (key ++ behind_commas (n ∷ ns)) ∙ (k.begins (behind_commas (n ∷ ns)) ∙ one-record [] key (n ∷ ns) h)) in
     ap (λ rs. filter (λ (r : List (List ℕ)). not (is_empty r)) (map kept_fields rs)) raw
     ∙ ap (λ r. filter (λ (q : List (List ℕ)). not (is_empty q)) (r ∷ [])) (kept key (n ∷ ns) k h)
 
@@ -184,8 +183,8 @@ first-line (c ∷ line) rest h =
 pub line-first : (key ns rest : List ℕ) → IsKey key → AreSmall ns → lines_of (key_line key ns ++ rest) ≡ (key ++ behind_commas ns) ∷ lines_of rest
 line-first key ns rest k h =
     let parts : key_line key ns ++ rest ≡ (key ++ behind_commas ns) ++ 10 ∷ rest =
-        append_assoc key (behind_commas ns ++ 10 ∷ []) rest
-        ∙ (ap (λ t. key ++ t) (append_assoc (behind_commas ns) (10 ∷ []) rest) ∙ sym (append_assoc key (behind_commas ns) (10 ∷ rest))) in
+    append_assoc key (behind_commas ns ++ 10 ∷ []) rest
+    ∙ (ap (λ t. key ++ t) (append_assoc (behind_commas ns) (10 ∷ []) rest) ∙ sym (append_assoc key (behind_commas ns) (10 ∷ rest))) in
     ap lines_of parts ∙ first-line (key ++ behind_commas ns) rest (all-append (λ c. 13 < c) key (behind_commas ns) k.plain (commas-plain ns h))
 
 -- ---- the keys

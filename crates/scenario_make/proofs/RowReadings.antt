@@ -1,24 +1,22 @@
 -- The made row file, read again: no line of it is refused, and the pairs stay few.
-use Rattle.std.proofs.Common.{◌≡◌, ◌∙◌, ◌<◌, ◌≤◌, ◌+◌, ◌-◌, ◌*◌, ◌%◌, ◌/◌, ◌==◌, ◌&&◌, ◌∷◌, ◌++◌, [], ℕ, zero, suc, Bool, List, Option, Some, None, true, false, nat_lt, cond, filter, fold, length, map, decimal, inl, inr, refl, sym, ap, subst, arith, append_assoc}
-use Rattle.std.specs.Prelude.{Result, Ok, codes, min}
-use Rattle.std.specs.List.{flat_map, range_with_len, AllByRecursion}
-use Rattle.std.specs.Option.{ok_or}
+use Rattle.std.proofs.Common.{◌≡◌, ◌∙◌, ◌≤◌, ◌+◌, ◌-◌, ◌*◌, ◌/◌, ◌==◌, ◌&&◌, ◌∷◌, ◌++◌, [], ℕ, zero, suc, Bool, List, Option, Some, None, true, false, nat_lt, filter, fold, length, map, decimal, inl, inr, refl, sym, ap, arith, append_assoc}
+use Rattle.std.specs.Prelude.{Ok, codes, min}
+use Rattle.std.specs.List.{flat_map, range_with_len}
 use Rattle.std.proofs.lemmas.Bool.{cases_Bool, le-ltb}
 use Rattle.std.proofs.lemmas.List.{append-nil}
 use Rattle.pack_defs.specs.Book.{comes_before}
-use Rattle.pack_defs.specs.Lists.{is_empty, is_in}
+use Rattle.pack_defs.specs.Lists.{is_in}
 use Rattle.pack_defs.specs.declared.domain.Domain.{Domain}
 use Rattle.pack_defs.specs.declared.pair.Pair.{Pair}
 use Rattle.constraint_files.specs.Domains.{channels_of}
 use Rattle.constraint_files.specs.Numbers.{number, numbers}
 use Rattle.constraint_files.specs.Records.{after_lines, lines_of}
-use Rattle.constraint_files.specs.Rows.{PairsView, add_row, if_few, interference_row, pair_of, pairs_of, row_from, row_on, with_kept, with_other, with_pair}
-use Rattle.constraint_files.specs.declared.error.ReadErr.{ReadErr}
+use Rattle.constraint_files.specs.Rows.{PairsView, add_row, interference_row, pair_of, pairs_of, row_from, row_on, with_kept, with_other, with_pair}
 use Rattle.constraint_files.specs.declared.interference_row.Offset.{Offset}
 use Rattle.constraint_files.specs.declared.interference_row.Row.{Row}
 use Rattle.rand_pcg.specs.Lcg.{Lcg}
 use Rattle.scenario_make.specs.Draws.{draw_at, generator_after, generator_of}
-use Rattle.scenario_make.specs.MadeFiles.{behind_links, block_end, key_line, made_adjacent, made_adjacent_lines, made_facilities, made_link_lines, made_links, made_rows, made_rows_at, made_rows_from}
+use Rattle.scenario_make.specs.MadeFiles.{behind_links, block_end, key_line, made_adjacent, made_adjacent_lines, made_link_lines, made_links, made_rows, made_rows_at, made_rows_from}
 use Rattle.scenario_make.proofs.LineReadings.{AreSmall, IsKey, adjacent-key, number-again, numbers-again, same-key}
 use Rattle.scenario_make.proofs.DomainReadings.{line-adds}
 

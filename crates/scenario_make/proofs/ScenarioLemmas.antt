@@ -1,5 +1,5 @@
 -- The made scenario is one that a file can hold, and no station of it is on air at the start.
-use Rattle.std.proofs.Common.{◌≡◌, ◌∙◌, ◌<◌, ◌≤◌, ◌+◌, ◌-◌, ◌*◌, ◌%◌, ◌==◌, ◌∷◌, [], ℕ, zero, suc, Bool, List, Some, None, true, false, nat_lt, length, map, filter, replicate, All, inl, inr, refl, sym, ap, arith, eqb-true, cond}
+use Rattle.std.proofs.Common.{◌≡◌, ◌∙◌, ◌≤◌, ◌+◌, ◌-◌, ◌*◌, ◌%◌, ◌==◌, ◌∷◌, [], ℕ, zero, suc, Bool, List, Some, true, false, nat_lt, map, filter, replicate, All, inl, inr, refl, ap, arith, eqb-true}
 use Rattle.std.specs.Prelude.{Ok}
 use Rattle.std.specs.List.{range_with_len}
 use Rattle.std.proofs.Math.Nat.{mod-lt}
@@ -146,7 +146,7 @@ none-passes p (x ∷ xs) h =
     let here : is_in (x ∷ xs) x ≡ true = rw same refl in
     rw (h x here) (none-passes p xs (λ s i. h s (or_right (x == s) (is_in xs s) i)))
 
-made-ids : (seed size : ℕ) → map (λ (x : Station). x.id) (made_scenario seed size).stations ≡ made_facilities size
+pub made-ids : (seed size : ℕ) → map (λ (x : Station). x.id) (made_scenario seed size).stations ≡ made_facilities size
 unfolding scenario_with
 made-ids seed size = ids-made (generator_of seed) (made_facilities size)
 

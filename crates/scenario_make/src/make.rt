@@ -1,6 +1,7 @@
 //! The files of a made auction.
 
 ghost use Rattle.std.specs.Prelude.{◌≡◌, ◌≤◌, IfOk};
+ghost use Rattle.scenario_make.specs.Accepted.{AreAccepted};
 ghost use Rattle.scenario_make.specs.MadeFiles.{made_domains, made_rows, made_scenario_text, made_workers, scenario_with};
 
 use crate::lines::push_line;
@@ -71,13 +72,9 @@ fn scenario_with(alloc: Global, seed: u64, stations: Vec<Station>) -> Result<Sce
     })
 }
 
-/// The files of the auction of this seed and size, the number of its stations. The only error is want of memory.
-///
-/// Each file is read without a refusal: the book of the scenario's stations is made of the three, and no station is on air
-/// at the start.
-pub fn make(alloc: Global, seed: u64, size: u32) -> Result<Made, NoMemory>
-    requires some { 1 ≤ size }
-    requires most { size ≤ 4096 }
+// The three files, the stations drawn first and the links behind them.
+fn draw_files(alloc: Global, seed: u64, size: u32) -> Result<Made, NoMemory>
+    requires { size ≤ 4096 }
     ensures { IfOk result (λ made. (made.domains.items ≡ made_domains size)
         × (made.rows.items ≡ made_rows seed size)
         × (made.scenario.items ≡ made_scenario_text seed size)) }
@@ -93,4 +90,21 @@ pub fn make(alloc: Global, seed: u64, size: u32) -> Result<Made, NoMemory>
         rows,
         scenario,
     })
+}
+
+/// The files of the auction of this seed and size, the number of its stations. The same seed and size give the same files.
+/// The only error is want of memory.
+///
+/// The files are accepted: each is read without a refusal, a book is made of the three, and no station is on air at the
+/// start.
+pub fn make(alloc: Global, seed: u64, size: u32) -> Result<Made, NoMemory>
+    requires some { 1 ≤ size }
+    requires most { size ≤ 4096 }
+    ensures files { IfOk result (λ made. (made.domains.items ≡ made_domains size)
+        × (made.rows.items ≡ made_rows seed size)
+        × (made.scenario.items ≡ made_scenario_text seed size)) }
+    ensures accepted { IfOk result (λ made. AreAccepted made.domains.items made.rows.items made.scenario.items) }
+{
+    let made = draw_files(alloc, seed, size)?;
+    Ok(made)
 }
