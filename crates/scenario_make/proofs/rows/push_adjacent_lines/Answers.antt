@@ -1,0 +1,12 @@
+use Rattle.std.proofs.Common.{◌+◌, ◌∷◌, [], arith}
+use Rattle.std.specs.Prelude.{codes}
+use Rattle.scenario_make.specs.MadeFiles.{key_line}
+use Rattle.scenario_make.proofs.RangeLemmas.{behind-more}
+use Rattle.scenario_make.proofs.rows.push_adjacent_lines.Goals as goal
+
+pub loop-c-preserved : goal.loop-c-preserved
+loop-c-preserved c = record {
+  least = omega arith;
+  within = omega arith;
+  written = behind-more (λ n. key_line (codes "ADJ+1") (n ∷ (n + 1) ∷ c.args.station ∷ (c.args.station + 1) ∷ [])) 14 c.loop-c.c c.args.text.now.items c.loop-c.text.items c.push_line.new.text.items c.loop-c.invariant.least c.loop-c.invariant.written c.in_ok-push_line.ensures;
+}

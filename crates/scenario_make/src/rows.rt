@@ -1,0 +1,122 @@
+//! The row file of a made auction: for each station in order the draws of whom it interferes with, and its lines.
+
+ghost use Rattle.std.specs.Prelude.{◌≡◌, ◌≤◌, ◌<◌, ◌-◌, ◌%◌, ◌==◌, ◌&&◌, ◌++◌, nat_lt, if◌then◌else◌, IfOk, OnOk};
+ghost use Rattle.rand_pcg.specs.Pcg.{pcg32};
+ghost use Rattle.scenario_make.specs.Draws.{generator_after};
+ghost use Rattle.scenario_make.specs.MadeFiles.{block_end, link_draws, made_adjacent_lines, made_link_lines, made_links, made_rows_at, made_rows_from};
+
+use crate::draws::draw;
+use crate::lines::push_line;
+use rand_pcg::Lcg64Xsh32;
+use std::alloc::{AllocError as NoMemory, Global};
+
+// The channels of every station.
+const CHANNELS: [u32; 4] = [14, 15, 16, 17];
+
+// The last station in the block of a station.
+fn block_end(size: u32, station: u32) -> u32
+    requires some { 1 ≤ station }
+    requires within { station ≤ size }
+    requires few { size ≤ 4096 }
+    ensures value { result ≡ block_end size station }
+    ensures least { station ≤ result }
+    ensures most { result ≤ size }
+{
+    size.min(16 * ((station - 1) / 16 + 1))
+}
+
+// Draws which stations behind this one, up to this end, interfere with it on the same channel.
+fn draw_links(
+    alloc: Global,
+    words: &mut Lcg64Xsh32,
+    station: u32,
+    end: u32,
+) -> Result<Vec<u32>, NoMemory>
+    requires { station ≤ end }
+    ensures drawn { IfOk result (λ v. v.items ≡ made_links words.old station end) }
+    ensures next { OnOk result (words.new ≡ generator_after words.old (end - station)) }
+{
+    let mut links = Vec::new(alloc);
+    for i in 0..end - station {
+        if draw(words, 2) != 1 {
+            continue;
+        }
+        links.push(station + 1 + i)?;
+    }
+    Ok(links)
+}
+
+// Draws whether a station and the next one interfere on adjacent channels. The last of a block takes no draw.
+fn draw_adjacent(words: &mut Lcg64Xsh32, station: u32, end: u32) -> bool
+    ensures drawn { result ≡ (nat_lt station end && ((pcg32 words.old).0 % 4 == 0)) }
+    ensures next { words.new ≡ (if nat_lt station end then (pcg32 words.old).1 else words.old) }
+{
+    if station < end {
+        return draw(words, 4) == 0;
+    }
+    false
+}
+
+// Adds the lines of a station and those that it interferes with on the same channel.
+fn push_link_lines(text: &mut Vec<u8>, station: u32, links: &[u32]) -> Result<(), NoMemory>
+    ensures { OnOk result (text.new.items ≡ text.old.items ++ made_link_lines station links.now) }
+{
+    if links.is_empty() {
+        return Ok(());
+    }
+    for c in 14..18 {
+        push_line(text, b"CO", &[c, c, station], links)?;
+    }
+    Ok(())
+}
+
+// Adds the lines of a station and the next one, if they interfere on adjacent channels.
+fn push_adjacent_lines(text: &mut Vec<u8>, station: u32, adjacent: bool) -> Result<(), NoMemory>
+    requires { station < 4294967295 }
+    ensures { OnOk result (text.new.items ≡ text.old.items ++ made_adjacent_lines station adjacent) }
+{
+    if !adjacent {
+        return Ok(());
+    }
+    for c in 14..17 {
+        push_line(text, b"ADJ+1", &[c, c + 1, station, station + 1], &[])?;
+    }
+    Ok(())
+}
+
+// Draws whom a station interferes with, and adds its lines.
+fn push_rows_at(
+    alloc: Global,
+    text: &mut Vec<u8>,
+    words: &mut Lcg64Xsh32,
+    station: u32,
+    end: u32,
+) -> Result<(), NoMemory>
+    requires within { station ≤ end }
+    requires few { end ≤ 4096 }
+    ensures written { OnOk result (text.new.items ≡ text.old.items ++ made_rows_at words.old station end) }
+    ensures next { OnOk result (words.new ≡ generator_after words.old (link_draws station end)) }
+{
+    let links = draw_links(alloc, words, station, end)?;
+    let adjacent = draw_adjacent(words, station, end);
+    push_link_lines(text, station, &links)?;
+    push_adjacent_lines(text, station, adjacent)?;
+    Ok(())
+}
+
+/// The row file, drawn behind the stations.
+pub(crate) fn draw_rows(
+    alloc: Global,
+    words: &mut Lcg64Xsh32,
+    size: u32,
+) -> Result<Vec<u8>, NoMemory>
+    requires { size ≤ 4096 }
+    ensures { IfOk result (λ v. v.items ≡ made_rows_from words.old size) }
+{
+    let mut text = Vec::new(alloc);
+    for i in 0..size {
+        let end = block_end(size, i + 1);
+        push_rows_at(alloc, &mut text, words, i + 1, end)?;
+    }
+    Ok(text)
+}
