@@ -80,6 +80,7 @@ fn files_of_a_second_writing(rt: HostRuntime) -> Result<(), Fail> {
         (0, 1),
         (0, 16),
         (0, 17),
+        (0, 256),
         (7, 1),
         (7, 16),
         (7, 17),
