@@ -1,6 +1,7 @@
 //! What a refutation needs of all that was learnt, backwards from its last line.
 
 use crate::cells::{filled, read, short, write};
+use crate::engine::Engine;
 use crate::grid::Grid;
 use crate::hint::Hint;
 use crate::lines::Lines;
@@ -14,6 +15,22 @@ pub(crate) struct Cone {
     pub(crate) stations: Vec<u32>,
     // Of each line that was learnt its place among these, from 1; 0 where it is none of them.
     places: Vec<u32>,
+}
+
+impl Engine {
+    /// Gathers what the line of this number needs, in the place of what was gathered before.
+    pub(crate) fn gather(&mut self, alloc: Global, line: u32) -> Result<(), NoMemory> {
+        self.cone.gather(alloc, &self.lines, &self.grid, line)
+    }
+
+    /// The facilities that are named by what was gathered, ascending.
+    pub(crate) fn named(&self, alloc: Global) -> Result<Vec<u32>, NoMemory> {
+        let mut facilities = Vec::new(alloc);
+        for station in &self.cone.stations {
+            facilities.push(self.grid.facility(*station))?;
+        }
+        Ok(facilities)
+    }
 }
 
 impl Cone {

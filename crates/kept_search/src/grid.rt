@@ -43,37 +43,18 @@ impl Grid {
         Ok(grid)
     }
 
-    /// The same of some of the stations alone, which ascend.
-    pub(crate) fn part(&self, alloc: Global, stations: &[u32]) -> Result<Grid, NoMemory> {
-        let mut grid = Grid::empty(alloc, self.top, self.pairs);
-        let mut numbers = filled(alloc, self.vars(), u32::MAX)?;
-        for (place, station) in stations.iter().enumerate() {
-            let first = grid.vars();
-            grid.facilities.push(self.facility(*station))?;
-            grid.firsts.push(first)?;
-            for var in self.vars_of(*station) {
-                write(&mut numbers, var, grid.vars());
-                grid.owners.push(short(place))?;
-                grid.channels.push(self.channel(var))?;
-            }
-        }
-        let vars = grid.vars();
-        grid.firsts.push(vars)?;
-        for station in stations {
-            for var in self.vars_of(*station) {
-                let begin = short(grid.rivals.len());
-                grid.begins.push(begin)?;
-                for other in self.rival_list(var) {
-                    let number = read(&numbers, *other, u32::MAX);
-                    if number != u32::MAX {
-                        grid.rivals.push(number)?;
-                    }
-                }
-            }
-        }
-        let end = short(grid.rivals.len());
-        grid.begins.push(end)?;
-        Ok(grid)
+    /// The same numbers once more.
+    pub(crate) fn copy(&self, alloc: Global) -> Result<Grid, NoMemory> {
+        Ok(Grid {
+            facilities: Vec::from_slice(alloc, &self.facilities)?,
+            firsts: Vec::from_slice(alloc, &self.firsts)?,
+            owners: Vec::from_slice(alloc, &self.owners)?,
+            channels: Vec::from_slice(alloc, &self.channels)?,
+            begins: Vec::from_slice(alloc, &self.begins)?,
+            rivals: Vec::from_slice(alloc, &self.rivals)?,
+            top: self.top,
+            pairs: self.pairs,
+        })
     }
 
     fn empty(alloc: Global, top: u8, pairs: usize) -> Grid {

@@ -23,6 +23,17 @@ impl Engine {
         Ok(())
     }
 
+    /// Whether of these facilities at most one in so many is not on air yet, the tested one left out.
+    pub(crate) fn knows_most(&self, facilities: &[u32], tested: u32, one_in: u32) -> bool {
+        let mut others: u32 = 0;
+        for facility in facilities {
+            if *facility != tested && !self.is_on_air(*facility) {
+                others = others.saturating_add(1);
+            }
+        }
+        others.saturating_mul(one_in) <= short(facilities.len())
+    }
+
     /// Begins the test of a station beside those on air, by this policy.
     pub(crate) fn begin(&mut self, station: u32, policy: Policy) -> Result<(), NoMemory> {
         self.go_back(0)?;
@@ -85,6 +96,13 @@ impl Engine {
         standing.in_set = standing.on_air;
         self.play.set(self.tested, standing);
         Ok(())
+    }
+
+    fn is_on_air(&self, facility: u32) -> bool {
+        match self.grid.station(facility) {
+            Some(station) => self.play.standing(station).on_air,
+            None => false,
+        }
     }
 
     // Each station of the set that is on air comes into play.

@@ -39,12 +39,18 @@ pub(crate) const SHORTENING: [Policy; 2] = [
     },
 ];
 
-/// A log of more lines than this is searched for once more over its stations alone. Over a national auction that halved the text
-/// of all logs, and took a third of the time. With 2,000 here the text was hardly shorter.
-pub(crate) const LINES_SHORT: usize = 5000;
+/// A log of more lines than this is searched for once more over its stations alone.
+pub(crate) const LINES_SHORT: usize = 3000;
 
 /// A log that is still longer than this then, once more by the second policy.
 pub(crate) const LINES_LONG: usize = 20_000;
+
+/// For each five lines of a log that a worker may say, the search for a shorter one may come to so many conflicts: a log has about
+/// as many lines as the search had conflicts, and one that is hardly shorter isn't worth them.
+pub(crate) const CONFLICTS_OF_FIVE: usize = 3;
+
+/// What was learnt of a crowd is used where at most one in so many of a log's stations is new to it.
+pub(crate) const NEW_OF_CROWD: u32 = 5;
 
 /// A conflict makes the variables that it meets more active by so much more than the conflict before did.
 pub const VARIABLE_DECAY: f64 = 0.98;

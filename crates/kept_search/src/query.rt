@@ -50,12 +50,21 @@ impl Engine {
         Ok(())
     }
 
-    /// Begins the test of one facility of the book beside all others.
-    pub(crate) fn begin_beside_all(&mut self, tested: u32, policy: Policy) -> Result<(), NoMemory> {
-        for station in 0..self.grid.stations() {
-            self.set.push(station)?;
-            if self.grid.facility(station) != tested {
-                self.stand(station, NOWHERE)?;
+    /// Begins the test of one of these facilities beside the others, which come on air where they are not yet.
+    pub(crate) fn begin_beside(
+        &mut self,
+        facilities: &[u32],
+        tested: u32,
+        policy: Policy,
+    ) -> Result<(), NoMemory> {
+        self.end()?;
+        self.set.clear();
+        for facility in facilities {
+            if let Some(station) = self.grid.station(*facility) {
+                self.set.push(station)?;
+                if *facility != tested {
+                    self.stand(station, NOWHERE)?;
+                }
             }
         }
         match self.grid.station(tested) {

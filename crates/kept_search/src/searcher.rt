@@ -28,7 +28,9 @@ pub enum Progress {
 #[derive(Drop)]
 pub struct Searcher {
     engine: Option<Engine>,
+    // The search for a shorter log that stands, and between two of them what the last one learnt.
     shortening: Option<Shortening>,
+    crowd: Option<Engine>,
     seed: u64,
     // So many conflicts each policy may come to at each tested station, and are left to the one that searches; whether that is
     // the last one.
@@ -44,6 +46,7 @@ impl Searcher {
         Searcher {
             engine: None,
             shortening: None,
+            crowd: None,
             seed,
             effort: 0,
             left: 0,
@@ -55,6 +58,7 @@ impl Searcher {
     pub fn forget(&mut self) {
         self.engine = None;
         self.shortening = None;
+        self.crowd = None;
     }
 
     /// Begins a query: is there a map of exactly the stations of this ascending set that violates no pair of the book? Of the set
@@ -74,9 +78,8 @@ impl Searcher {
         from: Option<&ChannelMap>,
         effort: u32,
     ) -> Result<(), NoMemory> {
-        self.shortening = None;
-        let kept = self.engine.take();
-        let mut engine = of_book(alloc, book, kept, self.seed)?;
+        self.leave_off();
+        let mut engine = self.take_engine(alloc, book)?;
         engine.begin_query(set, last, from)?;
         self.engine = Some(engine);
         self.effort = effort;
@@ -123,8 +126,8 @@ impl Searcher {
                 Ok(Progress::Ended(Suggestion::Fit(fit)))
             }
             Found::Refuted { line } => {
-                let disproof = Disproof::of(alloc, &mut engine, line)?;
-                self.say_unfit(alloc, engine, disproof)
+                engine.gather(alloc, line)?;
+                self.say_unfit(alloc, engine)
             }
             Found::Lost => Ok(Progress::Lost),
         }
@@ -144,56 +147,64 @@ impl Searcher {
         Ok(Progress::Open)
     }
 
-    // A disproof is the suggestion, unless a shorter one is worth a search.
-    fn say_unfit(
-        &mut self,
-        alloc: Global,
-        engine: Engine,
-        disproof: Disproof,
-    ) -> Result<Progress, NoMemory> {
-        if !Shortening::is_worth(&disproof, self.effort) {
+    // The disproof that was gathered is the suggestion, unless a shorter one is worth a search.
+    fn say_unfit(&mut self, alloc: Global, engine: Engine) -> Result<Progress, NoMemory> {
+        let lines = engine.cone.lines.len();
+        if !Shortening::is_worth(lines, self.effort) {
+            let disproof = Disproof::of_cone(alloc, &engine)?;
             self.engine = Some(engine);
             return Ok(Progress::Ended(Suggestion::Unfit(disproof)));
         }
-        let tested = engine.grid.facility(engine.tested);
-        let shortening = Shortening::begin(alloc, &engine.grid, disproof, tested, self.effort)?;
+        let crowd = self.crowd.take();
+        self.shortening = Some(Shortening::begin(alloc, &engine, crowd, self.effort)?);
         self.engine = Some(engine);
-        self.shortening = Some(shortening);
         Ok(Progress::Open)
     }
 
-    // Goes on with the search for a shorter disproof. Where memory runs out, what is known is forgotten as well.
+    // Goes on with the search for a shorter disproof than the one that was gathered. Where memory runs out, what is known is
+    // forgotten as well.
     fn shorten(
         &mut self,
         alloc: Global,
         mut shortening: Shortening,
         conflicts: u32,
     ) -> Result<Progress, NoMemory> {
-        let kept = self.engine.take();
-        let is_over = shortening.go_on(alloc, conflicts)?;
-        self.engine = kept;
-        if is_over {
-            let best = shortening.into_best();
-            return Ok(Progress::Ended(Suggestion::Unfit(best)));
+        let Some(engine) = self.engine.take() else {
+            return Ok(Progress::Lost);
+        };
+        if !shortening.go_on(alloc, conflicts)? {
+            self.engine = Some(engine);
+            self.shortening = Some(shortening);
+            return Ok(Progress::Open);
         }
-        self.shortening = Some(shortening);
-        Ok(Progress::Open)
+        let (shorter, crowd) = shortening.into_ended();
+        let disproof = match shorter {
+            Some(disproof) => disproof,
+            None => Disproof::of_cone(alloc, &engine)?,
+        };
+        self.engine = Some(engine);
+        self.crowd = Some(crowd);
+        Ok(Progress::Ended(Suggestion::Unfit(disproof)))
     }
-}
 
-// What was kept, if that may be of the book, or else what knows nothing of it.
-fn of_book(
-    alloc: Global,
-    book: &Book,
-    kept: Option<Engine>,
-    seed: u64,
-) -> Result<Engine, NoMemory> {
-    if let Some(engine) = kept {
-        if engine.grid.may_be_of(book) {
-            return Ok(engine);
+    // A search for a shorter log that is not at its end is left; what it learnt is kept.
+    fn leave_off(&mut self) {
+        if let Some(shortening) = self.shortening.take() {
+            let (_, crowd) = shortening.into_ended();
+            self.crowd = Some(crowd);
         }
     }
-    let mut engine = Engine::new(alloc, Grid::of(alloc, book)?, USUAL)?;
-    engine.scatter(seed);
-    Ok(engine)
+
+    // What was kept, if that may be of the book, or else what knows nothing of it.
+    fn take_engine(&mut self, alloc: Global, book: &Book) -> Result<Engine, NoMemory> {
+        if let Some(engine) = self.engine.take() {
+            if engine.grid.may_be_of(book) {
+                return Ok(engine);
+            }
+        }
+        self.crowd = None;
+        let mut engine = Engine::new(alloc, Grid::of(alloc, book)?, USUAL)?;
+        engine.scatter(self.seed);
+        Ok(engine)
+    }
 }

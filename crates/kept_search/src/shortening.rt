@@ -1,47 +1,59 @@
-//! The search for a shorter log. What kept lines show leads through other queries; over the stations of a disproof alone, from
-//! nothing, there is often one of half as many lines.
+//! The search for a shorter log. What kept lines show leads through other queries; over the stations of a disproof alone there is
+//! often one of half as many lines. Those of the next one are mostly the same, and so are the lines that show them too many: so
+//! what is learnt here is kept as well, as long as it is about the same crowd.
 
 use crate::engine::Engine;
 use crate::grid::Grid;
-use crate::policy::{LINES_LONG, LINES_SHORT, Policy, SHORTENING};
+use crate::policy::{CONFLICTS_OF_FIVE, LINES_LONG, LINES_SHORT, NEW_OF_CROWD, SHORTENING};
 use crate::query::Found;
 use crate::suggestion::Disproof;
 use std::alloc::{AllocError as NoMemory, Global};
 
-/// The shortest disproof of a tested station so far, and a search for a shorter one.
+/// A search for a disproof of a tested station that has fewer lines than the one that is known.
 #[derive(Drop)]
 pub(crate) struct Shortening {
-    best: Disproof,
+    // The stations of the shortest one so far, how many lines it has, and itself, unless it is the one that was known.
+    facilities: Vec<u32>,
+    lines: usize,
+    found: Option<Disproof>,
     tested: u32,
+    // What knows nothing but a crowd of stations, of which these are some.
     engine: Engine,
-    // A log of so many lines is short enough.
-    short: usize,
+    // So many lines a worker may say.
+    budget: usize,
     // So many conflicts are left to the search, by the policy at this place.
     left: usize,
     policy: usize,
 }
 
 impl Shortening {
-    /// Whether a disproof is so long that a shorter one is worth a search, where a worker may say so many lines.
-    pub(crate) fn is_worth(disproof: &Disproof, budget: u32) -> bool {
-        disproof.len() > LINES_SHORT.min(budget as usize)
+    /// Whether a disproof has so many lines that a shorter one is worth a search, where a worker may say so many lines.
+    pub(crate) fn is_worth(lines: usize, budget: u32) -> bool {
+        lines > LINES_SHORT.min(budget as usize)
     }
 
-    /// Begins the search for a shorter disproof of a tested station by the first policy.
+    /// Begins the search, by the first policy, for a shorter disproof than the one that was gathered of all that an engine
+    /// learnt. What was learnt of a crowd is used where that is about most of its stations.
     pub(crate) fn begin(
         alloc: Global,
-        grid: &Grid,
-        best: Disproof,
-        tested: u32,
+        known: &Engine,
+        crowd: Option<Engine>,
         budget: u32,
     ) -> Result<Shortening, NoMemory> {
-        let engine = engine_over(alloc, grid, &best.stations, tested, SHORTENING[0])?;
+        let facilities = known.named(alloc)?;
+        let lines = known.cone.lines.len();
+        let tested = known.grid.facility(known.tested);
+        let mut engine = engine_for(alloc, &known.grid, crowd, &facilities, tested)?;
+        engine.begin_beside(&facilities, tested, SHORTENING[0])?;
+        let budget = budget as usize;
         Ok(Shortening {
-            short: LINES_LONG.min(budget as usize),
-            left: best.len(),
-            best,
+            facilities,
+            lines,
+            found: None,
             tested,
             engine,
+            budget,
+            left: conflicts_for(lines, budget),
             policy: 0,
         })
     }
@@ -55,90 +67,99 @@ impl Shortening {
                     return Ok(false);
                 }
             }
-            Found::Refuted { line } => {
-                let found = Disproof::of(alloc, &mut self.engine, line)?;
-                if found.len() < self.best.len() {
-                    self.best = found;
-                }
-            }
+            Found::Refuted { line } => self.take(alloc, line)?,
             Found::Next | Found::Fits | Found::Lost => {}
         }
         self.is_over(alloc)
     }
 
-    /// The shortest disproof that was found.
-    pub(crate) fn into_best(self) -> Disproof {
-        self.best
+    /// The shortest disproof, if one was found that is shorter than the known one, and what was learnt of its crowd.
+    pub(crate) fn into_ended(self) -> (Option<Disproof>, Engine) {
+        (self.found, self.engine)
     }
 
-    // Whether no policy is left, or the best disproof is short enough. Else the search begins by the next policy.
+    // A line refutes the tested station. That is the shortest disproof, if it needs fewer lines.
+    fn take(&mut self, alloc: Global, line: u32) -> Result<(), NoMemory> {
+        self.engine.gather(alloc, line)?;
+        let lines = self.engine.cone.lines.len();
+        if lines < self.lines {
+            self.lines = lines;
+            self.facilities = self.engine.named(alloc)?;
+            self.found = Some(Disproof::of_cone(alloc, &self.engine)?);
+        }
+        Ok(())
+    }
+
+    // Whether no policy is left, or the shortest disproof is short enough. Else the search begins by the next policy, from nothing.
     fn is_over(&mut self, alloc: Global) -> Result<bool, NoMemory> {
         self.policy = self.policy.saturating_add(1);
-        if self.policy >= SHORTENING.len() || self.best.len() <= self.short {
+        let short = LINES_LONG.min(self.budget);
+        if self.policy >= SHORTENING.len() || self.lines <= short {
             return Ok(true);
         }
         let policy = SHORTENING[self.policy];
-        self.engine = engine_over(
-            alloc,
-            &self.engine.grid,
-            &self.best.stations,
-            self.tested,
-            policy,
-        )?;
-        self.left = self.best.len();
+        self.engine = Engine::new(alloc, self.engine.grid.copy(alloc)?, policy)?;
+        self.engine
+            .begin_beside(&self.facilities, self.tested, policy)?;
+        self.left = conflicts_for(self.lines, self.budget);
         Ok(false)
     }
 }
 
-// An engine over these facilities alone, all of which are on air but the tested one, whose test is begun.
-fn engine_over(
+// So many conflicts a search may come to for a log that is shorter than one of so many lines: all that one can have where the
+// worker may not say it.
+fn conflicts_for(lines: usize, budget: usize) -> usize {
+    if lines > budget {
+        lines
+    } else {
+        lines / 5 * CONFLICTS_OF_FIVE
+    }
+}
+
+// What was learnt of a crowd, if most of these facilities are of it; else what knows nothing of the same book.
+fn engine_for(
     alloc: Global,
     grid: &Grid,
+    crowd: Option<Engine>,
     facilities: &[u32],
     tested: u32,
-    policy: Policy,
 ) -> Result<Engine, NoMemory> {
-    let mut stations = Vec::new(alloc);
-    for facility in facilities {
-        if let Some(station) = grid.station(*facility) {
-            stations.push(station)?;
-        }
+    let Some(engine) = crowd else {
+        return Engine::new(alloc, grid.copy(alloc)?, SHORTENING[0]);
+    };
+    if engine.knows_most(facilities, tested, NEW_OF_CROWD) {
+        return Ok(engine);
     }
-    let mut engine = Engine::new(alloc, grid.part(alloc, &stations)?, policy)?;
-    engine.begin_beside_all(tested, policy)?;
-    Ok(engine)
+    Engine::new(alloc, engine.grid, SHORTENING[0])
 }
 
 #[cfg(test)]
 mod tests {
     use super::*;
-    use rup_check::line::Log;
-    use rup_check::lines::Lines;
+    use crate::policy::USUAL;
     use std::test::Fail;
 
-    // A disproof of five stations, whose log has so many lines, all empty.
-    fn disproof(alloc: Global, lines: u32) -> Result<Disproof, NoMemory> {
-        let mut log = Log {
-            lines: Lines::new(alloc),
-        };
-        for _ in 0..lines {
-            log.lines.push(&[], &[])?;
+    // An engine over ten stations, any five of which are one too many, that takes so many lines for what refutes a station beside
+    // the four before it.
+    fn known(alloc: Global, first: u32, lines: u32) -> Result<Engine, NoMemory> {
+        let mut engine = Engine::new(alloc, Grid::crowded(alloc, 10, 4)?, USUAL)?;
+        engine.tested = first.saturating_add(4);
+        for line in 0..lines {
+            engine.cone.lines.push(line)?;
         }
-        let mut stations = Vec::new(alloc);
-        for station in 0..5 {
-            stations.push(station)?;
+        for place in 0..5 {
+            engine.cone.stations.push(first.saturating_add(place))?;
         }
-        Ok(Disproof { stations, log })
+        Ok(engine)
     }
 
-    // The shortest disproof that is found of five stations on four channels, where one of so many lines is known.
-    fn shortest(alloc: Global, lines: u32) -> Result<Option<Disproof>, NoMemory> {
-        let grid = Grid::crowded(alloc, 5, 4)?;
-        let best = disproof(alloc, lines)?;
-        let mut shortening = Shortening::begin(alloc, &grid, best, 4, 1000)?;
+    // What the search comes to for fewer lines than so many.
+    fn ended(alloc: Global, lines: u32) -> Result<Option<(Option<Disproof>, Engine)>, NoMemory> {
+        let known = known(alloc, 0, lines)?;
+        let mut shortening = Shortening::begin(alloc, &known, None, 1000)?;
         for _ in 0..1000 {
             if shortening.go_on(alloc, 16)? {
-                return Ok(Some(shortening.into_best()));
+                return Ok(Some(shortening.into_ended()));
             }
         }
         Ok(None)
@@ -146,10 +167,25 @@ mod tests {
 
     #[test]
     fn the_shorter_log_is_said(rt: HostRuntime) -> Result<(), Fail> {
-        for (lines, is_shorter) in [(500, true), (100, true), (1, false)] {
-            let best = shortest(rt.alloc(), lines)?.ok_or("no end")?;
-            assert_eq!(rt; best.len() < lines as usize, is_shorter, "{lines} lines");
-            assert!(rt; best.log.ends_empty(), "{lines} lines");
+        for lines in [500, 100] {
+            let found = ended(rt.alloc(), lines)?.ok_or("no end")?.0;
+            let log = found.ok_or("none that is shorter")?.log;
+            assert!(rt; log.lines.len() < lines as usize, "{lines} lines");
+            assert!(rt; log.ends_empty(), "{lines} lines");
+        }
+        let found = ended(rt.alloc(), 1)?.ok_or("no end")?.0;
+        assert!(rt; found.is_none());
+        Ok(())
+    }
+
+    #[test]
+    fn what_a_crowd_showed_is_kept_for_it_alone(rt: HostRuntime) -> Result<(), Fail> {
+        // Of the four stations from these on, none, one, two and all are new.
+        for (first, is_kept) in [(0, true), (1, true), (2, false), (5, false)] {
+            let crowd = ended(rt.alloc(), 500)?.ok_or("no end")?.1;
+            let known = known(rt.alloc(), first, 500)?;
+            let next = Shortening::begin(rt.alloc(), &known, Some(crowd), 1000)?;
+            assert_eq!(rt; next.engine.lines.len() > 0, is_kept, "from {first} on");
         }
         Ok(())
     }

@@ -22,21 +22,10 @@ pub struct Disproof {
 }
 
 impl Disproof {
-    /// What the line of this number needs of all that an engine learnt.
-    pub(crate) fn of(alloc: Global, engine: &mut Engine, line: u32) -> Result<Disproof, NoMemory> {
-        engine
-            .cone
-            .gather(alloc, &engine.lines, &engine.grid, line)?;
+    /// What was gathered last of all that an engine learnt.
+    pub(crate) fn of_cone(alloc: Global, engine: &Engine) -> Result<Disproof, NoMemory> {
+        let stations = engine.named(alloc)?;
         let log = engine.log(alloc)?;
-        let mut stations = Vec::new(alloc);
-        for station in &engine.cone.stations {
-            stations.push(engine.grid.facility(*station))?;
-        }
         Ok(Disproof { stations, log })
-    }
-
-    /// How many lines its log has.
-    pub(crate) fn len(&self) -> usize {
-        self.log.lines.len()
     }
 }
