@@ -1,20 +1,19 @@
 -- The entries of the stations that have a channel at their place.
-use Rattle.std.proofs.Common.{◌≡◌, ℕ, zero, suc, ◌+◌, ◌<◌, ◌≤◌, true, false, cond, ◌==◌, ◌||◌, ◌⊎◌, nat_lt, List, [], ◌∷◌, ◌++◌, map, drop, length, get_or, slice_set, Option, Some, None, MatchOption, Result, Ok, Err, refl, sym, ap, ◌∙◌, subst, inl, inr, arith, eq-eqb, ne_eqb, map-id, append_assoc, append-nil}
+use Rattle.std.proofs.Common.{◌≡◌, ℕ, zero, suc, ◌+◌, ◌<◌, ◌≤◌, true, false, ◌==◌, nat_lt, List, [], ◌∷◌, ◌++◌, map, drop, length, get_or, slice_set, Option, Some, None, MatchOption, Result, Ok, Err, refl, sym, ap, ◌∙◌, subst, arith, eq-eqb, ne_eqb, append_assoc, append-nil}
 use Rattle.std.specs.List.Sorted.{IsBinarySearchResult, IsSearchInRange}
 use Rattle.std.specs.Ordering.{nat_cmp}
 use Rattle.std.specs.Result.{result_ok}
-use Rattle.std.proofs.lemmas.Bool.{and_parts, and_from, or_parts, or_left, or_right, cond-true, cond-false, lt-ltb, false_from_ne_true}
+use Rattle.std.proofs.lemmas.Bool.{and_parts, and_from, or_parts, or_left, or_right, cond-true, cond-false, false_from_ne_true}
 use Rattle.std.proofs.lemmas.List.{drop_more, get_or_default}
 use Rattle.std.proofs.Math.ListN.{drop_of_length-le}
 use Rattle.pack_defs.specs.ChannelMap.{IsAscending, channel_of, overlaid, put}
 use Rattle.pack_defs.specs.Lists.{has_station, is_ascending, is_in}
-use Rattle.pack_defs.proofs.Chains.{ascending-drop, ascending-skip}
+use Rattle.pack_defs.proofs.Chains.{ascending-skip}
 use Rattle.pack_defs.proofs.MapLemmas.{channel_of-none, put-before, put-behind, put-here}
 use Rattle.pack_defs.proofs.Members.{is_in-from}
 use Rattle.pack_defs.proofs.Searches.{found-key, found-number}
 use Rattle.pack_defs.proofs.Words.{ascending-rest, below-later}
 use Rattle.auction_core.specs.AirMap.{placed_entries}
-use Rattle.auction_core.specs.State.{restricted}
 
 -- the stations of a map
 abbrev pub stations : List (ℕ × ℕ) → List ℕ
@@ -117,7 +116,7 @@ abbrev pub with_own : ℕ → Option ℕ → List (ℕ × ℕ) → List (ℕ × 
 with_own s None es = es
 with_own s (Some c) es = (s, c) ∷ es
 
-places-more : (ss : List ℕ) (cs : List (Option ℕ)) (i : ℕ) (o : Option ℕ) → length cs ≡ length ss → i < length ss → o ≡ get_or cs i o → placed_entries (drop i ss) (drop i cs) ≡ with_own (get_or ss i 0) o (placed_entries (drop (i + 1) ss) (drop (i + 1) cs))
+pub places-more : (ss : List ℕ) (cs : List (Option ℕ)) (i : ℕ) (o : Option ℕ) → length cs ≡ length ss → i < length ss → o ≡ get_or cs i o → placed_entries (drop i ss) (drop i cs) ≡ with_own (get_or ss i 0) o (placed_entries (drop (i + 1) ss) (drop (i + 1) cs))
 places-more ss cs i o e l is =
     ap (λ xs. placed_entries xs (drop i cs)) (drop_more ss i 0 l)
     ∙ ap (λ xs. placed_entries (get_or ss i 0 ∷ drop (i + 1) ss) xs) (drop_more cs i o (omega arith))
@@ -127,63 +126,6 @@ places-more ss cs i o e l is =
     own : (s : ℕ) (o : Option ℕ) (ss : List ℕ) (cs : List (Option ℕ)) → placed_entries (s ∷ ss) (o ∷ cs) ≡ with_own s o (placed_entries ss cs)
     own s None ss cs = refl
     own s (Some c) ss cs = refl
-
--- ---- the entries of a set, by a walk along the places and the set
-
-none-of : (es : List (ℕ × ℕ)) → restricted es [] ≡ []
-none-of [] = refl
-none-of (e ∷ es) = none-of es
-
--- a station below all entries has none of them
-part-above : (es : List (ℕ × ℕ)) (x : ℕ) (set : List ℕ) → is_ascending (x ∷ stations es) ≡ true → restricted es (x ∷ set) ≡ restricted es set
-part-above [] x set a = refl
-part-above (e ∷ es) x set a =
-    let less : x < e.0 = below-later x (stations (e ∷ es)) e.0 a (or_left (e.0 == e.0) (is_in (stations es) e.0) (eq-eqb e.0 e.0 refl)) in
-    ap (λ b. cond (b || is_in set e.0) (e ∷ restricted es (x ∷ set)) (restricted es (x ∷ set))) (ne_eqb x e.0 (λ q. omega arith))
-    ∙ ap (λ (xs : List (ℕ × ℕ)). cond (is_in set e.0) (e ∷ xs) xs) (part-above es x set (ascending-skip x e.0 (stations es) a))
-
--- an entry off the set
-part-off : (s : ℕ) (o : Option ℕ) (es : List (ℕ × ℕ)) (set : List ℕ) → is_in set s ≡ false → restricted (with_own s o es) set ≡ restricted es set
-part-off s None es set h = refl
-part-off s (Some c) es set h = cond-false (is_in set s) ((s, c) ∷ restricted es set) (restricted es set) h
-
-left-ascends : (set : List ℕ) (i : ℕ) → is_ascending set ≡ true → i < length set → is_ascending (get_or set i 0 ∷ drop (i + 1) set) ≡ true
-left-ascends set i a l =
-    subst (λ xs. is_ascending xs ≡ true) (drop_more set i 0 l) (rw (map-id) at (ascending-drop (λ x. x) i set (rw map-id a)))
-
--- what is below the first of those left is below all of them
-below-left : (x : ℕ) (xs : List ℕ) (i : ℕ) → is_ascending xs ≡ true → i < length xs → x < get_or xs i 0 → is_ascending (x ∷ drop i xs) ≡ true
-below-left x xs i a l less =
-    subst (λ ys. is_ascending (x ∷ ys) ≡ true) (sym (drop_more xs i 0 l))
-    (and_from (nat_lt x (get_or xs i 0)) (is_ascending (get_or xs i 0 ∷ drop (i + 1) xs)) (lt-ltb x (get_or xs i 0) less) (left-ascends xs i a l))
-
--- the entries of the places that are left on the stations of the set that are left
-abbrev pub left_on : List ℕ → List (Option ℕ) → List ℕ → ℕ → ℕ → List (ℕ × ℕ)
-left_on ss cs set i j = restricted (placed_entries (drop i ss) (drop i cs)) (drop j set)
-
--- the set's station stands at no place
-pub set-behind : (ss : List ℕ) (cs : List (Option ℕ)) (set : List ℕ) (done all : List (ℕ × ℕ)) (i j : ℕ) → is_ascending ss ≡ true → i < length ss → j < length set → get_or set j 0 < get_or ss i 0 → done ++ left_on ss cs set i j ≡ all → done ++ left_on ss cs set i (j + 1) ≡ all
-set-behind ss cs set done all i j a l m less h =
-    let es : List (ℕ × ℕ) = placed_entries (drop i ss) (drop i cs) in
-    let x : ℕ = get_or set j 0 in
-    ap (λ xs. done ++ xs) (sym (ap (restricted es) (drop_more set j 0 m) ∙ part-above es x (drop (j + 1) set) (placed-above x (drop i ss) (drop i cs) (below-left x ss i a l less)))) ∙ h
-
--- the place's station isn't of the set
-pub place-behind : (ss : List ℕ) (cs : List (Option ℕ)) (set : List ℕ) (done all : List (ℕ × ℕ)) (i j : ℕ) → is_ascending set ≡ true → length cs ≡ length ss → i < length ss → j < length set → get_or ss i 0 < get_or set j 0 → done ++ left_on ss cs set i j ≡ all → done ++ left_on ss cs set (i + 1) j ≡ all
-place-behind ss cs set done all i j b e l m less h =
-    let s : ℕ = get_or ss i 0 in
-    let o : Option ℕ = get_or cs i None in
-    let out : is_in (drop j set) s ≡ false = not-above s (drop j set) (below-left s set j b m less) in
-    let more = places-more ss cs i o e l (get_or_default cs i None o (omega arith)) in
-    ap (λ xs. done ++ xs) (sym (ap (λ es. restricted es (drop j set)) more ∙ part-off s o (placed_entries (drop (i + 1) ss) (drop (i + 1) cs)) (drop j set) out)) ∙ h
-
--- no place is left, or no station of the set
-pub walk-done : (ss : List ℕ) (cs : List (Option ℕ)) (set : List ℕ) (done all : List (ℕ × ℕ)) (i j : ℕ) → (length ss ≤ i) ⊎ (length set ≤ j) → done ++ left_on ss cs set i j ≡ all → done ≡ all
-walk-done ss cs set done all i j (inl l) h =
-    sym (append-nil done) ∙ ap (λ xs. done ++ xs) (sym (ap (λ xs. restricted (placed_entries xs (drop i cs)) (drop j set)) (drop_of_length-le ss l))) ∙ h
-walk-done ss cs set done all i j (inr l) h =
-    let es : List (ℕ × ℕ) = placed_entries (drop i ss) (drop i cs) in
-    sym (append-nil done) ∙ ap (λ xs. done ++ xs) (sym (ap (restricted es) (drop_of_length-le set l) ∙ none-of es)) ∙ h
 
 -- ---- all the entries, place by place
 

@@ -22,7 +22,6 @@ use Rattle.auction_core.proofs.Answers.{component-ascending, filter-ascending}
 use Rattle.auction_core.proofs.CourseLemmas.{sound-auction}
 use Rattle.auction_core.proofs.CourseTests.{IsNextShown, due-left, over-empty}
 use Rattle.auction_core.proofs.Keeps.{task-is}
-use Rattle.auction_core.proofs.Sets.{tested-rises}
 use Rattle.auction_core.proofs.Touched.{touched-tested}
 use Rattle.auction_core.proofs.Walk.{off-air, shown-number}
 
@@ -150,12 +149,6 @@ query-set s c h q =
     let r = h.rule q.running in
     let off = off-air s.scenario s.book (undecided_of c.past.steps) r.before (clock_of s c) a r.walked.clock (next_test s c).station q.due.active in
     touched-tested s.scenario s.book (clock_of s c) (next_test s c).station c.past.parts a off.0 off.1 h.past.parts
-
--- these ascend
-pub query-rises : (s : SetupView) (c : CourseView) → IsCourse s c → IsAtQuery s c → is_ascending (touched_set s.book c.past.parts (next_test s c).station) ≡ true
-query-rises s c h q =
-    subst (λ set. is_ascending set ≡ true) (sym (query-set s c h q))
-    (tested-rises s.scenario s.book (clock_of s c) (next_test s c).station (sound-auction s h.sound))
 
 -- ---- what settles the query
 

@@ -4,7 +4,6 @@ ghost use Rattle.std.specs.Prelude.{◌≡◌, ◌<◌, ℕ, [], ◌∷◌, IfOk
 ghost use Rattle.pack_defs.specs.ChannelMap.{IsAscending, channel_of, overlaid, put};
 ghost use Rattle.pack_defs.specs.Lists.{has_station, is_ascending, is_in};
 ghost use Rattle.auction_core.specs.AirMap.{placed_entries};
-ghost use Rattle.auction_core.specs.State.{restricted};
 
 use pack_defs::channel_map::ChannelMap;
 use pack_defs::station::Station;
@@ -73,13 +72,12 @@ impl AirMap {
         self.channels[place] = Some(channel);
     }
 
-    /// The map on the stations of a set, by one pass over the places and these. The only error is want of memory.
-    pub fn on(&self, alloc: Global, set: &[u32]) -> Result<ChannelMap, NoMemory>
-        requires { IsTrue (is_ascending set.now) }
-        ensures { IfOk result (λ m. m ≡ restricted self.now.entries set.now) }
+    /// A place for the channel of each station, ascending by station.
+    pub(crate) fn channels(&self) -> &[Option<u8>]
+        ensures places { length result.now ≡ length self.now.stations }
+        ensures entries { placed_entries self.now.stations result.now ≡ self.now.entries }
     {
-        let entries = placed_on(alloc, &self.stations, &self.channels, set)?;
-        ChannelMap::of(alloc, &entries)
+        &self.channels
     }
 
     /// The whole map, by one pass over the places. The only error is want of memory.
@@ -131,40 +129,6 @@ fn channel_at(stations: &[u32], channels: &[Option<u8>], station: u32) -> Option
         return None;
     };
     channels[place]
-}
-
-// The entries of those stations of a set that have a channel at their place, by one walk along the places and the set.
-fn placed_on(
-    alloc: Global,
-    stations: &[u32],
-    channels: &[Option<u8>],
-    set: &[u32],
-) -> Result<Vec<(u32, u8)>, NoMemory>
-    requires ascending { IsTrue (is_ascending stations.now) }
-    requires places { length channels.now ≡ length stations.now }
-    requires set { IsTrue (is_ascending set.now) }
-    ensures { IfOk result (λ entries. (entries.items ≡ restricted (placed_entries stations.now channels.now) set.now) × IsAscending entries.items) }
-{
-    let mut entries = Vec::with_capacity(alloc, set.len())?;
-    let mut place = 0;
-    let mut next = 0;
-    while place < stations.len() && next < set.len() {
-        let station = stations[place];
-        if set[next] < station {
-            next += 1;
-            continue;
-        }
-        let channel = channels[place];
-        place += 1;
-        if station < set[next] {
-            continue;
-        }
-        let Some(channel) = channel else {
-            continue;
-        };
-        entries.push((station, channel))?;
-    }
-    Ok(entries)
 }
 
 // The entries of those stations that have a channel at their place.
@@ -224,15 +188,6 @@ mod tests {
             map.whole(alloc)?.entries(),
             [(1, 14), (4, 16), (6, 17)].as_slice()
         );
-        Ok(())
-    }
-
-    #[test]
-    fn gives_the_part_on_a_set(rt: HostRuntime) -> Result<(), Fail> {
-        let alloc = rt.alloc();
-        let mut map = three_stations(alloc)?;
-        map.overlay(&ChannelMap::of(alloc, &[(1, 14), (6, 15)])?);
-        assert_eq!(rt; map.on(alloc, &[4, 6])?.entries(), [(6, 15)].as_slice());
         Ok(())
     }
 }

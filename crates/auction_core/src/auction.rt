@@ -156,7 +156,7 @@ impl Auction {
         self.history.len() as u64
     }
 
-    /// The standing query; none where the auction has ended. It costs the tested station's pairs and two passes over the
+    /// The standing query; none where the auction has ended. It costs the tested station's pairs and a pass over the
     /// stations. The only error is want of memory. A solver may be asked it, and an answer to it may be checked.
     pub fn task(&self, alloc: Global) -> Result<Option<Task>, NoMemory>
         ensures task { IfOk result (λ task. task ≡ task_of self.now.scenario self.now.book self.now.state) }

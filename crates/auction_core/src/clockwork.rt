@@ -125,7 +125,7 @@ impl Clockwork {
     }
 
     /// The standing query; none where the auction has ended. It costs a search by halves for each station near the tested
-    /// one and two passes over the stations. The only error is want of memory. A solver may be asked it, and an answer to it
+    /// one and a pass over the stations. The only error is want of memory. A solver may be asked it, and an answer to it
     /// may be checked.
     pub fn task(&self, alloc: Global) -> Result<Option<Task>, NoMemory>
         ensures task { IfOk result (λ task. task ≡ task_of self.now.scenario self.now.book self.now.state) }
@@ -161,10 +161,13 @@ impl Clockwork {
     {
         let station = self.course.station(&self.setup);
         let past = self.course.past();
-        let set = past
-            .parts()
-            .touched_set(alloc, self.setup.book(), station, past.on_air())?;
-        let last = self.course.map().on(alloc, &set)?;
+        let (set, last) = past.parts().touched_on(
+            alloc,
+            self.setup.book(),
+            station,
+            past.on_air(),
+            self.course.map(),
+        )?;
         Ok(Task {
             number: self.number,
             round: self.course.round(),

@@ -2,11 +2,15 @@
 
 ghost use Rattle.std.specs.Prelude.{◌≡◌, ◌<◌, ◌≤◌, ℕ, List, IfOk, IsTrue, false, filter, length, map, nat_le, ◌==◌, if◌then◌else◌};
 ghost use Rattle.std.specs.List.{list_any};
+ghost use Rattle.pack_defs.specs.ChannelMap.{IsAscending};
 ghost use Rattle.pack_defs.specs.Lists.{is_ascending, is_in};
+ghost use Rattle.auction_core.specs.AirMap.{placed_entries};
+ghost use Rattle.auction_core.specs.State.{restricted};
 ghost use Rattle.auction_core.specs.Parts.{is_asked, label_in, label_of, labelled, marked, merged_label, merged_labels, relabelled, swapped, touched_set, touches_since};
 
-use crate::air_map::place_of;
+use crate::air_map::{AirMap, place_of};
 use pack_defs::book::Book;
+use pack_defs::channel_map::ChannelMap;
 use std::alloc::{AllocError as NoMemory, Global};
 use std::marker::Model;
 
@@ -70,22 +74,28 @@ impl Parts {
         self.any_since(book.neighbours(station), time)
     }
 
-    /// The station and the stations on air of the labels that it touches, ascending: those that a test of it asks about. No
-    /// label is above `most`. It costs a search by halves for each station near it, a pass over the stations, and room for
-    /// `most` marks. The only error is want of memory.
-    pub fn touched_set(
+    /// The station and the stations on air of the labels that it touches, ascending, which are those that a test of it asks
+    /// about; and the map of those on air on these stations. No label is above `most`. It costs a search by halves for each
+    /// station near it, one pass over the stations, and room for `most` marks and twice for all stations, of which the set keeps
+    /// its own. The only error is want of memory.
+    pub fn touched_on(
         &self,
         alloc: Global,
         book: &Book,
         station: u32,
         most: u32,
-    ) -> Result<Vec<u32>, NoMemory>
-        requires { (z : ℕ) → label_of self.now z ≤ most }
-        ensures { IfOk result (λ set. set.items ≡ touched_set book.now self.now station) }
+        map: &AirMap,
+    ) -> Result<(Vec<u32>, ChannelMap), NoMemory>
+        requires most { (z : ℕ) → label_of self.now z ≤ most }
+        requires stations { map.now.stations ≡ self.now.stations }
+        ensures set { IfOk result (λ x. x.0.items ≡ touched_set book.now self.now station) }
+        ensures last { IfOk result (λ x. x.1 ≡ restricted map.now.entries (touched_set book.now self.now station)) }
     {
         let mut marks = vec![in alloc; false; most as usize + 1]?;
         self.mark(book.neighbours(station), &mut marks);
-        self.marked(alloc, station, &marks)
+        let asked = self.marked_on(alloc, station, &marks, map.channels())?;
+        let last = ChannelMap::of(alloc, &asked.entries)?;
+        Ok((asked.set, last))
     }
 
     // The label of each of these stations is marked.
@@ -99,12 +109,28 @@ impl Parts {
         }
     }
 
-    // The station and the stations on air whose label is marked, ascending.
-    fn marked(&self, alloc: Global, station: u32, marks: &[bool]) -> Result<Vec<u32>, NoMemory>
-        requires { (z : ℕ) → label_of self.now z < length marks.now }
-        ensures { IfOk result (λ set. set.items ≡ filter (λ z. is_asked station marks.now z (label_of self.now z)) self.now.stations) }
+    // The station and the stations on air whose label is marked, and the entries of those with a channel.
+    fn marked_on(
+        &self,
+        alloc: Global,
+        station: u32,
+        marks: &[bool],
+        channels: &[Option<u8>],
+    ) -> Result<AskedAbout, NoMemory>
+        requires marks { (z : ℕ) → label_of self.now z < length marks.now }
+        requires channels { length channels.now ≡ length self.now.stations }
+        ensures set { IfOk result (λ x. x.set.items ≡ filter (λ z. is_asked station marks.now z (label_of self.now z)) self.now.stations) }
+        ensures entries { IfOk result (λ x. x.entries.items ≡ restricted (placed_entries self.now.stations channels.now) x.set.items) }
+        ensures ascending { IfOk result (λ x. IsAscending x.entries.items) }
     {
-        asked(alloc, &self.stations, &self.labels, station, marks)
+        asked_on(
+            alloc,
+            &self.stations,
+            &self.labels,
+            station,
+            marks,
+            channels,
+        )
     }
 
     // The parts of these stations have this label.
@@ -181,27 +207,44 @@ fn label_at(stations: &[u32], labels: &[u32], station: u32) -> u32
     labels[place]
 }
 
-// This station, and the stations whose label is marked, ascending.
-fn asked(
+// What a test asks about: its stations, ascending, and the entries of those that have a channel.
+#[derive(Drop)]
+struct AskedAbout {
+    set: Vec<u32>,
+    entries: Vec<(u32, u8)>,
+}
+
+// This station, and the stations whose label is marked, with the entries of those that have a channel at their place, by one
+// walk along the places.
+fn asked_on(
     alloc: Global,
     stations: &[u32],
     labels: &[u32],
     station: u32,
     marks: &[bool],
-) -> Result<Vec<u32>, NoMemory>
+    channels: &[Option<u8>],
+) -> Result<AskedAbout, NoMemory>
     requires ascending { IsTrue (is_ascending stations.now) }
     requires places { length labels.now ≡ length stations.now }
     requires marks { (z : ℕ) → label_in stations.now labels.now z < length marks.now }
-    ensures { IfOk result (λ set. set.items ≡ filter (λ z. is_asked station marks.now z (label_in stations.now labels.now z)) stations.now) }
+    requires channels { length channels.now ≡ length stations.now }
+    ensures set { IfOk result (λ x. x.set.items ≡ filter (λ z. is_asked station marks.now z (label_in stations.now labels.now z)) stations.now) }
+    ensures entries { IfOk result (λ x. x.entries.items ≡ restricted (placed_entries stations.now channels.now) x.set.items) }
+    ensures ascending { IfOk result (λ x. IsAscending x.entries.items) }
 {
-    let mut set = Vec::new(alloc);
+    let mut set = Vec::with_capacity(alloc, stations.len())?;
+    let mut entries = Vec::with_capacity(alloc, stations.len())?;
     for (place, z) in stations.iter().enumerate() {
         if !is_asked(station, marks, *z, labels[place]) {
             continue;
         }
         set.push(*z)?;
+        let Some(channel) = channels[place] else {
+            continue;
+        };
+        entries.push((*z, channel))?;
     }
-    Ok(set)
+    Ok(AskedAbout { set, entries })
 }
 
 // Whether a station of this label is this station, or is on air and its label is marked.
