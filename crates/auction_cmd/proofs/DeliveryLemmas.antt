@@ -1,5 +1,5 @@
 -- What a delivery leaves, from what each of its steps does.
-use Rattle.std.proofs.Common.{◌≡◌, ◌≢◌, ◌⊎◌, ◌<◌, ◌≤◌, ◌∙◌, ℕ, true, inl, inr, List, [], ◌∷◌, ◌++◌, length, refl, sym, ap, subst, arith, Option, Some, None}
+use Rattle.std.proofs.Common.{◌≡◌, ◌≢◌, ◌<◌, ◌≤◌, ◌∙◌, ℕ, true, inl, inr, List, [], ◌∷◌, ◌++◌, length, refl, sym, ap, subst, arith, Option, Some, None}
 use Rattle.std.specs.Prelude.{Ok, Err, MatchOption}
 use Rattle.std.proofs.lemmas.List.Elements.{All-cons, All-head, All-nil, All-tail}
 use Rattle.outside_io.specs.Faults.{HasRisen}
@@ -7,7 +7,7 @@ use Rattle.outside_io.specs.Files.{OthersStand, Puts, StoredFile, bytes_of}
 use Rattle.outside_io.specs.Loads.{Stores, Writes}
 use Rattle.outside_io.specs.declared.folder.StoreErr.{StoreErr}
 use Rattle.outside_io.specs.declared.folder.StoreErr.TheVariants.{Failed, NoMemory}
-use Rattle.auction_cmd.specs.Delivery.{AreHeldUnder, AreStored, AreStoredUpTo, Delivers, IsNotStored, IsOther, IsPrinted, IsStored, NamedText, names_of}
+use Rattle.auction_cmd.specs.Delivery.{AreStored, AreStoredUpTo, Delivers, IsNotStored, IsOther, IsPrinted, IsStored, NamedText, names_of}
 use Rattle.auction_cmd.specs.Delivery.IsNotStored.{Unwritten, OutOfRoom as NoRoom}
 use Rattle.auction_cmd.specs.Delivery.IsPrinted.{Written, CutShort}
 use Rattle.auction_cmd.specs.Outside.{Outside, IsSaid}
@@ -94,18 +94,18 @@ part-more files mid after x y xs puts apart p = record {
   failed = p.failed;
 }
 
-all-more : (x : NamedText) (xs : List NamedText) (before next after : Outside) → IsStored x before next → LeavesAll xs next after → LeavesAll (x ∷ xs) before after
+pub all-more : (x : NamedText) (xs : List NamedText) (before next after : Outside) → IsStored x before next → LeavesAll xs next after → LeavesAll (x ∷ xs) before after
 all-more x xs before next after s rest = λ files told apart.
     let (mid, between, puts) = told-store next.files files x.name x.text (subst (λ z. Stores z next.files x.name x.text (Ok tt)) told s.stores) in
     for-told after.files (λ new. AreStored mid new xs) (λ new. AreStored files new (x ∷ xs)) (λ new st. stored-more files mid new x xs puts apart.0 st) (rest mid between apart.1)
 
-up-more : (x y : NamedText) (xs : List NamedText) (before next after : Outside) → IsStored x before next → LeavesPart xs y next after → LeavesPart (x ∷ xs) y before after
+pub up-more : (x y : NamedText) (xs : List NamedText) (before next after : Outside) → IsStored x before next → LeavesPart xs y next after → LeavesPart (x ∷ xs) y before after
 up-more x y xs before next after s rest = λ files told apart.
     let (mid, between, puts) = told-store next.files files x.name x.text (subst (λ z. Stores z next.files x.name x.text (Ok tt)) told s.stores) in
     part-more files mid after x y xs puts apart.0 (rest mid between apart.1)
 
 -- the first text was not stored
-part-here : (x : NamedText) (xs : List NamedText) (e : StoreErr) (before after : Outside) → Stores before.files after.files x.name x.text (Err e) → LeavesPart (x ∷ xs) x before after
+pub part-here : (x : NamedText) (xs : List NamedText) (e : StoreErr) (before after : Outside) → Stores before.files after.files x.name x.text (Err e) → LeavesPart (x ∷ xs) x before after
 part-here x xs e before after stores = λ files told apart.
     let (new, now, others) = failed-store after.files files x.name x.text e (subst (λ z. Stores z after.files x.name x.text (Err e)) told stores) in
     record {
@@ -123,7 +123,7 @@ part-here x xs e before after stores = λ files told apart.
     }
 
 -- no text is left to store
-all-none : (before after : Outside) → after.files ≡ before.files → LeavesAll [] before after
+pub all-none : (before after : Outside) → after.files ≡ before.files → LeavesAll [] before after
 all-none before after same = λ files told apart.
     let here : after.files ≡ Some files = same ∙ told in
     subst (λ o. MatchOption o ⊥ (λ new. AreStored files new [])) (sym here) (record { hold = All-nil (λ x. bytes_of files x.name ≡ Some x.text); others = λ other k. refl })

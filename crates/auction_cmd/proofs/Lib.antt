@@ -3,6 +3,10 @@ pub mod DeliveryLemmas
 pub mod EndLemmas
 pub mod FeedLemmas
 pub mod Halts
+pub mod MadeLemmas
+pub mod MakeEndLemmas
+pub mod MakeLemmas
+pub mod NumberLemmas
 pub mod OutputNames
 pub mod PlanLemmas
 pub mod PromiseLemmas

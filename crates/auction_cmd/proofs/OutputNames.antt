@@ -1,5 +1,5 @@
--- Where no output name is given twice, the three texts of a run have names of their own.
-use Rattle.std.proofs.Common.{◌≡◌, ◌≢◌, ◌<◌, ◌≤◌, ◌+◌, ◌∙◌, ℕ, Bool, true, false, cond, inl, inr, List, [], ◌∷◌, ◌++◌, count_by, refl, sym, ap, arith, Option, Some, None, subst}
+-- Where no output name is given twice, the three texts that a command stores have names of their own.
+use Rattle.std.proofs.Common.{◌≡◌, ◌≢◌, ◌<◌, ◌∙◌, ℕ, Bool, true, cond, inl, inr, List, [], ◌∷◌, ◌++◌, count_by, refl, sym, arith, None, subst}
 use Rattle.std.specs.Prelude.{Contains, find}
 use Rattle.std.specs.Str.{bytes_eq}
 use Rattle.std.proofs.lemmas.Bool.{cond-true, false≢true, lt-ltb}
@@ -8,8 +8,9 @@ use Rattle.std.proofs.lemmas.List.Sums.{sum_by-append, sum_by-cons}
 use Rattle.std.proofs.lemmas.Slice.Eq.{bytes_eq-Decides}
 use Rattle.auction_core.proofs.Finds.{find_cases}
 use Rattle.pack_defs.proofs.Members.{Contains-here, Contains-there, list_any-from}
-use Rattle.auction_cmd.specs.Words.{RunNames, is_repeated_in, names_given, output_names, repeated_output}
+use Rattle.auction_cmd.specs.Words.{MakeNames, RunNames, is_repeated_among, is_repeated_in, made_names, names_given, output_names, repeated_made, repeated_output}
 use Rattle.auction_cmd.specs.Ends.{output_texts}
+use Rattle.auction_cmd.specs.Made.{texts_under}
 use Rattle.auction_cmd.proofs.DeliveryLemmas.{AreApart}
 
 -- what a search doesn't find doesn't pass
@@ -51,5 +52,31 @@ own-names names result channels transcript once =
       (
         All-cons (λ name. names.channels ≢ name) names.transcript [] behind (All-nil (λ name. names.channels ≢ name)),
         (All-nil (λ name. names.transcript ≢ name), tt),
+      ),
+    )
+
+-- ---- the files of `make`
+
+-- a name that stands at two places of a list is repeated among them
+twice-among : (given xs ys zs : List (List ℕ)) (a b : List ℕ) → xs ++ a ∷ (ys ++ b ∷ zs) ≡ given → a ≡ b → is_repeated_among given a ≡ true
+twice-among given xs ys zs a b whole same =
+    lt-ltb 1 (count_by (bytes_eq a) given)
+    (subst (λ names. 1 < count_by (bytes_eq a) names) whole (two-pass (bytes_eq a) xs ys zs a b (own a) ((bytes_eq-Decides a b).1 same)))
+
+pub own-made : (names : MakeNames) (domain_file row_file scenario_file : List ℕ) → repeated_made names ≡ None → AreApart (texts_under names.outputs domain_file row_file scenario_file)
+unfolding repeated_made
+own-made names domain_file row_file scenario_file once =
+    let given = made_names names in
+    let twice : List ℕ → Bool = is_repeated_among given in
+    let d = names.outputs.domains in
+    let r = names.outputs.rows in
+    let s = names.outputs.scenario in
+    let first : d ≢ r = λ same. not-found twice given d once (Contains-here d (r ∷ s ∷ [])) (twice-among given [] [] (s ∷ []) d r refl same) in
+    let last : d ≢ s = λ same. not-found twice given d once (Contains-here d (r ∷ s ∷ [])) (twice-among given [] (r ∷ []) [] d s refl same) in
+    let behind : r ≢ s = λ same. not-found twice given r once (Contains-there d r (r ∷ s ∷ []) (Contains-here r (s ∷ []))) (twice-among given (d ∷ []) [] [] r s refl same) in (
+      All-cons (λ name. d ≢ name) r (s ∷ []) first (All-cons (λ name. d ≢ name) s [] last (All-nil (λ name. d ≢ name))),
+      (
+        All-cons (λ name. r ≢ name) s [] behind (All-nil (λ name. r ≢ name)),
+        (All-nil (λ name. s ≢ name), tt),
       ),
     )

@@ -1,7 +1,7 @@
 -- What the words ask for, from the command that they are.
-use Rattle.std.proofs.Common.{◌≡◌, ◌∙◌, ℕ, List, Option, Some, None, refl, sym, ap}
-use Rattle.auction_cmd.specs.Plan.{Plan, no_command, repeats, runs, checks, verifies, command_plan, run_plan}
-use Rattle.auction_cmd.specs.Words.{Command, run, check, verify, InputNames, RunNames, VerifyNames, repeated_output}
+use Rattle.std.proofs.Common.{◌≡◌, ◌∙◌, ℕ, List, Option, Some, None, sym, ap}
+use Rattle.auction_cmd.specs.Plan.{no_command, repeats, runs, checks, verifies, makes, command_plan, make_plan, run_plan}
+use Rattle.auction_cmd.specs.Words.{Command, run, check, verify, make, InputNames, MakeNames, RunNames, VerifyNames, repeated_made, repeated_output}
 
 pub plan-none : (command : Option Command) → command ≡ None → command_plan command ≡ no_command
 plan-none command is = ap command_plan is
@@ -17,3 +17,9 @@ plan-runs command names is once = ap command_plan is ∙ ap (run_plan names) (sy
 
 pub plan-verifies : (command : Option Command) (names : VerifyNames) → command ≡ Some (verify names) → command_plan command ≡ verifies names
 plan-verifies command names is = ap command_plan is
+
+pub plan-made_twice : (command : Option Command) (names : MakeNames) (name : List ℕ) → command ≡ Some (make names) → Some name ≡ repeated_made names → command_plan command ≡ repeats name
+plan-made_twice command names name is twice = ap command_plan is ∙ ap (make_plan names) (sym twice)
+
+pub plan-makes : (command : Option Command) (names : MakeNames) → command ≡ Some (make names) → None ≡ repeated_made names → command_plan command ≡ makes names
+plan-makes command names is once = ap command_plan is ∙ ap (make_plan names) (sym once)

@@ -1,26 +1,30 @@
 -- What may be relied on of the program follows from how it ends, by what the words ask for.
-use Rattle.std.proofs.Common.{◌≡◌, ◌≢◌, ◌⊎◌, ◌∙◌, ℕ, true, false, inl, inr, List, [], ◌∷◌, refl, sym, ap, subst, arith, Option, Some, None}
+use Rattle.std.proofs.Common.{◌≡◌, ◌⊎◌, ◌∙◌, ℕ, true, inl, inr, List, [], ◌∷◌, refl, sym, ap, subst, arith, Option, Some, None}
 use Rattle.std.specs.Prelude.{IsTrue, MatchOption, ⊤}
 use Rattle.std.proofs.lemmas.Bool.{false≢true}
 use Rattle.pack_defs.specs.Lists.{is_in}
 use Rattle.outside_io.specs.Faults.{HasRisen}
 use Rattle.auction_core.specs.declared.record.Record.{Record}
-use Rattle.auction_cmd.specs.Ends.{CheckEnds, Ends, RunEnds, VerifyEnds}
+use Rattle.auction_cmd.specs.Ends.{CheckEnds, Ends, MakeEnds, RunEnds, VerifyEnds}
 use Rattle.auction_cmd.specs.Ends.CheckEnds.{CheckStarved}
-use Rattle.auction_cmd.specs.Ends.Ends.{Starved, Usage, Repeated, Ran, Checked, Verified}
+use Rattle.auction_cmd.specs.Ends.Ends.{Starved, Usage, Repeated, Ran, Checked, Verified, Made}
 use Rattle.auction_cmd.specs.Ends.RunEnds.{RunStarved}
 use Rattle.auction_cmd.specs.Ends.VerifyEnds.{VerifyStarved}
+use Rattle.auction_cmd.specs.MakePromises.{MakePromises}
 use Rattle.auction_cmd.specs.Outside.{Outside, IsSaid}
-use Rattle.auction_cmd.specs.Plan.{Plan, no_command, repeats, runs, checks, verifies}
-use Rattle.auction_cmd.specs.Promises.{IsSomeRecord, Promises, inputs_read, reads_nothing}
+use Rattle.auction_cmd.specs.Plan.{Plan, no_command, repeats, runs, checks, verifies, makes}
+use Rattle.auction_cmd.specs.Promises.{IsSomeRecord, Promises, asks_nothing, inputs_read, records_first}
 use Rattle.auction_cmd.specs.Says.{memory_line, twice_line}
 use Rattle.auction_cmd.specs.VerifyPromises.{VerifyPromises}
-use Rattle.auction_cmd.specs.Words.{InputNames, RunNames, VerifyNames, repeated_output}
+use Rattle.auction_cmd.specs.Words.{InputNames, MakeNames, RunNames, VerifyNames, repeated_made, repeated_output}
 use Rattle.auction_cmd.proofs.CheckLemmas.{check-complete, check-counted, check-cut, check-files, check-memory, check-none, check-reading, check-statuses, check-surely, check-unread, check-unwritten}
 use Rattle.auction_cmd.proofs.Halts.{Reading, missing-one, read-there, refused-cause, stops-at, unread-line}
+use Rattle.auction_cmd.proofs.MakeEndLemmas.{Reached, reached}
+use Rattle.auction_cmd.proofs.MakeEndLemmas.Reached.{Nothing}
+use Rattle.auction_cmd.proofs.MakeLemmas.{make-backed, make-memory, make-promises}
 use Rattle.auction_cmd.proofs.RunLemmas.{absent, run-backed, run-decided, run-done, run-ended, run-others, run-part, run-recorded, run-statuses, run-stored, run-summed, run-surely, run-unrecorded, run-untouched, run-unwritten, IsOnce}
 use Rattle.auction_cmd.proofs.StartLemmas.{run-complete, run-memory, run-nobody, run-open, run-opened, run-reading, run-refuted, run-unfit, run-unfits, run-unread}
-use Rattle.auction_cmd.proofs.Statuses.{not-in, off, one-of, within}
+use Rattle.auction_cmd.proofs.Statuses.{apart-lists, not-in, off, one-of, within}
 use Rattle.auction_cmd.proofs.VerifyCases.{verify-backed, verify-memory, verify-none}
 use Rattle.auction_cmd.proofs.VerifyLemmas.{verify-promises}
 
@@ -37,6 +41,9 @@ same-checks a b e = cc
 same-verifies : (a b : VerifyNames) → verifies a ≡ verifies b → a ≡ b
 same-verifies a b e = cc
 
+same-makes : (a b : MakeNames) → makes a ≡ makes b → a ≡ b
+same-makes a b e = cc
+
 same-name : (a b : List ℕ) → repeats a ≡ repeats b → a ≡ b
 same-name a b e = cc
 
@@ -50,6 +57,7 @@ module _ (plan : Plan) (before after : Outside) (status : ℕ) (found : Option R
   ran names (Ran own is_own once end) is = subst (λ z. RunEnds z before after status found) (same-runs own names (sym is_own ∙ is)) end
   ran names (Checked own is_own end) is = cc
   ran names (Verified own is_own end) is = cc
+  ran names (Made own is_own single end) is = cc
 
   once : (names : RunNames) → Ends plan before after status found → plan ≡ runs names → IsOnce names found
   once names (Starved s still) is = inl s.found_is
@@ -58,6 +66,7 @@ module _ (plan : Plan) (before after : Outside) (status : ℕ) (found : Option R
   once names (Ran own is_own apart end) is = inr (subst (λ z. repeated_output z ≡ None) (same-runs own names (sym is_own ∙ is)) apart)
   once names (Checked own is_own end) is = cc
   once names (Verified own is_own end) is = cc
+  once names (Made own is_own apart end) is = cc
 
   checked : (names : InputNames) → Ends plan before after status found → plan ≡ checks names → CheckEnds names before after status found
   checked names (Starved s still) is = CheckStarved s
@@ -66,6 +75,7 @@ module _ (plan : Plan) (before after : Outside) (status : ℕ) (found : Option R
   checked names (Ran own is_own apart end) is = cc
   checked names (Checked own is_own end) is = subst (λ z. CheckEnds z before after status found) (same-checks own names (sym is_own ∙ is)) end
   checked names (Verified own is_own end) is = cc
+  checked names (Made own is_own single end) is = cc
 
   verified : (names : VerifyNames) → Ends plan before after status found → plan ≡ verifies names → VerifyEnds names before after status found
   verified names (Starved s still) is = VerifyStarved s
@@ -74,10 +84,36 @@ module _ (plan : Plan) (before after : Outside) (status : ℕ) (found : Option R
   verified names (Ran own is_own apart end) is = cc
   verified names (Checked own is_own end) is = cc
   verified names (Verified own is_own end) is = subst (λ z. VerifyEnds z before after status found) (same-verifies own names (sym is_own ∙ is)) end
+  verified names (Made own is_own single end) is = cc
 
   -- what may be relied on of `verify`
   of-verify : (names : VerifyNames) → VerifyEnds names before after status found → VerifyPromises names before after status found
   of-verify names end = verify-promises names before after status found end
+
+  made : (names : MakeNames) → Ends plan before after status found → plan ≡ makes names → Reached names before after status found
+  made names (Starved s still) is = Nothing s.status_is s.found_is s.files s.line
+  made names (Usage text is_none two none said files still) is = cc
+  made names (Repeated name is_name five none said files still) is = cc
+  made names (Ran own is_own apart end) is = cc
+  made names (Checked own is_own end) is = cc
+  made names (Verified own is_own end) is = cc
+  made names (Made own is_own single end) is =
+      subst (λ z. Reached z before after status found) (same-makes own names (sym is_own ∙ is)) (reached own before after status found end single)
+
+  -- how far `make` came
+  way : (names : MakeNames) → repeated_made names ≡ None → MakeEnds names before after status found → Reached names before after status found
+  way names single end = reached names before after status found end single
+
+  made-statuses : {names : MakeNames} → Reached names before after status found → IsTrue (is_in (0 ∷ 1 ∷ 4 ∷ 8 ∷ []) status)
+  made-statuses {names} w = let m : MakePromises names before after status found = make-promises names before after status found w in m.statuses
+
+  made-unwritten : {names : MakeNames} → Reached names before after status found → status ≡ 4 → HasRisen before.faults after.faults ⊎ HasRisen before.cuts after.cuts
+  made-unwritten {names} w four =
+      let m : MakePromises names before after status found = make-promises names before after status found w in
+      elim (m.unwritten four) [
+        | inl unmade ↦ inl unmade.risen
+        | inr unsaid ↦ inr unsaid.failed
+      ]
 
   -- ---- each way to end
 
@@ -88,6 +124,7 @@ module _ (plan : Plan) (before after : Outside) (status : ℕ) (found : Option R
   all-statuses (Ran names is apart end) = within (0 ∷ 1 ∷ 3 ∷ 4 ∷ 5 ∷ 6 ∷ 7 ∷ 8 ∷ []) all status refl (run-statuses names before after status found end)
   all-statuses (Checked names is end) = within (0 ∷ 3 ∷ 4 ∷ 5 ∷ 8 ∷ []) all status refl (check-statuses names before after status found end)
   all-statuses (Verified names is end) = let v = of-verify names end in within (0 ∷ 1 ∷ 3 ∷ 4 ∷ 5 ∷ 8 ∷ 9 ∷ []) all status refl v.statuses
+  all-statuses (Made names is single end) = within (0 ∷ 1 ∷ 4 ∷ 8 ∷ []) all status refl (made-statuses (way names single end))
 
   -- words that are no command
   no-plan : Ends plan before after status found → plan ≡ no_command → (status ≡ 2) ⊎ (status ≡ 8)
@@ -97,6 +134,7 @@ module _ (plan : Plan) (before after : Outside) (status : ℕ) (found : Option R
   no-plan (Ran names is apart end) none = cc (sym is ∙ none)
   no-plan (Checked names is end) none = cc (sym is ∙ none)
   no-plan (Verified names is end) none = cc (sym is ∙ none)
+  no-plan (Made names is single end) none = cc (sym is ∙ none)
 
   only-no_plan : Ends plan before after status found → status ≡ 2 → plan ≡ no_command
   only-no_plan (Starved s still) two = let eight = s.status_is in absurd (omega arith)
@@ -105,6 +143,7 @@ module _ (plan : Plan) (before after : Outside) (status : ℕ) (found : Option R
   only-no_plan (Ran names is apart end) two = absurd (off (0 ∷ 1 ∷ 3 ∷ 4 ∷ 5 ∷ 6 ∷ 7 ∷ 8 ∷ []) status 2 (run-statuses names before after status found end) two refl)
   only-no_plan (Checked names is end) two = absurd (off (0 ∷ 3 ∷ 4 ∷ 5 ∷ 8 ∷ []) status 2 (check-statuses names before after status found end) two refl)
   only-no_plan (Verified names is end) two = let v = of-verify names end in absurd (off (0 ∷ 1 ∷ 3 ∷ 4 ∷ 5 ∷ 8 ∷ 9 ∷ []) status 2 v.statuses two refl)
+  only-no_plan (Made names is single end) two = absurd (off (0 ∷ 1 ∷ 4 ∷ 8 ∷ []) status 2 (made-statuses (way names single end)) two refl)
 
   only-verifies : Ends plan before after status found → status ≡ 9 → (names : VerifyNames) × (plan ≡ verifies names)
   only-verifies (Starved s still) nine = let eight = s.status_is in absurd (omega arith)
@@ -113,6 +152,7 @@ module _ (plan : Plan) (before after : Outside) (status : ℕ) (found : Option R
   only-verifies (Ran names is apart end) nine = absurd (off (0 ∷ 1 ∷ 3 ∷ 4 ∷ 5 ∷ 6 ∷ 7 ∷ 8 ∷ []) status 9 (run-statuses names before after status found end) nine refl)
   only-verifies (Checked names is end) nine = absurd (off (0 ∷ 3 ∷ 4 ∷ 5 ∷ 8 ∷ []) status 9 (check-statuses names before after status found end) nine refl)
   only-verifies (Verified names is end) nine = (names, is)
+  only-verifies (Made names is single end) nine = absurd (off (0 ∷ 1 ∷ 4 ∷ 8 ∷ []) status 9 (made-statuses (way names single end)) nine refl)
 
   named-twice : (name : List ℕ) → Ends plan before after status found → plan ≡ repeats name → ((status ≡ 5) × IsSaid before after (twice_line name)) ⊎ (status ≡ 8)
   named-twice name (Starved s still) twice = inr s.status_is
@@ -123,6 +163,7 @@ module _ (plan : Plan) (before after : Outside) (status : ℕ) (found : Option R
   named-twice name (Ran names is apart end) twice = cc (sym is ∙ twice)
   named-twice name (Checked names is end) twice = cc (sym is ∙ twice)
   named-twice name (Verified names is end) twice = cc (sym is ∙ twice)
+  named-twice name (Made names is single end) twice = cc (sym is ∙ twice)
 
   all-unrecorded : Ends plan before after status found → IsTrue (is_in (2 ∷ 3 ∷ 5 ∷ 9 ∷ []) status) → found ≡ None
   all-unrecorded (Starved s still) h = s.found_is
@@ -131,6 +172,7 @@ module _ (plan : Plan) (before after : Outside) (status : ℕ) (found : Option R
   all-unrecorded (Ran names is apart end) h = run-unrecorded names before after status found end h
   all-unrecorded (Checked names is end) h = check-none names before after status found end
   all-unrecorded (Verified names is end) h = verify-none names before after status found end h
+  all-unrecorded (Made names is single end) h = absurd (apart-lists (2 ∷ 3 ∷ 5 ∷ 9 ∷ []) (0 ∷ 1 ∷ 4 ∷ 8 ∷ []) status refl h (made-statuses (way names single end)))
 
   all-backed : Ends plan before after status found → MatchOption found ⊤ IsSomeRecord
   all-backed (Starved s still) = absent found s.found_is
@@ -139,6 +181,7 @@ module _ (plan : Plan) (before after : Outside) (status : ℕ) (found : Option R
   all-backed (Ran names is apart end) = run-backed names before after status found end
   all-backed (Checked names is end) = absent found (check-none names before after status found end)
   all-backed (Verified names is end) = verify-backed names before after status found end
+  all-backed (Made names is single end) = make-backed names before after status found (way names single end)
 
   all-unread : Ends plan before after status found → status ≡ 3 → HasRisen before.faults after.faults
   all-unread (Starved s still) three = let eight = s.status_is in absurd (omega arith)
@@ -147,6 +190,7 @@ module _ (plan : Plan) (before after : Outside) (status : ℕ) (found : Option R
   all-unread (Ran names is apart end) three = run-unread names before after status found end three
   all-unread (Checked names is end) three = check-unread names before after status found end three
   all-unread (Verified names is end) three = let v = of-verify names end in v.unread three
+  all-unread (Made names is single end) three = absurd (off (0 ∷ 1 ∷ 4 ∷ 8 ∷ []) status 3 (made-statuses (way names single end)) three refl)
 
   all-unwritten : Ends plan before after status found → status ≡ 4 → HasRisen before.faults after.faults ⊎ HasRisen before.cuts after.cuts
   all-unwritten (Starved s still) four = let eight = s.status_is in absurd (omega arith)
@@ -155,14 +199,16 @@ module _ (plan : Plan) (before after : Outside) (status : ℕ) (found : Option R
   all-unwritten (Ran names is apart end) four = run-unwritten names before after status found end four
   all-unwritten (Checked names is end) four = check-unwritten names before after status found end four
   all-unwritten (Verified names is end) four = let v = of-verify names end in inr (v.unwritten four)
+  all-unwritten (Made names is single end) four = made-unwritten (way names single end) four
 
-  all-untouched : Ends plan before after status found → found ≡ None → after.files ≡ before.files
-  all-untouched (Starved s still) none = s.files
-  all-untouched (Usage text is two absent said files still) none = files
-  all-untouched (Repeated name is five absent said files still) none = files
-  all-untouched (Ran names is apart end) none = run-untouched names before after status found end none
-  all-untouched (Checked names is end) none = check-files names before after status found end
-  all-untouched (Verified names is end) none = let v = of-verify names end in v.untouched
+  all-untouched : Ends plan before after status found → records_first plan ≡ true → found ≡ None → after.files ≡ before.files
+  all-untouched (Starved s still) first none = s.files
+  all-untouched (Usage text is two absent said files still) first none = files
+  all-untouched (Repeated name is five absent said files still) first none = files
+  all-untouched (Ran names is apart end) first none = run-untouched names before after status found end none
+  all-untouched (Checked names is end) first none = check-files names before after status found end
+  all-untouched (Verified names is end) first none = let v = of-verify names end in v.untouched
+  all-untouched (Made names is single end) first none = absurd (false≢true (sym (ap records_first is) ∙ first))
 
   all-ended : Ends plan before after status found → IsTrue (is_in (6 ∷ 7 ∷ []) status) → after.files ≡ before.files
   all-ended (Starved s still) h = s.files
@@ -171,6 +217,7 @@ module _ (plan : Plan) (before after : Outside) (status : ℕ) (found : Option R
   all-ended (Ran names is apart end) h = run-ended names before after status found end h
   all-ended (Checked names is end) h = check-files names before after status found end
   all-ended (Verified names is end) h = let v = of-verify names end in v.untouched
+  all-ended (Made names is single end) h = absurd (apart-lists (6 ∷ 7 ∷ []) (0 ∷ 1 ∷ 4 ∷ 8 ∷ []) status refl h (made-statuses (way names single end)))
 
   all-memory : Ends plan before after status found → status ≡ 8 → IsSaid before after memory_line
   all-memory (Starved s still) eight = s.line
@@ -179,15 +226,17 @@ module _ (plan : Plan) (before after : Outside) (status : ℕ) (found : Option R
   all-memory (Ran names is apart end) eight = run-memory names before after status found end eight
   all-memory (Checked names is end) eight = check-memory names before after status found end eight
   all-memory (Verified names is end) eight = verify-memory names before after status found end eight
+  all-memory (Made names is single end) eight = make-memory names before after status found (way names single end) eight
 
   -- where no command is carried out
-  no-folder : Ends plan before after status found → reads_nothing plan ≡ true → after.faults ≡ before.faults
+  no-folder : Ends plan before after status found → asks_nothing plan ≡ true → after.faults ≡ before.faults
   no-folder (Starved s still) none = still
   no-folder (Usage text is two absent said files still) none = still
   no-folder (Repeated name is five absent said files still) none = still
-  no-folder (Ran names is apart end) none = absurd (false≢true (sym (ap reads_nothing is) ∙ none))
-  no-folder (Checked names is end) none = absurd (false≢true (sym (ap reads_nothing is) ∙ none))
-  no-folder (Verified names is end) none = absurd (false≢true (sym (ap reads_nothing is) ∙ none))
+  no-folder (Ran names is apart end) none = absurd (false≢true (sym (ap asks_nothing is) ∙ none))
+  no-folder (Checked names is end) none = absurd (false≢true (sym (ap asks_nothing is) ∙ none))
+  no-folder (Verified names is end) none = absurd (false≢true (sym (ap asks_nothing is) ∙ none))
+  no-folder (Made names is single end) none = absurd (false≢true (sym (ap asks_nothing is) ∙ none))
 
 -- the reading of the inputs that a plan reads
 read-by : (plan : Plan) (names : InputNames) (before after : Outside) (status : ℕ) (found : Option Record) → Ends plan before after status found → inputs_read plan ≡ Some names → Reading names before after status
@@ -200,6 +249,7 @@ read-by (checks own) names before after status found end is =
     let same : own ≡ names = cc in
     subst (λ z. Reading z before after status) same (check-reading own before after status found (checked (checks own) before after status found own end refl))
 read-by (verifies own) names before after status found end is = cc
+read-by (makes own) names before after status found end is = cc
 
 -- what may be relied on
 pub promises-of : (plan : Plan) (before after : Outside) (status : ℕ) (found : Option Record) → Ends plan before after status found → Promises plan before after status found
@@ -242,6 +292,7 @@ promises-of plan before after status found end = record {
   complete = λ files names inputs told is held fit. run-complete names before after status found files inputs (ran plan before after status found names end is) told held fit;
   counts = λ files names inputs told is held. check-complete names before after status found files inputs (checked plan before after status found names end is) told held;
   verify = λ names is. verify-promises names before after status found (verified plan before after status found names end is);
+  make = λ names is. make-promises names before after status found (made plan before after status found names end is);
   verify_only = only-verifies plan before after status found end;
   memory = all-memory plan before after status found end;
 }

@@ -1,5 +1,5 @@
 -- Where the input files are there, none of them can't be read; and what is accepted stands in the scenario file.
-use Rattle.std.proofs.Common.{◌≡◌, ◌∙◌, ℕ, Bool, true, false, List, [], ◌∷◌, length, map, nat_lt, cond, refl, sym, ap, subst, inl, inr}
+use Rattle.std.proofs.Common.{◌≡◌, ◌∙◌, ℕ, List, [], ◌∷◌, length, map, nat_lt, refl, ap, subst, inl, inr}
 use Rattle.std.specs.Prelude.{IfOk, Option, Some, None, Result, Ok, Err, IsSome}
 use Rattle.std.proofs.lemmas.Bool.{cases_Bool}
 use Rattle.constraint_files.specs.Domains.{domains_of}
@@ -94,11 +94,11 @@ pub then-ok : {A B : Type 0} (r : Result A Stop) (f : A → Result B Stop) (y : 
 then-ok (Ok x) f y e = (x, refl, e)
 then-ok (Err why) f y e = cc
 
-read-ok : (r : Result Scenario ScenarioErr) (sc : Scenario) → scenario_read r ≡ Ok sc → r ≡ Ok sc
+pub read-ok : (r : Result Scenario ScenarioErr) (sc : Scenario) → scenario_read r ≡ Ok sc → r ≡ Ok sc
 read-ok (Ok read) sc e = cc
 read-ok (Err why) sc e = cc
 
-from-ok : (sc : Scenario) (pairs : PairsView) (r : Result BookView JoinErr) (inputs : Inputs) → inputs_from sc pairs r ≡ Ok inputs → sc ≡ inputs.scenario
+pub from-ok : (sc : Scenario) (pairs : PairsView) (r : Result BookView JoinErr) (inputs : Inputs) → inputs_from sc pairs r ≡ Ok inputs → sc ≡ inputs.scenario
 from-ok sc pairs (Ok book) inputs e =
     let same : record { scenario = sc; book = book; self_pairs = pairs.self_pairs; strangers = pairs.strangers } ≡ inputs = cc in
     ap (λ (i : Inputs). i.scenario) same

@@ -46,6 +46,17 @@ Delivers (x ∷ xs) summary done before after status =
     ((next : Outside) × IsStored x before next × Delivers xs summary done next after status)
     ⊎ IsNotStored x before after status
 
+-- each of these texts was stored, in order, and nothing else was done
+abbrev pub AreAllStored : List NamedText → Outside → Outside → Type 0
+AreAllStored [] before after = after ≡ before
+AreAllStored (x ∷ xs) before after = (next : Outside) × IsStored x before next × AreAllStored xs next after
+
+-- the texts before one were stored, that one was not, and nothing else was done
+abbrev pub StopsAtOne : List NamedText → Outside → Outside → ℕ → Type 0
+StopsAtOne [] before after status = ⊥
+StopsAtOne (x ∷ xs) before after status =
+    ((next : Outside) × IsStored x before next × StopsAtOne xs next after status) ⊎ IsNotStored x before after status
+
 -- ---- what it leaves of a told folder
 
 -- the names of these texts

@@ -2,6 +2,8 @@ pub mod Counts
 pub mod Delivery
 pub mod Ends
 pub mod Inputs
+pub mod Made
+pub mod MakePromises
 pub mod Outside
 pub mod Pieces
 pub mod Plan

@@ -2,7 +2,6 @@
 -- before and after, the status and the record.
 use Rattle.std.specs.Prelude.{Contains, ◌≡◌, ◌≢◌, ◌⊎◌, ◌<◌, ◌≤◌, ℕ, Bool, true, false, List, [], ◌∷◌, length, Option, Some, None, Ok, Err, IsFalse, IsSome, IsTrue, MatchOption, ⊤}
 use Rattle.pack_defs.specs.Lists.{is_in}
-use Rattle.pack_defs.specs.declared.order.Order.{Order}
 use Rattle.pack_defs.specs.ClockRule.{ClockTest, FrozenAt, on_air_set}
 use Rattle.pack_defs.specs.Threshold.{IsThresholdPrice}
 use Rattle.pack_defs.specs.Packing.{IsPacking}
@@ -23,14 +22,15 @@ use Rattle.auction_cmd.specs.Counts.{counts_text}
 use Rattle.auction_cmd.specs.Delivery.{AllOthersStand, AreStored, AreStoredUpTo}
 use Rattle.auction_cmd.specs.Ends.{AreHeld, run_texts}
 use Rattle.auction_cmd.specs.Inputs.{inputs_of}
+use Rattle.auction_cmd.specs.MakePromises.{MakePromises}
 use Rattle.auction_cmd.specs.Outside.{Outside, IsSaid}
-use Rattle.auction_cmd.specs.Plan.{Plan, no_command, repeats, runs, checks, verifies}
+use Rattle.auction_cmd.specs.Plan.{Plan, no_command, repeats, runs, checks, verifies, makes}
 use Rattle.auction_cmd.specs.Records.{IsOpenRecordOf, IsRecordBy, IsRecordOf, StartFits, StartUnfit, done_status, outcome, result_of, run_order, summary_of}
 use Rattle.auction_cmd.specs.Refusals.{line_of, name_of}
 use Rattle.auction_cmd.specs.Says.{memory_line, open_line, twice_line, unfit_line, unread_line, unwritten_line}
 use Rattle.auction_cmd.specs.Verified.{verified}
 use Rattle.auction_cmd.specs.VerifyPromises.{IsOr, VerifyPromises}
-use Rattle.auction_cmd.specs.Words.{InputNames, RunNames, VerifyNames, output_names}
+use Rattle.auction_cmd.specs.Words.{InputNames, MakeNames, RunNames, VerifyNames, output_names}
 
 -- the inputs that a plan reads which reads no other file, if it reads any
 abbrev pub inputs_read : Plan → Option InputNames
@@ -39,14 +39,25 @@ inputs_read (repeats name) = None
 inputs_read (runs names) = Some names.inputs
 inputs_read (checks names) = Some names
 inputs_read (verifies names) = None
+inputs_read (makes names) = None
 
--- the plan reads no file
-abbrev pub reads_nothing : Plan → Bool
-reads_nothing no_command = true
-reads_nothing (repeats name) = true
-reads_nothing (runs names) = false
-reads_nothing (checks names) = false
-reads_nothing (verifies names) = false
+-- the plan reads no file and stores none
+abbrev pub asks_nothing : Plan → Bool
+asks_nothing no_command = true
+asks_nothing (repeats name) = true
+asks_nothing (runs names) = false
+asks_nothing (checks names) = false
+asks_nothing (verifies names) = false
+asks_nothing (makes names) = false
+
+-- the plan stores no file before there is a record
+abbrev pub records_first : Plan → Bool
+records_first no_command = true
+records_first (repeats name) = true
+records_first (runs names) = true
+records_first (checks names) = true
+records_first (verifies names) = true
+records_first (makes names) = false
 
 -- the three input files are there
 pub record AreThere (files : List StoredFile) (names : InputNames) : Type 0 where
@@ -150,7 +161,7 @@ pub record Promises (plan : Plan) (before after : Outside) (status : ℕ) (found
   -- no call of the folder failed that could have been made: its count of faults stands.
   pub twice : (name : List ℕ) → plan ≡ repeats name →
       ((status ≡ 5) × IsSaid before after (twice_line name)) ⊎ (status ≡ 8)
-  pub asked_nothing : reads_nothing plan ≡ true → after.faults ≡ before.faults
+  pub asked_nothing : asks_nothing plan ≡ true → after.faults ≡ before.faults
   -- At status 0 and 1 `run` has carried out the auction of the inputs that the files hold, at 0 with every test decided; at
   -- 0 `check` has counted them.
   pub done : (files : List StoredFile) (names : RunNames) →
@@ -232,10 +243,10 @@ pub record Promises (plan : Plan) (before after : Outside) (status : ℕ) (found
       before.files ≡ Some files → plan ≡ checks names →
       ((inputs : Inputs) → inputs_of files names ≡ Ok inputs → length (counts_text inputs) ≤ before.sure) → status ≢ 4
   -- No file is touched but RESULT, CHANNELS and TRANSCRIPT, and those only where there is a record of an auction that was
-  -- carried through.
+  -- carried through; `make` alone stores before there is one.
   pub others : (files : List StoredFile) (names : RunNames) →
       before.files ≡ Some files → plan ≡ runs names → MatchOption after.files ⊥ (λ new. AllOthersStand files new (output_names names))
-  pub untouched : found ≡ None → after.files ≡ before.files
+  pub untouched : records_first plan ≡ true → found ≡ None → after.files ≡ before.files
   pub unfit_untouched : IsTrue (is_in (6 ∷ 7 ∷ []) status) → after.files ≡ before.files
   -- Accepted inputs are carried through, where the start set fits and its test isn't left open, and counted, but for want of
   -- memory and faults of the outside.
@@ -247,6 +258,8 @@ pub record Promises (plan : Plan) (before after : Outside) (status : ℕ) (found
       IsOr 0 before status ⊎ (status ≡ 4)
   -- What may be relied on of `verify`.
   pub verify : (names : VerifyNames) → plan ≡ verifies names → VerifyPromises names before after status found
+  -- What may be relied on of `make`: what it stores, and that it ends at 0, 1, 4 or 8.
+  pub make : (names : MakeNames) → plan ≡ makes names → MakePromises names before after status found
   -- Status 9 is of `verify` alone.
   pub verify_only : status ≡ 9 → (names : VerifyNames) × (plan ≡ verifies names)
   -- At status 8 the line says that memory ran out.

@@ -1,14 +1,18 @@
 -- What the words of the command line ask for, by the definition that `clap` gives of a simple command.
 use Rattle.std.specs.Prelude.{ℕ, Bool, true, List, [], ◌∷◌, ◌++◌, Option, Some, None, codes, count_by, find, if◌then◌else◌, nat_lt, option_and_then, option_map, ⊤}
 use Rattle.std.specs.Str.{bytes_eq}
+use Rattle.std.specs.Str.Parse.{digits_value, without_leading_plus}
 use Rattle.clap.specs.Words.{App, Row, Rule, Text, fault_of, first_of, new_app, new_rule, subcommand_of, with_rule, with_subcommand}
 use Rattle.clap.specs.Simple.{on_top}
 use Rattle.clap.specs.Walk.{is_empty}
+use Rattle.clap.specs.ValueTests.{is_unsigned_in}
+use Rattle.clap.specs.declared.builder.value_parser.ValueParser.TheVariants.{Unsigned}
+use Rattle.auction_cmd.specs.declared.make_words.MakeArgs.{MakeArgs}
 use Rattle.auction_cmd.specs.declared.words.InputArgs.{InputArgs}
 use Rattle.auction_cmd.specs.declared.words.RunArgs.{RunArgs}
 use Rattle.auction_cmd.specs.declared.words.VerifyArgs.{VerifyArgs}
 use Rattle.auction_cmd.specs.declared.words.Order.{Order}
-use Rattle.auction_cmd.specs.declared.words.Order.TheVariants.{Run, Check, Verify}
+use Rattle.auction_cmd.specs.declared.words.Order.TheVariants.{Run, Check, Verify, Make}
 use Rattle.auction_cmd.specs.declared.words.WordsFault.{WordsFault}
 use Rattle.auction_cmd.specs.declared.words.WordsFault.TheVariants.{NoMemory, Refused}
 
@@ -30,11 +34,18 @@ pub record VerifyNames : Type 0 where
   pub inputs : InputNames
   pub transcript : List ℕ
 
+-- the seed and the size of `make`, and the names of the files that it stores
+pub record MakeNames : Type 0 where
+  pub seed : ℕ
+  pub size : ℕ
+  pub outputs : InputNames
+
 -- a command with its arguments
 pub data Command : Type 0 where
   run : RunNames → Command
   check : InputNames → Command
   verify : VerifyNames → Command
+  make : MakeNames → Command
 
 -- ---- what `clap` is asked to read
 
@@ -64,18 +75,40 @@ run_app = with_required (new_app (codes "run")) (input_ids ++ output_ids)
 abbrev pub verify_app : App
 verify_app = with_required (new_app (codes "verify")) (input_ids ++ codes "TRANSCRIPT" ∷ [])
 
+-- the greatest seed, and the most stations of a made auction
+abbrev pub seed_limit : ℕ
+seed_limit = 18446744073709551615
+
+abbrev pub size_limit : ℕ
+size_limit = 4096
+
+-- an argument that has to be given, and is a number from the least to the most
+abbrev pub number_rule : Text → ℕ → ℕ → Rule
+number_rule id least most = record (required_rule id) { parser = Some (Unsigned least most) }
+
+-- the arguments that say what is made
+abbrev pub numbers_app : App
+numbers_app = with_rule (with_rule (new_app (codes "make")) (number_rule (codes "SEED") 0 seed_limit)) (number_rule (codes "SIZE") 1 size_limit)
+
+abbrev pub make_app : App
+make_app = with_required numbers_app input_ids
+
 -- the program without its commands: it has a version, and a command is required
 abbrev pub bare_app : App
 bare_app = on_top (λ s. record s { has_version = true; subcommand_required = true }) (new_app (codes "repack"))
 
+-- the program with the commands that read files
+abbrev pub reading_app : App
+reading_app = with_subcommand (with_subcommand (with_subcommand bare_app run_app.top) check_app.top) verify_app.top
+
 abbrev pub program_app : App
-program_app = with_subcommand (with_subcommand (with_subcommand bare_app run_app.top) check_app.top) verify_app.top
+program_app = with_subcommand reading_app make_app.top
 
 -- ---- what was read
 
 -- what is made of the first value of this argument, where it has one
 abbrev pub with_value : {X : Type 0} → List Row → Text → (Text → Option X) → Option X
-with_value rows id make = option_and_then make (first_of id rows)
+with_value rows id build = option_and_then build (first_of id rows)
 
 -- the names of the input files, where each is there
 abbrev pub input_names : List Row → Option InputNames
@@ -102,12 +135,28 @@ verify_names rows =
     with_value rows (codes "TRANSCRIPT") (λ transcript. Some (record { inputs = inputs; transcript = transcript })))
     (input_names rows)
 
+-- The number that the text is, where it is one from the least to the most: decimal digits, behind a plus or behind none.
+abbrev pub number_within : ℕ → ℕ → Text → Option ℕ
+number_within least most text =
+    if is_unsigned_in least most text then Some (digits_value 10 (without_leading_plus text)) else None
+
+-- the seed and the size of `make` and the names of its files, where each is there and the numbers are in their bounds
+abbrev pub make_names : List Row → Option MakeNames
+make_names rows =
+    option_and_then (λ seed.
+    option_and_then (λ size.
+    option_and_then (λ outputs. Some (record { seed = seed; size = size; outputs = outputs }))
+    (input_names rows))
+    (with_value rows (codes "SIZE") (number_within 1 size_limit)))
+    (with_value rows (codes "SEED") (number_within 0 seed_limit))
+
 -- the command of this name, where each of its arguments is there
 abbrev pub named_command : Text × List Row → Option Command
 named_command found =
     if bytes_eq found.0 (codes "run") then option_map run (run_names found.1)
     else (if bytes_eq found.0 (codes "check") then option_map check (input_names found.1)
-    else (if bytes_eq found.0 (codes "verify") then option_map verify (verify_names found.1) else None))
+    else (if bytes_eq found.0 (codes "verify") then option_map verify (verify_names found.1)
+    else (if bytes_eq found.0 (codes "make") then option_map make (make_names found.1) else None)))
 
 -- The command that the words are, the first of which is the program's name; none where `clap` has a fault for them, or an
 -- argument has no value.
@@ -133,6 +182,18 @@ is_repeated_in name names = nat_lt 1 (count_by (bytes_eq name) (names_given name
 unfoldable pub repeated_output : RunNames → Option (List ℕ)
 repeated_output names = find (λ name. is_repeated_in name names) (output_names names)
 
+-- the names of the files that `make` stores, in the order of its arguments
+abbrev pub made_names : MakeNames → List (List ℕ)
+made_names names = names.outputs.domains ∷ names.outputs.rows ∷ names.outputs.scenario ∷ []
+
+-- the name is given more than once among these
+abbrev pub is_repeated_among : List (List ℕ) → List ℕ → Bool
+is_repeated_among given name = nat_lt 1 (count_by (bytes_eq name) given)
+
+-- the first of them that is given more than once
+unfoldable pub repeated_made : MakeNames → Option (List ℕ)
+repeated_made names = find (is_repeated_among (made_names names)) (made_names names)
+
 -- ---- the code's values, as the definitions see them
 
 abbrev pub inputs_seen : InputArgs → InputNames
@@ -153,10 +214,14 @@ names_seen args = record {
 abbrev pub verify_seen : VerifyArgs → VerifyNames
 verify_seen args = record { inputs = inputs_seen args.inputs; transcript = args.transcript.now }
 
+abbrev pub make_seen : MakeArgs → MakeNames
+make_seen args = record { seed = args.seed; size = args.size; outputs = inputs_seen args.outputs }
+
 abbrev pub order_seen : Order → Command
 order_seen (Run args) = run (names_seen args)
 order_seen (Check args) = check (inputs_seen args)
 order_seen (Verify args) = verify (verify_seen args)
+order_seen (Make args) = make (make_seen args)
 
 -- the words have a fault
 abbrev pub IsRefused : WordsFault → Type 0

@@ -10,6 +10,7 @@ ghost use Rattle.auction_cmd.specs.Promises.{Promises};
 use crate::check::check;
 use crate::explain::starve;
 use crate::finish::Finish;
+use crate::make::make;
 use crate::run::run;
 use crate::says::say;
 use crate::verify::verify;
@@ -45,6 +46,13 @@ fn carry_out<F: Folder, K: Sink, G: Gate + Sync, W: Threads + Wait + Sync>(
         },
         Ok(Order::Check(files)) => check(alloc, &files, folder, out),
         Ok(Order::Verify(files)) => verify(alloc, &files, folder, out),
+        Ok(Order::Make(files)) => match files.given_twice() {
+            Some(name) => {
+                say(out, &[name, ": given twice\n"]);
+                Finish::without_record(5)
+            }
+            None => make(rt, alloc, &files, folder, out, gate),
+        },
         Err(WordsFault::Refused(text)) => {
             say(out, &[text.as_str()]);
             Finish::without_record(2)
@@ -62,6 +70,9 @@ fn carry_out<F: Folder, K: Sink, G: Gate + Sync, W: Threads + Wait + Sync>(
 /// - `check DOMAINS ROWS SCENARIO` reads the three inputs and writes how many stations and pairs they have.
 /// - `verify DOMAINS ROWS SCENARIO TRANSCRIPT` reads the three inputs and a transcript, checks each of its steps and writes
 ///   the result that it shows.
+/// - `make SEED SIZE DOMAINS ROWS SCENARIO` makes the three files of an auction of SIZE stations from the number SEED, stores
+///   them in this order, carries the auction out as `run` does and writes the summary. The same SEED and SIZE make the same
+///   files.
 ///
 /// The status is 0 where all is done and every test was decided; 1 where all is done and some test was not; 2 where the
 /// words are no command, help and version included; 3 where a file can't be read; 4 where a file can't be stored, or the

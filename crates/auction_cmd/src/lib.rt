@@ -8,6 +8,8 @@ mod explain;
 pub mod fault;
 pub mod finish;
 pub mod inputs;
+mod make;
+pub mod make_words;
 pub mod refusal;
 mod run;
 mod says;

@@ -42,7 +42,7 @@ struct Texts {
 }
 
 // The record of the auction of these inputs. Of the outside it calls the gate alone.
-fn auction_of<G: Gate + Sync, W: Threads + Wait + Sync>(
+pub fn auction_of<G: Gate + Sync, W: Threads + Wait + Sync>(
     rt: &W,
     alloc: Global,
     inputs: &Inputs,
@@ -103,7 +103,12 @@ fn texts_of(alloc: Global, inputs: &Inputs, rec: &Record) -> Result<Texts, NoMem
 }
 
 // Stores a text under this name. Where it can't, a line says so, and the error is the status.
-fn store<F: Folder, K: Sink>(folder: &mut F, out: &mut K, name: &str, text: &[u8]) -> Result<(), u8>
+pub fn store<F: Folder, K: Sink>(
+    folder: &mut F,
+    out: &mut K,
+    name: &str,
+    text: &[u8],
+) -> Result<(), u8>
     ensures stored { OnOk result (IsStored (named name.now text.now)
         (outside (F.files folder.old) (F.faults folder.old) (F.steady folder.old) (K.held out.old) (K.faults out.old) (K.sure out.old))
         (outside (F.files folder.new) (F.faults folder.new) (F.steady folder.new) (K.held out.new) (K.faults out.new) (K.sure out.new))) }

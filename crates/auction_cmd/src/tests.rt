@@ -3,6 +3,7 @@
 //! A row has what a run is given (`scene`) and facts of what it leaves (`told`), as plain text: so no test holds an auction.
 
 mod checked;
+mod made;
 mod refused;
 mod scene;
 mod settled;

@@ -5,8 +5,9 @@ ghost use Rattle.std.specs.Str.{bytes_eq};
 ghost use Rattle.clap.specs.Words.{app_of, first_of, found_of, kind_of, new_app, rows_of, rule_of, subcommand_rows_of};
 ghost use Rattle.clap.specs.declared.builder.command.Command.TheViews.{out-Command};
 ghost use Rattle.auction_cmd.specs.Refusals.{name_of};
-ghost use Rattle.auction_cmd.specs.Words.{IsRefused, bare_app, check_app, command_of, input_ids, input_names, inputs_seen, is_repeated_in, named_command, names_seen, order_seen, program_app, repeated_output, required_rule, run_app, run_names, verify_app, verify_names, verify_seen, with_required};
+ghost use Rattle.auction_cmd.specs.Words.{IsRefused, bare_app, check_app, command_of, input_ids, input_names, inputs_seen, is_repeated_in, named_command, names_seen, order_seen, program_app, reading_app, repeated_output, required_rule, run_app, run_names, verify_app, verify_names, verify_seen, with_required};
 
+use crate::make_words::{MakeArgs, make_args, make_command};
 use crate::refusal::Input;
 use clap::error::ErrorKind;
 use clap::{Arg, ArgMatches, Command, Error};
@@ -54,6 +55,8 @@ pub enum Order<'a> {
     Check(InputArgs<'a>),
     /// Verify a transcript.
     Verify(VerifyArgs<'a>),
+    /// Make an auction and run it.
+    Make(MakeArgs<'a>),
 }
 
 /// Why words are not read as a command. `Refused`: they are none. It has the text that `clap` gives for the user, which is
@@ -113,14 +116,14 @@ impl<'a> RunArgs<'a> {
 }
 
 // How often the name stands among these.
-fn times_in(names: &[&str], name: &str) -> usize
+pub(crate) fn times_in(names: &[&str], name: &str) -> usize
     ensures { result ≡ count_by (bytes_eq name.now) (map (λ n. n.now) names.now) }
 {
     names.iter().filter(|other| name == **other).count()
 }
 
 // An argument that has to be given, with its line of help.
-fn required<'a>(alloc: Global, name: &'a str, help: &'a str) -> Arg<'a>
+pub(crate) fn required<'a>(alloc: Global, name: &'a str, help: &'a str) -> Arg<'a>
     ensures rule { rule_of result ≡ required_rule name.entry.now }
     ensures local { result.global ≡ false }
 {
@@ -211,8 +214,10 @@ fn bare_program<'a>(alloc: Global) -> Result<Command<'a>, AllocError>
     command.bin_name("repack")
 }
 
-fn program<'a>(alloc: Global) -> Result<Command<'a>, AllocError>
-    ensures { IfOk result (λ c. app_of c ≡ program_app) }
+// The program with the commands that read files.
+fn reading_program<'a>(alloc: Global) -> Result<Command<'a>, AllocError>
+    ensures app { IfOk result (λ c. app_of c ≡ reading_app) }
+    ensures local { IfOk result (λ c. (out-Command c).has_globals ≡ false) }
 {
     bare_program(alloc)?
         .subcommand(run_command(alloc)?)?
@@ -220,14 +225,20 @@ fn program<'a>(alloc: Global) -> Result<Command<'a>, AllocError>
         .subcommand(verify_command(alloc)?)
 }
 
+fn program<'a>(alloc: Global) -> Result<Command<'a>, AllocError>
+    ensures { IfOk result (λ c. app_of c ≡ program_app) }
+{
+    reading_program(alloc)?.subcommand(make_command(alloc)?)
+}
+
 // The first value of an argument.
-fn value_of<'a>(matches: &ArgMatches<'a>, id: &str) -> Option<&'a str>
+pub(crate) fn value_of<'a>(matches: &ArgMatches<'a>, id: &str) -> Option<&'a str>
     ensures { option_map (λ s. s.now) result ≡ first_of id.now (rows_of (found_of matches.now)) }
 {
     matches.get_str(id)
 }
 
-fn input_args<'a>(matches: &ArgMatches<'a>) -> Option<InputArgs<'a>>
+pub(crate) fn input_args<'a>(matches: &ArgMatches<'a>) -> Option<InputArgs<'a>>
     ensures { option_map inputs_seen result ≡ input_names (rows_of (found_of matches.now)) }
 {
     let domains = value_of(matches, "DOMAINS")?;
@@ -274,6 +285,8 @@ fn order_of<'a>(matches: &ArgMatches<'a>) -> Option<Order<'a>>
         Some(Order::Check(input_args(inner)?))
     } else if name == "verify" {
         Some(Order::Verify(verify_args(inner)?))
+    } else if name == "make" {
+        Some(Order::Make(make_args(inner)?))
     } else {
         None
     }
@@ -298,8 +311,10 @@ fn fault_from(alloc: Global, error: &Error) -> WordsFault
 }
 
 /// The command that the words are, of which the first is the program's name: `run DOMAINS ROWS SCENARIO RESULT CHANNELS
-/// TRANSCRIPT`, `check DOMAINS ROWS SCENARIO` or `verify DOMAINS ROWS SCENARIO TRANSCRIPT`. A name that begins with `-`
-/// stands after `--`, but for a lone `-`. Help and the version are no command: their texts come with `Refused`.
+/// TRANSCRIPT`, `check DOMAINS ROWS SCENARIO`, `verify DOMAINS ROWS SCENARIO TRANSCRIPT` or `make SEED SIZE DOMAINS ROWS
+/// SCENARIO`. A name that begins with `-` stands after `--`, but for a lone `-`. SEED is a number up to 2^64 - 1, SIZE one
+/// from 1 to 4,096; a plus may stand before either, and zeros. Help and the version are no command: their texts come with
+/// `Refused`.
 #[tactic(auto, unfolding(crate::specs::Words::command_of))]
 pub fn read_words<'a>(alloc: Global, words: &'a [String]) -> Result<Order<'a>, WordsFault>
     ensures order { IfOk result (λ o. command_of (map string_bytes words.entry.now) ≡ Some (order_seen o)) }

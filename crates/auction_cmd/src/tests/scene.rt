@@ -1,6 +1,6 @@
 //! What a run is given, and the run.
 
-use super::told::{faults_text, told};
+use super::told::{faults_text, held_text, told};
 use super::{CLOCK, COMMAND, DOMAINS, MANY_LINES, ROWS, THREE, VERIFY};
 use crate::auction::auction_main;
 use outside_io::memory_folder::{MemoryFile, MemoryFolder};
@@ -216,7 +216,8 @@ fn run_words<W: Threads + Wait + Sync>(
     let left = left_in(rt, alloc, words, scene, &mut folder)?;
     let inputs = inputs_text(alloc, scene, &folder)?;
     let counted = counted_text(alloc, scene, &folder)?;
-    format!(in alloc; "{left}; {inputs}; {counted}")
+    let held = held_text(alloc, &folder)?;
+    format!(in alloc; "{left}; {inputs}; {counted}; {held}")
 }
 
 // The facts of a run in this folder.
@@ -233,7 +234,7 @@ fn left_in<W: Threads + Wait + Sync>(
 }
 
 // Runs a scene, and tells the facts of what is left, with "; " between each two.
-fn run<W: Threads + Wait + Sync>(
+pub fn run<W: Threads + Wait + Sync>(
     rt: &W,
     alloc: Global,
     scene: &Scene<'_>,

@@ -249,6 +249,22 @@ pub fn told(
     format!(in alloc; "status {status}; {outside}; {channels}; {found}")
 }
 
+// What the file of this name holds, unless it is long.
+fn short_text(alloc: Global, folder: &MemoryFolder, name: &str) -> Result<String, NoMemory> {
+    match folder.bytes(name) {
+        Some(bytes) if bytes.len() > 9_999 => format!(in alloc; "{name} is long"),
+        _ => file_text(alloc, folder, name),
+    }
+}
+
+/// What the files of an auction's inputs hold, with "; " between each two.
+pub fn held_text(alloc: Global, folder: &MemoryFolder) -> Result<String, NoMemory> {
+    let domains = short_text(alloc, folder, "d.csv")?;
+    let rows = short_text(alloc, folder, "r.csv")?;
+    let scenario = short_text(alloc, folder, "s.json")?;
+    format!(in alloc; "{domains}; {rows}; {scenario}")
+}
+
 /// How many faults the folder has counted.
 pub fn faults_text(alloc: Global, folder: &MemoryFolder) -> Result<String, NoMemory> {
     let text = format!(in alloc; "{folder:?}")?;

@@ -1,5 +1,6 @@
 //! What the words of a command line are read as.
 
+use crate::make_words::MakeArgs;
 use crate::words::{InputArgs, Order, RunArgs, WordsFault, read_words};
 use std::alloc::{AllocError as NoMemory, Global};
 use std::test::Fail;
@@ -54,6 +55,12 @@ fn order_text(alloc: Global, order: Order<'_>) -> Result<String, NoMemory> {
                 files.transcript,
             ];
             joined(alloc, "order verify", &names)
+        }
+        Order::Make(files) => {
+            let (seed, size, outputs) = (files.seed, files.size, files.outputs);
+            let command = format!(in alloc; "order make,{seed},{size}")?;
+            let names = [outputs.domains, outputs.rows, outputs.scenario];
+            joined(alloc, &command, &names)
         }
     }
 }
@@ -115,6 +122,18 @@ fn words_are_refused(rt: HostRuntime) -> Result<(), Fail> {
             "error: unexpected argument '-d' found\n",
         ),
         (
+            "repack,make,7,4097,d,r,s",
+            "error: invalid value '4097' for '<SIZE>': 4097 is not in 1..=4096\n",
+        ),
+        (
+            "repack,make,18446744073709551616,1,d,r,s",
+            "error: invalid value '18446744073709551616' for '<SEED>': number too large to fit in target type\n",
+        ),
+        (
+            "repack,make,7,1,d,r",
+            "error: the following required arguments were not provided:\n  <SCENARIO>\n\n",
+        ),
+        (
             "repack,--,check,d,r,s",
             "error: unexpected argument 'check' found\n",
         ),
@@ -155,6 +174,8 @@ fn help_is_told(rt: HostRuntime) -> Result<(), Fail> {
     let six = "\nUsage: repack run <DOMAINS> <ROWS> <SCENARIO> <RESULT> <CHANNELS> <TRANSCRIPT>\n";
     let check = "Checks the input files ";
     let three = "\nUsage: repack check <DOMAINS> <ROWS> <SCENARIO>\n";
+    let make = "Makes an auction ";
+    let five = "\nUsage: repack make <SEED> <SIZE> <DOMAINS> <ROWS> <SCENARIO>\n";
     let table = [
         ("repack,--help", program, commands),
         ("repack,-h", program, commands),
@@ -164,6 +185,7 @@ fn help_is_told(rt: HostRuntime) -> Result<(), Fail> {
         ("repack,run,--help", run, six),
         ("repack,help,check", check, three),
         ("repack,check,d,r,s,-h", check, three),
+        ("repack,make,--help", make, five),
     ];
     assert_eq!(rt; unhelped(rt.alloc(), &table)?, None);
     Ok(())
@@ -205,6 +227,11 @@ fn each_name_stands_in_its_place(rt: HostRuntime) -> Result<(), Fail> {
             "repack,check,--,-d,--,--version",
             "order check,-d,--,--version",
         ),
+        (
+            "repack,make,18446744073709551615,4096,d,r,s",
+            "order make,18446744073709551615,4096,d,r,s",
+        ),
+        ("repack,make,+0,01,--,-d,,make", "order make,0,1,-d,,make"),
         ("repack,--version", "repack 0.1.0\n"),
         ("other,-V", "repack 0.1.0\n"),
     ];
@@ -258,4 +285,37 @@ fn an_output_name_is_given_twice(rt: HostRuntime) {
         (["d", "r", "s", "", "", ""], Some("")),
     ];
     assert_eq!(rt; other_repeat(&table), None);
+}
+
+// The place of the first row of names whose repeated one, of those to store, isn't the one beside it.
+fn other_made_repeat(table: &[([&str; 3], Option<&str>)]) -> Option<usize> {
+    for (i, &([domains, rows, scenario], wanted)) in table.iter().enumerate() {
+        let args = MakeArgs {
+            seed: 7,
+            size: 1,
+            outputs: InputArgs {
+                domains,
+                rows,
+                scenario,
+            },
+        };
+        if args.given_twice() != wanted {
+            return Some(i);
+        }
+    }
+    None
+}
+
+#[test]
+fn a_name_to_store_is_given_twice(rt: HostRuntime) {
+    let table = [
+        (["d", "r", "s"], None),
+        (["d", "./d", "D"], None),
+        (["7", "1", ""], None),
+        (["d", "d", "s"], Some("d")),
+        (["d", "r", "d"], Some("d")),
+        (["d", "r", "r"], Some("r")),
+        (["", "", ""], Some("")),
+    ];
+    assert_eq!(rt; other_made_repeat(&table), None);
 }

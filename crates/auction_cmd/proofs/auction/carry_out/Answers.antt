@@ -1,8 +1,9 @@
 -- The plan that the words are, and how it ends.
-use Rattle.std.proofs.Common.{◌≡◌, refl, sym}
-use Rattle.auction_cmd.specs.Ends.Ends.{Usage, Repeated, Ran, Checked, Verified}
-use Rattle.auction_cmd.specs.Words.{inputs_seen, names_seen, verify_seen}
-use Rattle.auction_cmd.proofs.PlanLemmas.{plan-none, plan-checks, plan-repeats, plan-runs, plan-verifies}
+use Rattle.std.proofs.Common.{map, refl, string_bytes, sym}
+use Rattle.auction_cmd.specs.Ends.Ends.{Usage, Repeated, Ran, Checked, Verified, Made}
+use Rattle.auction_cmd.specs.Words.{inputs_seen, make_seen, names_seen, verify_seen}
+use Rattle.auction_cmd.proofs.NumberLemmas.{command-sized}
+use Rattle.auction_cmd.proofs.PlanLemmas.{plan-none, plan-checks, plan-made_twice, plan-makes, plan-repeats, plan-runs, plan-verifies}
 use Rattle.auction_cmd.proofs.auction.carry_out.Goals as goal
 
 pub returns-in-Some : goal.returns-in-Some
@@ -25,3 +26,25 @@ returns-in-Ok-Verify g c =
 pub returns-in-Err-Refused : goal.returns-in-Err-Refused
 returns-in-Err-Refused g c =
     Usage _ (plan-none _ ((rw c.in-Err-Refused.field-0-is at c.in-Err-Refused.ensures.refused) tt)) c.without_record-in-Err-Refused.ensures.status c.without_record-in-Err-Refused.ensures.none c.say-in-Err-Refused.ensures.says refl refl
+
+pub make-requires-clause-some : goal.make-requires-clause-some
+make-requires-clause-some g c κs within =
+    let sized = command-sized (map string_bytes c.args.words.now) (make_seen c.in-Ok-Make.files) (rw c.in-Ok-Make.field-0-is at c.in-Ok-Make.ensures.order) in
+    sized.0
+
+pub make-requires-clause-most : goal.make-requires-clause-most
+make-requires-clause-most g c κs within =
+    let sized = command-sized (map string_bytes c.args.words.now) (make_seen c.in-Ok-Make.files) (rw c.in-Ok-Make.field-0-is at c.in-Ok-Make.ensures.order) in
+    sized.1
+
+pub returns-in-Some-given_twice : goal.returns-in-Some-given_twice
+returns-in-Some-given_twice g c =
+    Repeated c.in-Some-given_twice.name.now
+    (plan-made_twice _ (make_seen c.in-Ok-Make.files) c.in-Some-given_twice.name.now (rw c.in-Ok-Make.field-0-is at c.in-Ok-Make.ensures.order) c.in-Some-given_twice.ensures)
+    c.without_record-in-Some-given_twice.ensures.status c.without_record-in-Some-given_twice.ensures.none c.say-in-Some-given_twice.ensures.says refl refl
+
+pub returns-in-None-given_twice : goal.returns-in-None-given_twice
+returns-in-None-given_twice g c =
+    Made (make_seen c.in-Ok-Make.files)
+    (plan-makes _ (make_seen c.in-Ok-Make.files) (rw c.in-Ok-Make.field-0-is at c.in-Ok-Make.ensures.order) c.in-None-given_twice.ensures)
+    (sym c.in-None-given_twice.ensures) c.make.ensures

@@ -1,11 +1,20 @@
--- The words have no fault, so their command is the one that `clap` found.
-use Rattle.std.proofs.Common.{map, string_bytes}
+-- The words have no fault, so their command is the one that `clap` found; or `clap` has a fault for them.
+use Rattle.std.proofs.Common.{Some, None, map, string_bytes}
 use Rattle.clap.specs.Words.{app_of, subcommand_rows_of}
 use Rattle.auction_cmd.specs.Words.{order_seen}
-use Rattle.auction_cmd.proofs.WordsLemmas.{command-from}
+use Rattle.auction_cmd.proofs.WordsLemmas.{command-from, refused-from}
 use Rattle.auction_cmd.proofs.words.read_words.Goals as goal
 
 pub returns-in-Some-clause-order : goal.returns-in-Some-clause-order
 returns-in-Some-clause-order c =
-    command-from (app_of c.in-Ok.program) (map string_bytes c.args.words.now) (subcommand_rows_of c.in-Ok-try_get_matches_from.matches) (order_seen c.in-Some.order)
+    command-from (app_of c.in-Ok.program) (map string_bytes c.args.words.now) (subcommand_rows_of c.in-Ok-try_get_matches_from.matches) (Some (order_seen c.in-Some.order))
     c.in-Ok.ensures c.in-Ok-try_get_matches_from.ensures.kinds c.in-Ok-try_get_matches_from.ensures.matches c.in-Some.ensures
+
+pub returns-in-Err-clause-refused : goal.returns-in-Err-clause-refused
+returns-in-Err-clause-refused c = λ refused.
+    refused-from (app_of c.in-Ok.program) (map string_bytes c.args.words.now) c.in-Err.error c.in-Ok.ensures c.in-Err.ensures.kinds (c.fault_from.ensures refused)
+
+pub returns-clause-refused : goal.returns-clause-refused
+returns-clause-refused c = λ refused.
+    command-from (app_of c.in-Ok.program) (map string_bytes c.args.words.now) (subcommand_rows_of c.in-Ok-try_get_matches_from.matches) None
+    c.in-Ok.ensures c.in-Ok-try_get_matches_from.ensures.kinds c.in-Ok-try_get_matches_from.ensures.matches c.in-None.ensures

@@ -1,0 +1,135 @@
+-- How far `make` came, from how it ends.
+use Rattle.std.proofs.Common.{◌≡◌, ◌≢◌, ◌<◌, ◌∙◌, ℕ, true, inl, inr, List, [], ◌∷◌, length, sym, ap, subst, Option, Some, None}
+use Rattle.std.specs.Prelude.{Ok, MatchOption}
+use Rattle.outside_io.specs.Faults.{HasRisen}
+use Rattle.outside_io.specs.Files.{StoredFile}
+use Rattle.outside_io.specs.Loads.{Writes}
+use Rattle.outside_io.specs.declared.folder.StoreErr.TheVariants.{Failed, NoMemory}
+use Rattle.auction_core.specs.declared.record.Record.{Record}
+use Rattle.auction_core.specs.Backed.{undecided_of}
+use Rattle.scenario_make.specs.MadeFiles.{made_domains, made_rows, made_scenario_text}
+use Rattle.auction_cmd.specs.Delivery.{AreAllStored, AreStored, IsStored, NamedText, StopsAtOne}
+use Rattle.auction_cmd.specs.Delivery.IsNotStored.{Unwritten, OutOfRoom as NoRoom}
+use Rattle.auction_cmd.specs.Delivery.IsPrinted.{Written, CutShort}
+use Rattle.auction_cmd.specs.Ends.{MakeEnds}
+use Rattle.auction_cmd.specs.Ends.MakeEnds.{MakeStarved, MakeStopped, AuctionStarved, Carried}
+use Rattle.auction_cmd.specs.Made.{HasRun, made_inputs, made_texts}
+use Rattle.auction_cmd.specs.MakePromises.{AreAllMade, IsMadeRun, made_summary}
+use Rattle.auction_cmd.specs.Outside.{Outside, IsSaid}
+use Rattle.auction_cmd.specs.Records.{done_status}
+use Rattle.auction_cmd.specs.Says.{memory_line, unwritten_line}
+use Rattle.auction_cmd.specs.Words.{MakeNames, repeated_made}
+use Rattle.auction_cmd.proofs.DeliveryLemmas.{AreApart, IsPart, LeavesAll, LeavesPart, all-more, all-none, part-here, up-more}
+use Rattle.auction_cmd.proofs.OutputNames.{own-made}
+use Rattle.auction_cmd.proofs.SaysLemmas.{rises-before}
+
+-- ---- the stores
+
+-- behind stores the folder is as steady as before, and the sink is what it was
+record IsBehind (before between : Outside) : Type 0 where
+  pub steady : between.steady ≡ before.steady
+  pub held : between.held ≡ before.held
+  pub cuts : between.cuts ≡ before.cuts
+  pub sure : between.sure ≡ before.sure
+
+behind : (xs : List NamedText) (before between : Outside) → AreAllStored xs before between → IsBehind before between
+behind [] before between same = record {
+  steady = ap (λ (o : Outside). o.steady) same;
+  held = ap (λ (o : Outside). o.held) same;
+  cuts = ap (λ (o : Outside). o.cuts) same;
+  sure = ap (λ (o : Outside). o.sure) same;
+}
+behind (x ∷ xs) before between d =
+    let s : IsStored x before d.0 = d.1 in
+    let rest : IsBehind d.0 between = behind xs d.0 between d.2 in
+    record {
+      steady = rest.steady ∙ s.steady;
+      held = rest.held ∙ s.held;
+      cuts = rest.cuts ∙ s.cuts;
+      sure = rest.sure ∙ s.sure;
+    }
+
+stored-all : (xs : List NamedText) (before between : Outside) → AreAllStored xs before between → LeavesAll xs before between
+stored-all [] before between same = all-none before between (ap (λ (o : Outside). o.files) same)
+stored-all (x ∷ xs) before between d = all-more x xs before d.0 between d.1 (stored-all xs d.0 between d.2)
+
+-- How stores end that were not all done: one failed, or memory ran out at it.
+data Stopped (xs : List NamedText) (before after : Outside) (status : ℕ) : Type 0 where
+  Failing : (x : NamedText) → status ≡ 4 → LeavesPart xs x before after → HasRisen before.faults after.faults → before.steady ≢ true →
+      IsSaid before after (unwritten_line x.name) → Stopped xs before after status
+  Starving : (x : NamedText) → status ≡ 8 → LeavesPart xs x before after → IsSaid before after memory_line → Stopped xs before after status
+
+stopped-more : (x : NamedText) (xs : List NamedText) (before next after : Outside) (status : ℕ) → IsStored x before next → Stopped xs next after status → Stopped (x ∷ xs) before after status
+stopped-more x xs before next after status s (Failing y four part rises unsteady said) =
+    Failing y four (up-more x y xs before next after s part) (rises-before before.faults next.faults after.faults s.faults rises) (λ steady. unsteady (s.steady ∙ steady)) (rw (s.held, s.cuts) at said)
+stopped-more x xs before next after status s (Starving y eight part said) =
+    Starving y eight (up-more x y xs before next after s part) (rw (s.held, s.cuts) at said)
+
+stopped-of : (xs : List NamedText) (before after : Outside) (status : ℕ) → StopsAtOne xs before after status → Stopped xs before after status
+stopped-of [] before after status none = absurd none
+stopped-of (x ∷ xs) before after status (inl d) = stopped-more x xs before d.0 after status d.1 (stopped-of xs d.0 after status d.2)
+stopped-of (x ∷ xs) before after status (inr (Unwritten four stores rises unsteady said)) = Failing x four (part-here x xs Failed before after stores) rises unsteady said
+stopped-of (x ∷ xs) before after status (inr (NoRoom eight stores said)) = Starving x eight (part-here x xs NoMemory before after stores) said
+
+-- ---- how far it came
+
+-- of a told folder the texts were stored up to this one
+abbrev pub MakesPart : MakeNames → NamedText → Outside → Outside → Type 0
+MakesPart names x before after = (files : List StoredFile) → before.files ≡ Some files → IsPart files (made_texts names) x after
+
+-- of a told folder all of them were
+abbrev pub MakesAll : MakeNames → Outside → Outside → Type 0
+MakesAll names before after = (files : List StoredFile) → before.files ≡ Some files → AreAllMade files names after
+
+-- How far it came: nothing was stored; a store failed, or memory ran out at it; all was stored, and memory ran out; or the
+-- auction was carried out, and its summary written or not.
+pub data Reached (names : MakeNames) (before after : Outside) (status : ℕ) (found : Option Record) : Type 0 where
+  Nothing : status ≡ 8 → found ≡ None → after.files ≡ before.files → IsSaid before after memory_line → Reached names before after status found
+  OneFailed : (x : NamedText) → status ≡ 4 → found ≡ None → MakesPart names x before after → HasRisen before.faults after.faults → before.steady ≢ true →
+      IsSaid before after (unwritten_line x.name) → Reached names before after status found
+  OneStarved : (x : NamedText) → status ≡ 8 → found ≡ None → MakesPart names x before after → IsSaid before after memory_line → Reached names before after status found
+  AllStarved : status ≡ 8 → found ≡ None → MakesAll names before after → IsSaid before after memory_line → Reached names before after status found
+  Summed : (made : IsMadeRun names found) → MakesAll names before after → status ≡ done_status (undecided_of made.rec.steps) →
+      Writes before.held after.held (made_summary made) (Ok tt) → Reached names before after status found
+  Unsummed : (made : IsMadeRun names found) → MakesAll names before after → status ≡ 4 → HasRisen before.cuts after.cuts →
+      before.sure < length (made_summary made) → IsSaid before after (made_summary made) → Reached names before after status found
+
+abbrev made-run : (names : MakeNames) (found : Option Record) (rec : Record) (summary : List ℕ) → HasRun (made_inputs names.seed names.size) rec summary → found ≡ Some rec → IsMadeRun names found
+made-run names found rec summary run kept = record {
+  inputs = run.inputs;
+  accepted = run.accepted;
+  nobody = run.nobody;
+  rec = rec;
+  recorded = kept;
+  auction = run.auction;
+}
+
+module _ (names : MakeNames) (before after : Outside) (status : ℕ) (found : Option Record) where
+  apart : repeated_made names ≡ None → AreApart (made_texts names)
+  apart once = own-made names (made_domains names.size) (made_rows names.seed names.size) (made_scenario_text names.seed names.size) once
+
+  -- where all was stored before, and no file is touched behind
+  all-made : (between : Outside) → AreAllStored (made_texts names) before between → after.files ≡ between.files → repeated_made names ≡ None → MakesAll names before after
+  all-made between stored same once files told =
+      subst (λ o. MatchOption o ⊥ (λ new. AreStored files new (made_texts names))) (sym same) (stored-all (made_texts names) before between stored files told (apart once))
+
+  from-stopped : Stopped (made_texts names) before after status → found ≡ None → repeated_made names ≡ None → Reached names before after status found
+  from-stopped (Failing x four part rises unsteady said) none once = OneFailed x four none (λ files told. part files told (apart once)) rises unsteady said
+  from-stopped (Starving x eight part said) none once = OneStarved x eight none (λ files told. part files told (apart once)) said
+
+  pub reached : MakeEnds names before after status found → repeated_made names ≡ None → Reached names before after status found
+  reached (MakeStarved s) once = Nothing s.status_is s.found_is s.files s.line
+  reached (MakeStopped stops none) once = from-stopped (stopped-of (made_texts names) before after status stops) none once
+  reached (AuctionStarved between stored s) once =
+      let b = behind (made_texts names) before between stored in
+      AllStarved s.status_is s.found_is (all-made between stored s.files once) (rw (b.held, b.cuts) at s.line)
+  reached (Carried between rec summary stored run kept (Written is same writes)) once =
+      let b = behind (made_texts names) before between stored in
+      Summed (made-run names found rec summary run kept) (all-made between stored same once) is
+      (subst (λ z. Writes before.held after.held z (Ok tt)) run.summary_is (subst (λ z. Writes z after.held summary (Ok tt)) b.held writes))
+  reached (Carried between rec summary stored run kept (CutShort four same rises less said)) once =
+      let b = behind (made_texts names) before between stored in
+      Unsummed (made-run names found rec summary run kept) (all-made between stored same once) four
+      (subst (λ z. HasRisen z after.cuts) b.cuts rises)
+      (subst (λ z. before.sure < length z) run.summary_is (subst (λ z. z < length summary) b.sure less))
+      (subst (λ z. IsSaid before after z) run.summary_is (rw (b.held, b.cuts) at said))

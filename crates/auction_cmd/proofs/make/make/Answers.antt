@@ -1,0 +1,43 @@
+-- Each end, from what its steps did: the bytes that are stored and read are the made files.
+use Rattle.std.proofs.Common.{◌∙◌, refl}
+use Rattle.auction_cmd.specs.Delivery.IsPrinted.{Written, CutShort}
+use Rattle.auction_cmd.specs.Ends.MakeEnds.{MakeStopped, AuctionStarved, Carried}
+use Rattle.auction_cmd.proofs.EndLemmas.{cut-over}
+use Rattle.auction_cmd.proofs.SaysLemmas.{says-write}
+use Rattle.auction_cmd.proofs.make.make.Goals as goal
+
+pub returns-in-Err : goal.returns-in-Err
+returns-in-Err g c =
+    let files = c.in-Ok.ensures.files in
+    rw c.without_record.ensures.status
+    (MakeStopped (rw (files.0, files.1, files.2) at c.in-Err.ensures.stopped) c.without_record.ensures.none)
+
+pub returns-in_default-carry_out : goal.returns-in_default-carry_out
+returns-in_default-carry_out g c =
+    let files = c.in-Ok.ensures.files in
+    AuctionStarved _ (rw (files.0, files.1, files.2) at c.in_default-store_files.ensures.stored) (record {
+      status_is = c.starve-in_default-carry_out.ensures.status;
+      found_is = c.starve-in_default-carry_out.ensures.none;
+      line = c.starve-in_default-carry_out.ensures.line;
+      files = refl;
+    })
+
+pub returns-in-Ok-write : goal.returns-in-Ok-write
+returns-in-Ok-write g c =
+    let files = c.in-Ok.ensures.files in
+    Carried _ c.in-Ok-carry_out.carried.record c.in-Ok-carry_out.carried.summary.items
+    (rw (files.0, files.1, files.2) at c.in_default-store_files.ensures.stored)
+    (rw (files.0, files.1, files.2) at c.in-Ok-carry_out.ensures)
+    c.with_record.ensures.kept
+    (Written (c.with_record.ensures.status ∙ c.done_status-done.ensures) refl (rw c.deref.ensures.value at c.in-Ok-write.ensures.told))
+
+pub returns : goal.returns
+returns g c =
+    let files = c.in-Ok.ensures.files in
+    Carried _ c.in-Ok-carry_out.carried.record c.in-Ok-carry_out.carried.summary.items
+    (rw (files.0, files.1, files.2) at c.in_default-store_files.ensures.stored)
+    (rw (files.0, files.1, files.2) at c.in-Ok-carry_out.ensures)
+    c.with_record-in-Err-write.ensures.kept
+    (CutShort c.with_record-in-Err-write.ensures.status refl c.in-Err-write.ensures.failed
+    (cut-over _ _ _ (rw c.deref.ensures.value at c.in-Err-write.ensures.surely))
+    (says-write _ _ _ _ _ _ (rw c.deref.ensures.value at c.in-Err-write.ensures.told) c.in-Err-write.ensures.failed))

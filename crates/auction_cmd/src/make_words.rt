@@ -1,0 +1,138 @@
+//! The words of `make`: a seed, a size and the names of the files to store.
+
+ghost use Rattle.std.specs.Prelude.{◌≡◌, IfOk, false, option_map};
+ghost use Rattle.clap.specs.Words.{app_of, found_of, new_app, rows_of, rule_of};
+ghost use Rattle.clap.specs.declared.builder.command.Command.TheViews.{out-Command};
+ghost use Rattle.auction_cmd.specs.Words.{is_repeated_among, made_names, make_app, make_names, make_seen, number_rule, number_within, numbers_app, repeated_made, seed_limit, size_limit};
+
+use crate::words::{InputArgs, input_args, required, times_in, value_of};
+use clap::builder::ValueParser;
+use clap::{Arg, ArgMatches, Command};
+use std::alloc::{AllocError, Global};
+
+/// The most stations that a made auction has.
+const SIZE_LIMIT: u32 = 4_096;
+
+/// The arguments of `make`, as they are given.
+#[derive(Clone, Copy, Debug, PartialEq, Eq)]
+pub struct MakeArgs<'a> {
+    /// The number that the auction is made from.
+    pub seed: u64,
+    /// How many stations it has, 1 to 4,096.
+    pub size: u32,
+    /// The files to store: the domains, the rows and the scenario.
+    pub outputs: InputArgs<'a>,
+}
+
+impl<'a> MakeArgs<'a> {
+    /// The first name, in the order of the arguments, that is given more than once. Names are compared byte by byte, so `a`
+    /// and `./a` differ.
+    #[tactic(auto, unfolding(crate::specs::Words::repeated_made))]
+    pub fn given_twice(&self) -> Option<&'a str>
+        ensures { option_map (λ name. name.now) result ≡ repeated_made (make_seen self.now) }
+    {
+        let outputs = self.outputs;
+        if self.is_repeated(outputs.domains) {
+            Some(outputs.domains)
+        } else if self.is_repeated(outputs.rows) {
+            Some(outputs.rows)
+        } else if self.is_repeated(outputs.scenario) {
+            Some(outputs.scenario)
+        } else {
+            None
+        }
+    }
+
+    // Whether this name is given more than once.
+    fn is_repeated(&self, name: &str) -> bool
+        ensures { result ≡ is_repeated_among (made_names (make_seen self.now)) name.now }
+    {
+        let outputs = self.outputs;
+        let given = [outputs.domains, outputs.rows, outputs.scenario];
+        times_in(&given, name) > 1
+    }
+}
+
+// An argument that has to be given, and is a number from the least to the most, with its line of help.
+fn number<'a>(alloc: Global, name: &'a str, least: u64, most: u64, help: &'a str) -> Arg<'a>
+    ensures rule { rule_of result ≡ number_rule name.entry.now least most }
+    ensures local { result.global ≡ false }
+{
+    required(alloc, name, help).value_parser(ValueParser::unsigned(least, most))
+}
+
+// A command that takes the two numbers.
+fn numbers_command<'a>(alloc: Global) -> Result<Command<'a>, AllocError>
+    ensures app { IfOk result (λ c. app_of c ≡ numbers_app) }
+    ensures local { IfOk result (λ c. (out-Command c).has_globals ≡ false) }
+{
+    Command::new(alloc, "make")
+        .about("Makes an auction from a number, stores its files and runs it")
+        .arg(number(
+            alloc,
+            "SEED",
+            0,
+            u64::MAX,
+            "The number to make it from: the same one makes the same files",
+        ))?
+        .arg(number(
+            alloc,
+            "SIZE",
+            1,
+            u64::from(SIZE_LIMIT),
+            "How many stations it has, 1 to 4096",
+        ))
+}
+
+pub(crate) fn make_command<'a>(alloc: Global) -> Result<Command<'a>, AllocError>
+    ensures app { IfOk result (λ c. app_of c ≡ make_app) }
+    ensures local { IfOk result (λ c. (out-Command c).has_globals ≡ false) }
+{
+    numbers_command(alloc)?
+        .arg(required(
+            alloc,
+            "DOMAINS",
+            "Where to store the channels of each station",
+        ))?
+        .arg(required(alloc, "ROWS", "Where to store what interferes"))?
+        .arg(required(alloc, "SCENARIO", "Where to store the auction's scenario"))
+}
+
+// The seed that this text is.
+fn seed_in(text: &str) -> Option<u64>
+    ensures { result ≡ number_within 0 seed_limit text.now }
+{
+    match text.parse::<u64>() {
+        Ok(seed) => Some(seed),
+        Err(_) => None,
+    }
+}
+
+// The size that this text is.
+fn size_in(text: &str) -> Option<u32>
+    ensures { result ≡ number_within 1 size_limit text.now }
+{
+    let Ok(size) = text.parse::<u32>() else {
+        return None;
+    };
+    if size < 1 {
+        return None;
+    }
+    if size > SIZE_LIMIT {
+        return None;
+    }
+    Some(size)
+}
+
+pub(crate) fn make_args<'a>(matches: &ArgMatches<'a>) -> Option<MakeArgs<'a>>
+    ensures { option_map make_seen result ≡ make_names (rows_of (found_of matches.now)) }
+{
+    let seed = seed_in(value_of(matches, "SEED")?)?;
+    let size = size_in(value_of(matches, "SIZE")?)?;
+    let outputs = input_args(matches)?;
+    Some(MakeArgs {
+        seed,
+        size,
+        outputs,
+    })
+}
