@@ -21,3 +21,4 @@ pub mod Stays
 pub mod Ahead
 pub mod Cuts
 pub mod Fed
+pub mod NumeralLemmas

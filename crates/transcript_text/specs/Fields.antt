@@ -1,12 +1,13 @@
 -- Lines and fields of a transcript, taken one after the other.
-use Rattle.std.specs.Prelude.{ℕ, Bool, true, false, not, ◌+◌, ◌==◌, nat_lt, nat_le, if◌then◌else◌, List, [], ◌∷◌, length, Option, Some, None, Result, Ok, Err}
-use Rattle.std.specs.Str.{bytes_eq}
+use Rattle.std.specs.Prelude.{ℕ, Bool, true, false, not, ◌≡◌, ◌<◌, ◌≤◌, get_or, ◌+◌, ◌==◌, nat_lt, nat_le, if◌then◌else◌, List, [], ◌∷◌, length, Option, Some, None, Result, Ok, Err}
+use Rattle.std.specs.Str.{all_ascii_digits, bytes_eq}
 use Rattle.pack_defs.specs.Lists.{is_empty, is_in}
 use Rattle.pack_defs.specs.declared.scenario.Scenario.{Scenario}
 use Rattle.pack_defs.specs.Scenario.{facilities}
 use Rattle.lrat_text.specs.declared.field.Field.{Field}
 use Rattle.lrat_text.specs.Lines.{fields_of}
 use Rattle.lrat_text.specs.LogReading.{natural, field_of}
+use Rattle.lrat_text.specs.LogText.{greatest}
 use Rattle.transcript_text.specs.declared.error.TextErr.{TextErr}
 use Rattle.transcript_text.specs.declared.error.TextErr.TheVariants.{BadLine, Truncated}
 use Rattle.transcript_text.specs.Steps.{◌>>=◌}
@@ -65,6 +66,10 @@ plain_number most field = if is_plain field then natural most field else None
 -- what a field of a log's line says
 unfoldable pub plain_field : List ℕ → Option Field
 plain_field field = if is_plain field then field_of field else None
+
+-- these digits say this number from 1, and no 0 stands before them
+abbrev pub IsNumeral : List ℕ → ℕ → Type 0
+IsNumeral digits n = (0 < length digits) × (48 < get_or digits 0 0) × (all_ascii_digits digits ≡ true) × (natural greatest digits ≡ Some n) × (1 ≤ n)
 
 -- a number in the next field, at most this
 unfoldable pub number_at : ℕ → FieldsLeft → Result (ℕ × FieldsLeft) TextErr

@@ -8,6 +8,7 @@ mod fields;
 mod head;
 mod heads;
 pub mod laws;
+mod log_field;
 mod log_lines;
 mod on_air;
 mod parts;
