@@ -6,7 +6,7 @@ ghost use Rattle.pack_defs.specs.Book.{AreInOrder, is_of_two, pairs_ascend, stat
 ghost use Rattle.pack_defs.specs.Lists.{is_ascending};
 ghost use Rattle.pack_defs.specs.Scenario.{IsWithinLimits, IsWorkerWithinLimits, facilities, is_prover};
 
-use cert_types::answer::{Answer, Receipt};
+use cert_types::answer::{Answer, Receipt, Refutation};
 use clause_db::lit::Lit;
 use pack_defs::book::Book;
 use pack_defs::channel_map::ChannelMap;
@@ -24,10 +24,27 @@ use std::alloc::{AllocError as NoMemory, Global};
 // What a worker answers.
 #[derive(Clone, Copy)]
 pub(crate) enum Given {
+    // No channel.
+    FitNothing,
     // A channel for a station.
     Fit(u32, u8),
+    // These channels for stations 1 and 2.
+    FitTwo(u8, u8),
+    // A pair that is said to be dead.
+    Dead(Pair),
+    // A proof of no station: an empty line without hints.
+    EmptyProof,
     // One line was derived.
     Spent,
+    // A station was moved to a channel.
+    Moved(u32, u8),
+}
+
+// An empty line without hints.
+fn empty_line(alloc: Global) -> Result<Log, NoMemory> {
+    let mut lines = Lines::new(alloc);
+    lines.push(&[], &[])?;
+    Ok(Log { lines })
 }
 
 // 13 -1 0 7 2 8 3 12 0
@@ -43,10 +60,24 @@ fn one_line(alloc: Global) -> Result<Log, NoMemory> {
 
 pub(crate) fn answer(alloc: Global, given: Given) -> Result<Answer, NoMemory> {
     match given {
+        Given::FitNothing => Ok(Answer::Fit(ChannelMap::of(alloc, &[])?)),
         Given::Fit(station, channel) => {
             Ok(Answer::Fit(ChannelMap::of(alloc, &[(station, channel)])?))
         }
+        Given::FitTwo(first, second) => {
+            Ok(Answer::Fit(ChannelMap::of(alloc, &[(1, first), (2, second)])?))
+        }
+        Given::Dead(pair) => Ok(Answer::Refuted(Refutation::Dead(pair))),
+        Given::EmptyProof => {
+            let subset = Items::from_vec(Vec::new(alloc));
+            let log = empty_line(alloc)?;
+            Ok(Answer::Refuted(Refutation::Proof { subset, log }))
+        }
         Given::Spent => Ok(Answer::Spent(Receipt::Lines(one_line(alloc)?))),
+        Given::Moved(station, channel) => {
+            let moves = Items::from_vec(vec![in alloc; (station, channel)]?);
+            Ok(Answer::Spent(Receipt::Moves(moves)))
+        }
     }
 }
 

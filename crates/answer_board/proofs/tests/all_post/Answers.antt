@@ -7,18 +7,18 @@ use Rattle.turn_lock.specs.Passes.{IsIdle, standing}
 use Rattle.turn_lock.proofs.PassLists.{all_at, all_each, each_all, own_at}
 use Rattle.answer_board.specs.Boards.{IsPassOn, kept_base, kept_entries}
 use Rattle.answer_board.proofs.Crosses.{board-sync, captured-sync, pass-send}
-use Rattle.std.specs.contracts.sync.atomic.AtomicU64 as AtomicU64
-use Rattle.answer_board.proofs.tests.all_post_late.Goals as goal
+use Rattle.answer_board.specs.contracts.tests.Counts as Counts
+use Rattle.answer_board.proofs.tests.all_post.Goals as goal
 
-count-sync : IsSync AtomicU64.the_row
-count-sync = search (crosses, sendable) depth 20
+counts-sync : IsSync Counts.the_row
+counts-sync = search (crosses, sendable) depth 20
 
 pub for_each_mut-requires-send-T : goal.for_each_mut-requires-send-T
 for_each_mut-requires-send-T g c κs within = param_send 1 _ (arg_send _ no _ pass-send)
 
 pub for_each_mut-requires-sync-F : goal.for_each_mut-requires-sync-F
 for_each_mut-requires-sync-F g c κs within =
-    param_sync 2 _ (arg_sync _ no _ (captured-sync _ _ _ _ _ _ _ _ _ _ _ _ _ c.type_bounds.sync-W sync board-sync count-sync))
+    param_sync 2 _ (arg_sync _ no _ (captured-sync _ _ _ _ _ _ _ _ _ _ _ _ _ c.type_bounds.sync-W sync board-sync counts-sync))
 
 pub for_each_mut-requires-clause-accepts : goal.for_each_mut-requires-clause-accepts
 for_each_mut-requires-clause-accepts g c κs within = λ i p lt is. (
