@@ -2,6 +2,7 @@
 //!
 //! A row has what a run is given (`scene`) and facts of what it leaves (`told`), as plain text: so no test holds an auction.
 
+mod bad_files;
 mod checked;
 mod made;
 mod refused;

@@ -99,6 +99,11 @@ fn the_folder_or_the_sink_fails(rt: HostRuntime) -> Result<(), Fail> {
             fails(Change::Write(1)),
             "status 4; nothing said; d.csv: DOMAIN,1,14,15,16,17\n; r.csv: ; inputs changed; a record; ending: done; on air: 1",
         ),
+        // Where the line of a fault can't be written either, the status stays.
+        (
+            fails(Change::Mute(1)),
+            "status 4; nothing said; r.csv: old rows; no record; faults: 1",
+        ),
         // The summary is one write, so a second one is never made.
         (
             fails(Change::Write(2)),

@@ -7,8 +7,8 @@ use std::sync::Wait;
 use std::test::Fail;
 use std::thread::Threads;
 
-// Whether both commands refuse these inputs with this line, and store nothing.
-fn are_refused<W: Threads + Wait + Sync>(
+/// Whether `run` and `check` refuse these inputs with this line, and store nothing.
+pub fn are_refused<W: Threads + Wait + Sync>(
     rt: &W,
     alloc: Global,
     scene: Scene<'_>,
@@ -28,86 +28,8 @@ fn are_refused<W: Threads + Wait + Sync>(
     Ok(leaves(rt, alloc, &run, &facts)? && leaves(rt, alloc, &check, &facts)?)
 }
 
-// The three stations with this text in the domains, and no rows; or with it in the rows.
-fn scene_of<'a>(name: &str, text: &'a str) -> Scene<'a> {
-    if name == "d.csv" {
-        return Scene {
-            domains: text,
-            rows: "",
-            ..RUN
-        };
-    }
-    Scene { rows: text, ..RUN }
-}
-
-// The line of the first row whose file isn't refused with it.
-fn first_file_let_through<'a, W: Threads + Wait + Sync>(
-    rt: &W,
-    alloc: Global,
-    table: &[(&str, &'a str, &'a str)],
-) -> Result<Option<&'a str>, NoMemory> {
-    for &(name, text, line) in table {
-        if !are_refused(rt, alloc, scene_of(name, text), line)? {
-            return Ok(Some(line));
-        }
-    }
-    Ok(None)
-}
-
-#[test]
-fn rows_are_refused(rt: HostRuntime) -> Result<(), Fail> {
-    let table = [
-        ("d.csv", "DOMAIN\n", "d.csv: line 1: short row\n"),
-        ("d.csv", "\nDOMAINS,1,14\n", "d.csv: line 2: unknown key\n"),
-        (
-            "d.csv",
-            "DOMAIN,1,14\nDOMAIN,x,14\n",
-            "d.csv: line 2: bad number\n",
-        ),
-        (
-            "d.csv",
-            "DOMAIN,1,52\n",
-            "d.csv: line 1: channel out of range\n",
-        ),
-        (
-            "d.csv",
-            "DOMAIN,1,14\nDOMAIN,1,15\n",
-            "d.csv: line 2: second domain row\n",
-        ),
-        ("d.csv", "", "d.csv: no domain row for station 1\n"),
-        (
-            "d.csv",
-            "DOMAIN,1,14\nDOMAIN,3,14\n",
-            "d.csv: no domain row for station 2\n",
-        ),
-        ("r.csv", "CO,14,14\n", "r.csv: line 1: short row\n"),
-        (
-            "r.csv",
-            "CO,14,14,1,2\nXO,14,14,1,2\n",
-            "r.csv: line 2: unknown key\n",
-        ),
-        (
-            "r.csv",
-            "CO,14,14,1,100000000000000000000000000000\n",
-            "r.csv: line 1: bad number\n",
-        ),
-        (
-            "r.csv",
-            "CO,1,1,1,2\n",
-            "r.csv: line 1: channel out of range\n",
-        ),
-        (
-            "r.csv",
-            "ADJ+1,14,16,1,2\n",
-            "r.csv: line 1: channels do not fit the key\n",
-        ),
-    ];
-    assert_eq!(rt; first_file_let_through(&rt, rt.alloc(), &table)?, None);
-    Ok(())
-}
-
 // The line of the first row whose change of the inputs isn't refused with it.
-fn first_change_let_through<'a, W: Threads + Wait + Sync>(
+fn first_let_through<'a, W: Threads + Wait + Sync>(
     rt: &W,
     alloc: Global,
     table: &[(Change<'_>, &'a str)],
@@ -121,65 +43,90 @@ fn first_change_let_through<'a, W: Threads + Wait + Sync>(
     Ok(None)
 }
 
+// Changes of the inputs, and the line of each. More of them stand in `bad_files`.
+const REFUSED: &[(Change<'static>, &str)] = &[
+    (
+        Change::Holds("d.csv", "\nDOMAINS,1,14\n"),
+        "d.csv: line 2: unknown key\n",
+    ),
+    (
+        Change::Holds("d.csv", "DOMAIN,1,14\nDOMAIN,x,14\n"),
+        "d.csv: line 2: bad number\n",
+    ),
+    (
+        Change::Holds("d.csv", "DOMAIN,1,14\nDOMAIN,1,15\n"),
+        "d.csv: line 2: second domain row\n",
+    ),
+    (
+        Change::Holds("d.csv", ""),
+        "d.csv: no domain row for station 1\n",
+    ),
+    (
+        Change::Holds("d.csv", "DOMAIN,1,14\nDOMAIN,3,14\n"),
+        "d.csv: no domain row for station 2\n",
+    ),
+    (
+        Change::Holds("r.csv", "CO,14,14,1,2\nXO,14,14,1,2\n"),
+        "r.csv: line 2: unknown key\n",
+    ),
+    (
+        Change::Holds("r.csv", "CO,14,14,1,100000000000000000000000000000\n"),
+        "r.csv: line 1: bad number\n",
+    ),
+    (
+        Change::Holds("r.csv", "CO,1,1,1,2\n"),
+        "r.csv: line 1: channel out of range\n",
+    ),
+    (
+        Change::Holds("r.csv", "ADJ+1,14,16,1,2\n"),
+        "r.csv: line 1: channels do not fit the key\n",
+    ),
+    (
+        Change::Part("\"version\":1,", ""),
+        "s.json: missing version\n",
+    ),
+    (
+        Change::Part("\"top\":15", "\"top\":\"15\""),
+        "s.json: wrong kind top\n",
+    ),
+    (
+        Change::Part("\"opening\":100", "\"opening\":0"),
+        "s.json: out of limit opening\n",
+    ),
+    (
+        Change::Part("[40,40]", "[40,0]"),
+        "s.json: out of limit decrements at 2\n",
+    ),
+    (
+        Change::Part("[40,40]", "[60,41]"),
+        "s.json: decrements exceed the opening\n",
+    ),
+    (
+        Change::Part("\"cdcl\"", "\"walker\""),
+        "s.json: out of limit kind at 1\n",
+    ),
+    (
+        Change::Part("\"id\":2", "\"id\":1"),
+        "s.json: repeated station 1\n",
+    ),
+    (
+        Change::Part("{\"id\":1,\"volume\":1,", "{\"id\":1,\"volume\":1000001,"),
+        "s.json: out of limit volume at 1\n",
+    ),
+    (
+        Change::Part("\"value\":50", "\"value\":100000000000000000000000000000"),
+        "s.json: wrong kind value at 1\n",
+    ),
+    (Change::Part("{\"id\":3,", "{"), "s.json: missing id at 3\n"),
+    // Bytes that are no text.
+    (Change::Garbled("d.csv"), "d.csv: line 1: unknown key\n"),
+    (Change::Garbled("r.csv"), "r.csv: line 1: short row\n"),
+    (Change::Garbled("s.json"), "s.json: not JSON\n"),
+];
+
 #[test]
-fn scenarios_and_bytes_are_refused(rt: HostRuntime) -> Result<(), Fail> {
-    let table = [
-        (Change::Part("}]}", "}]"), "s.json: not JSON\n"),
-        (
-            Change::Part("\"version\":1,", ""),
-            "s.json: missing version\n",
-        ),
-        (
-            Change::Part("\"top\":15", "\"top\":\"15\""),
-            "s.json: wrong kind top\n",
-        ),
-        (
-            Change::Part("\"opening\":100", "\"opening\":0"),
-            "s.json: out of limit opening\n",
-        ),
-        (
-            Change::Part("[40,40]", "[40,0]"),
-            "s.json: out of limit decrements at 2\n",
-        ),
-        (
-            Change::Part("[40,40]", "[60,41]"),
-            "s.json: decrements exceed the opening\n",
-        ),
-        (
-            Change::Part("\"cdcl\"", "\"walker\""),
-            "s.json: out of limit kind at 1\n",
-        ),
-        (
-            Change::Part("\"cdcl\"", "\"walk\""),
-            "s.json: no cdcl worker\n",
-        ),
-        (
-            Change::Part("[{\"kind\":\"cdcl\",\"budget\":1000}]", "[]"),
-            "s.json: out of limit workers\n",
-        ),
-        (
-            Change::Part("\"id\":2", "\"id\":1"),
-            "s.json: repeated station 1\n",
-        ),
-        (
-            Change::Part("{\"id\":1,\"volume\":1,", "{\"id\":1,\"volume\":1000001,"),
-            "s.json: out of limit volume at 1\n",
-        ),
-        (
-            Change::Part("\"value\":50", "\"value\":100000000000000000000000000000"),
-            "s.json: wrong kind value at 1\n",
-        ),
-        (Change::Part("{\"id\":3,", "{"), "s.json: missing id at 3\n"),
-        (
-            Change::Holds("s.json", "[]"),
-            "s.json: wrong kind scenario\n",
-        ),
-        // Bytes that are no text.
-        (Change::Garbled("d.csv"), "d.csv: line 1: unknown key\n"),
-        (Change::Garbled("r.csv"), "r.csv: line 1: short row\n"),
-        (Change::Garbled("s.json"), "s.json: not JSON\n"),
-    ];
-    assert_eq!(rt; first_change_let_through(&rt, rt.alloc(), &table)?, None);
+fn inputs_are_refused(rt: HostRuntime) -> Result<(), Fail> {
+    assert_eq!(rt; first_let_through(&rt, rt.alloc(), REFUSED)?, None);
     Ok(())
 }
 

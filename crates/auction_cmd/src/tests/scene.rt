@@ -33,6 +33,10 @@ pub enum Change<'a> {
     Stops(&'a str, &'a str, u64),
     // The sink's write of this number fails.
     Write(u64),
+    // The folder's call of this number and the sink's first write fail.
+    Mute(u64),
+    // Each output holds this text before the run, and the folder's call of this number fails.
+    Over(&'a str, u64),
 }
 
 // What a run is given: the words with a blank between each two, the texts of two inputs, the parts of the third, a
@@ -112,8 +116,18 @@ fn add(
     Ok(())
 }
 
-// The inputs.
-fn inputs_of(alloc: Global, scene: &Scene<'_>) -> Result<Vec<MemoryFile>, NoMemory> {
+// Puts the outputs of a run before to the files, where there was one.
+fn add_outputs(files: &mut Vec<MemoryFile>, change: Change<'_>) -> Result<(), NoMemory> {
+    if let Change::Over(text, _) = change {
+        add(files, change, "out.csv", text)?;
+        add(files, change, "chan.csv", text)?;
+        add(files, change, "tr.txt", text)?;
+    }
+    Ok(())
+}
+
+// The files before the run.
+fn files_of(alloc: Global, scene: &Scene<'_>) -> Result<Vec<MemoryFile>, NoMemory> {
     let scenario = scenario_of(alloc, scene)?;
     let mut files = Vec::new(alloc);
     add(&mut files, scene.change, "d.csv", scene.domains)?;
@@ -122,6 +136,7 @@ fn inputs_of(alloc: Global, scene: &Scene<'_>) -> Result<Vec<MemoryFile>, NoMemo
     if let Some(text) = scene.transcript {
         add(&mut files, scene.change, "tr.txt", text)?;
     }
+    add_outputs(&mut files, scene.change)?;
     Ok(files)
 }
 
@@ -134,22 +149,44 @@ fn words_of(alloc: Global, line: &str) -> Result<Vec<String>, NoMemory> {
     Ok(words)
 }
 
+// The number of the folder's call that fails, if one does.
+fn failing_call(change: Change<'_>) -> Option<u64> {
+    match change {
+        Change::Call(call)
+        | Change::Stops(_, _, call)
+        | Change::Mute(call)
+        | Change::Over(_, call) => Some(call),
+        _ => None,
+    }
+}
+
+// The number of the sink's write that fails, if one does.
+fn failing_write(change: Change<'_>) -> Option<u64> {
+    match change {
+        Change::Write(write) => Some(write),
+        Change::Mute(_) => Some(1),
+        _ => None,
+    }
+}
+
+// The list of this number, or of none.
+fn list_of(alloc: Global, number: Option<u64>) -> Result<Vec<u64>, NoMemory> {
+    match number {
+        Some(number) => Vec::from_slice(alloc, &[number]),
+        None => Ok(Vec::new(alloc)),
+    }
+}
+
 // The folder of a scene.
 fn folder_of(alloc: Global, scene: &Scene<'_>) -> Result<MemoryFolder, NoMemory> {
-    let files = inputs_of(alloc, scene)?;
-    let failing = match scene.change {
-        Change::Call(call) | Change::Stops(_, _, call) => Vec::from_slice(alloc, &[call])?,
-        _ => Vec::new(alloc),
-    };
+    let files = files_of(alloc, scene)?;
+    let failing = list_of(alloc, failing_call(scene.change))?;
     Ok(MemoryFolder::new(files, failing))
 }
 
 // The sink of a scene.
 fn sink_of(alloc: Global, change: Change<'_>) -> Result<MemorySink, NoMemory> {
-    let failing = match change {
-        Change::Write(write) => Vec::from_slice(alloc, &[write])?,
-        _ => Vec::new(alloc),
-    };
+    let failing = list_of(alloc, failing_write(change))?;
     MemorySink::new(alloc, 9_999, failing)
 }
 
@@ -199,9 +236,9 @@ fn counted_text(
     scene: &Scene<'_>,
     folder: &MemoryFolder,
 ) -> Result<String, NoMemory> {
-    match scene.change {
-        Change::Call(_) | Change::Stops(_, _, _) => faults_text(alloc, folder),
-        _ => String::from_str(alloc, "no call fails"),
+    match failing_call(scene.change) {
+        Some(_) => faults_text(alloc, folder),
+        None => String::from_str(alloc, "no call fails"),
     }
 }
 

@@ -14,8 +14,8 @@ pub const CHECKED: Scene<'static> = Scene {
     ..RUN
 };
 
-// Whether the check of the scene's transcript with this part changed leaves what these facts say.
-fn leaves_changed<W: Threads + Wait + Sync>(
+/// Whether the check of the scene, over the three stations' transcript with this part changed, leaves what these facts say.
+pub fn leaves_changed<W: Threads + Wait + Sync>(
     rt: &W,
     alloc: Global,
     scene: &Scene<'_>,
@@ -117,8 +117,8 @@ const BY_VOLUME: &str =
 const FROM_AIR: &str =
     "transcript 1\nstart fit 1\nat 2 14\nfit 1 1 1\nat 1 15\nfit 1 3 1\nat 3 15\nsame 2 1\nlog 2 3 0 2\non 1 2 3\n13 -1 0 7 2 8 3 12 0\n14 0 13 1 9 2 10 3 11 0\nend 4\n";
 
-// The check of a transcript on one station below whose only channel the top lies.
-const ONE: Scene<'static> = Scene {
+/// The check of a transcript on one station below whose only channel the top lies.
+pub const ONE: Scene<'static> = Scene {
     domains: "DOMAIN,1,40\n",
     rows: "",
     clock: "\"top\":36,\"opening\":100,\"decrements\":[]",
@@ -228,72 +228,103 @@ fn first_untrue_change<'a, W: Threads + Wait + Sync>(
     Ok(None)
 }
 
+// Changes of the check of the three stations' transcript, and what is left.
+const CHANGES: &[(Change<'static>, &str)] = &[
+    (
+        Change::Missing("d.csv"),
+        "status 3; said: cannot read d.csv\n; no record",
+    ),
+    (
+        Change::Missing("r.csv"),
+        "status 3; said: cannot read r.csv\n; no record",
+    ),
+    (
+        Change::Missing("s.json"),
+        "status 3; said: cannot read s.json\n; no record",
+    ),
+    (
+        Change::Missing("tr.txt"),
+        "status 3; said: cannot read tr.txt\n; no record; nothing stored",
+    ),
+    // Domains, rows and the transcript are begun and handed out in pieces, of which the last is empty; the scenario is one
+    // load.
+    (
+        Change::Call(1),
+        "status 3; said: cannot read d.csv\n; no out.csv; no chan.csv; no record; inputs kept; faults: 1",
+    ),
+    (
+        Change::Call(2),
+        "status 3; said: cannot read d.csv\n; no out.csv; no chan.csv; no record; inputs kept; faults: 1",
+    ),
+    (
+        Change::Call(3),
+        "status 3; said: cannot read d.csv\n; no out.csv; no chan.csv; no record; inputs kept; faults: 1",
+    ),
+    (
+        Change::Call(4),
+        "status 3; said: cannot read r.csv\n; no out.csv; no chan.csv; no record; inputs kept; faults: 1",
+    ),
+    (
+        Change::Call(5),
+        "status 3; said: cannot read r.csv\n; no out.csv; no chan.csv; no record; inputs kept; faults: 1",
+    ),
+    (
+        Change::Call(6),
+        "status 3; said: cannot read r.csv\n; no out.csv; no chan.csv; no record; inputs kept; faults: 1",
+    ),
+    (
+        Change::Call(7),
+        "status 3; said: cannot read s.json\n; no out.csv; no chan.csv; no record; inputs kept; faults: 1",
+    ),
+    (
+        Change::Call(8),
+        "status 3; said: cannot read tr.txt\n; no out.csv; no chan.csv; no record; inputs kept; faults: 1",
+    ),
+    (
+        Change::Call(9),
+        "status 3; said: cannot read tr.txt\n; no out.csv; no chan.csv; no record; inputs kept; faults: 1",
+    ),
+    (
+        Change::Call(10),
+        "status 3; said: cannot read tr.txt\n; no out.csv; no chan.csv; no record; inputs kept; faults: 1",
+    ),
+    // A fault of the text is told once it has been read to its end.
+    (
+        Change::Stops("tr.txt", "transcript 3\n", 10),
+        "status 3; said: cannot read tr.txt\n; no record; faults: 1",
+    ),
+    // Nothing is read or stored behind the transcript.
+    (
+        Change::Call(11),
+        "status 0; said: facility,outcome,round,price\n1,exit,2,0\n2,exit,1,0\n3,frozen,2,60\n; faults: 0",
+    ),
+    (
+        Change::Holds("s.json", "{}"),
+        "status 5; said: s.json: missing version\n; no record",
+    ),
+    (
+        Change::Garbled("tr.txt"),
+        "status 9; said: tr.txt: version\n; no record",
+    ),
+    (
+        Change::Write(1),
+        "status 4; nothing said; a record; ending: done; total: 60; inputs kept",
+    ),
+    // Where the line of a fault can't be written either, the status stays.
+    (
+        Change::Mute(1),
+        "status 3; nothing said; no out.csv; no chan.csv; no record; inputs kept; faults: 1",
+    ),
+    // The result is one write, so a second one is never made.
+    (
+        Change::Write(2),
+        "status 0; said: facility,outcome,round,price\n1,exit,2,0\n2,exit,1,0\n3,frozen,2,60\n; a record",
+    ),
+];
+
 #[test]
 fn a_file_or_the_sink_fails(rt: HostRuntime) -> Result<(), Fail> {
-    let table = [
-        (
-            Change::Missing("d.csv"),
-            "status 3; said: cannot read d.csv\n; no record",
-        ),
-        (
-            Change::Missing("r.csv"),
-            "status 3; said: cannot read r.csv\n; no record",
-        ),
-        (
-            Change::Missing("s.json"),
-            "status 3; said: cannot read s.json\n; no record",
-        ),
-        (
-            Change::Missing("tr.txt"),
-            "status 3; said: cannot read tr.txt\n; no record; nothing stored",
-        ),
-        // Domains, rows and the transcript are begun and handed out in pieces, of which the last is empty; the scenario is one
-        // load.
-        (
-            Change::Call(7),
-            "status 3; said: cannot read s.json\n; no record; faults: 1",
-        ),
-        (
-            Change::Call(8),
-            "status 3; said: cannot read tr.txt\n; no record; faults: 1",
-        ),
-        (
-            Change::Call(9),
-            "status 3; said: cannot read tr.txt\n; no record; faults: 1",
-        ),
-        // A fault of the text is told once it has been read to its end.
-        (
-            Change::Stops("tr.txt", "transcript 3\n", 10),
-            "status 3; said: cannot read tr.txt\n; no record; faults: 1",
-        ),
-        // Nothing is read or stored behind the transcript.
-        (
-            Change::Call(11),
-            "status 0; said: facility,outcome,round,price\n1,exit,2,0\n2,exit,1,0\n3,frozen,2,60\n; faults: 0",
-        ),
-        (
-            Change::Holds("s.json", "{}"),
-            "status 5; said: s.json: missing version\n; no record",
-        ),
-        (
-            Change::Holds("tr.txt", ""),
-            "status 9; said: tr.txt: truncated\n; no record",
-        ),
-        (
-            Change::Garbled("tr.txt"),
-            "status 9; said: tr.txt: version\n; no record",
-        ),
-        (
-            Change::Write(1),
-            "status 4; nothing said; a record; ending: done; total: 60; inputs kept",
-        ),
-        // The result is one write, so a second one is never made.
-        (
-            Change::Write(2),
-            "status 0; said: facility,outcome,round,price\n1,exit,2,0\n2,exit,1,0\n3,frozen,2,60\n; a record",
-        ),
-    ];
-    assert_eq!(rt; first_untrue_change(&rt, rt.alloc(), &table)?, None);
+    assert_eq!(rt; first_untrue_change(&rt, rt.alloc(), CHANGES)?, None);
     Ok(())
 }
 
