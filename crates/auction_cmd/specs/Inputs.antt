@@ -87,13 +87,14 @@ Agrees seen steady held (Err (CannotRead i)) = steady ≡ true → held ≡ Err 
 Agrees seen steady held (Err (Refused why)) = held ≡ Err (Refused why)
 Agrees seen steady held (Err NoMemory) = ⊤
 
--- the count of faults didn't fall, and rose where a file could not be read
+-- the count of faults rose where a file could not be read, and else stands
 abbrev pub RisesAt : {A : Type 0} → ℕ → ℕ → Result A Stop → Type 0
-RisesAt before now (Ok x) = ⊤
+RisesAt before now (Ok x) = now ≡ before
 RisesAt before now (Err (CannotRead i)) = HasRisen before now
-RisesAt before now (Err (Refused why)) = ⊤
-RisesAt before now (Err NoMemory) = ⊤
+RisesAt before now (Err (Refused why)) = now ≡ before
+RisesAt before now (Err NoMemory) = now ≡ before
 
+-- and it didn't fall
 pub record CountsFault {A : Type 0} (before now : ℕ) (result : Result A Stop) : Type 0 where
   pub kept : before ≤ now
   pub rises : RisesAt before now result

@@ -1,6 +1,7 @@
 pub mod Counts
 pub mod Delivery
 pub mod Ends
+pub mod Faults
 pub mod Inputs
 pub mod Made
 pub mod MakePromises

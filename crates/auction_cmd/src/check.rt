@@ -3,6 +3,7 @@
 ghost use Rattle.std.specs.Prelude.{◌≡◌, IfOk};
 ghost use Rattle.auction_cmd.specs.Counts.{counts_text};
 ghost use Rattle.auction_cmd.specs.Ends.{CheckEnds};
+ghost use Rattle.auction_cmd.specs.Faults.{IsCounted};
 ghost use Rattle.auction_cmd.specs.Outside.{outside};
 ghost use Rattle.auction_cmd.specs.Words.{inputs_seen};
 
@@ -36,10 +37,14 @@ pub fn check<F: Folder, K: Sink>(
     folder: &mut F,
     out: &mut K,
 ) -> Finish
-    ensures { CheckEnds (inputs_seen files.now)
+    ensures ends { CheckEnds (inputs_seen files.now)
         (outside (F.files folder.old) (F.faults folder.old) (F.steady folder.old) (K.held out.old) (K.faults out.old) (K.sure out.old))
         (outside (F.files folder.new) (F.faults folder.new) (F.steady folder.new) (K.held out.new) (K.faults out.new) (K.sure out.new))
         result.status result.result }
+    ensures counted { IsCounted
+        (outside (F.files folder.old) (F.faults folder.old) (F.steady folder.old) (K.held out.old) (K.faults out.old) (K.sure out.old))
+        (outside (F.files folder.new) (F.faults folder.new) (F.steady folder.new) (K.held out.new) (K.faults out.new) (K.sure out.new))
+        result.status }
 {
     let inputs = match read_inputs(alloc, folder, files) {
         Ok(inputs) => inputs,

@@ -9,6 +9,7 @@ ghost use Rattle.result_text.specs.ChannelsText.{channels_text};
 ghost use Rattle.transcript_text.specs.Spelling.{transcript_text};
 ghost use Rattle.auction_cmd.specs.Delivery.{Delivers, IsNotStored, IsStored, named};
 ghost use Rattle.auction_cmd.specs.Ends.{RunEnds, output_texts};
+ghost use Rattle.auction_cmd.specs.Faults.{IsCounted};
 ghost use Rattle.auction_cmd.specs.Outside.{outside};
 ghost use Rattle.auction_cmd.specs.Records.{IsRecordBy, IsRecordOf, done_status, result_of, run_order, summary_of};
 ghost use Rattle.auction_cmd.specs.Words.{names_seen};
@@ -112,6 +113,10 @@ pub fn store<F: Folder, K: Sink>(
     ensures stored { OnOk result (IsStored (named name.now text.now)
         (outside (F.files folder.old) (F.faults folder.old) (F.steady folder.old) (K.held out.old) (K.faults out.old) (K.sure out.old))
         (outside (F.files folder.new) (F.faults folder.new) (F.steady folder.new) (K.held out.new) (K.faults out.new) (K.sure out.new))) }
+    ensures uncounted { OnOk result (F.faults folder.new ≡ F.faults folder.old) }
+    ensures counted { IfErr result (IsCounted
+        (outside (F.files folder.old) (F.faults folder.old) (F.steady folder.old) (K.held out.old) (K.faults out.old) (K.sure out.old))
+        (outside (F.files folder.new) (F.faults folder.new) (F.steady folder.new) (K.held out.new) (K.faults out.new) (K.sure out.new))) }
     ensures not_stored { IfErr result (IsNotStored (named name.now text.now)
         (outside (F.files folder.old) (F.faults folder.old) (F.steady folder.old) (K.held out.old) (K.faults out.old) (K.sure out.old))
         (outside (F.files folder.new) (F.faults folder.new) (F.steady folder.new) (K.held out.new) (K.faults out.new) (K.sure out.new))) }
@@ -138,8 +143,12 @@ fn deliver<F: Folder, K: Sink>(
     texts: &Texts,
     done: u8,
 ) -> u8
-    ensures { Delivers (output_texts (names_seen names.now) texts.now.result.items texts.now.channels.items texts.now.transcript.items)
+    ensures delivers { Delivers (output_texts (names_seen names.now) texts.now.result.items texts.now.channels.items texts.now.transcript.items)
         texts.now.summary.items done
+        (outside (F.files folder.old) (F.faults folder.old) (F.steady folder.old) (K.held out.old) (K.faults out.old) (K.sure out.old))
+        (outside (F.files folder.new) (F.faults folder.new) (F.steady folder.new) (K.held out.new) (K.faults out.new) (K.sure out.new))
+        result }
+    ensures counted { IsCounted
         (outside (F.files folder.old) (F.faults folder.old) (F.steady folder.old) (K.held out.old) (K.faults out.old) (K.sure out.old))
         (outside (F.files folder.new) (F.faults folder.new) (F.steady folder.new) (K.held out.new) (K.faults out.new) (K.sure out.new))
         result }
@@ -171,10 +180,14 @@ pub fn run<F: Folder, K: Sink, G: Gate + Sync, W: Threads + Wait + Sync>(
     out: &mut K,
     gate: &G,
 ) -> Finish
-    ensures { RunEnds (names_seen files.now)
+    ensures ends { RunEnds (names_seen files.now)
         (outside (F.files folder.old) (F.faults folder.old) (F.steady folder.old) (K.held out.old) (K.faults out.old) (K.sure out.old))
         (outside (F.files folder.new) (F.faults folder.new) (F.steady folder.new) (K.held out.new) (K.faults out.new) (K.sure out.new))
         result.status result.result }
+    ensures counted { IsCounted
+        (outside (F.files folder.old) (F.faults folder.old) (F.steady folder.old) (K.held out.old) (K.faults out.old) (K.sure out.old))
+        (outside (F.files folder.new) (F.faults folder.new) (F.steady folder.new) (K.held out.new) (K.faults out.new) (K.sure out.new))
+        result.status }
 {
     let inputs = match read_inputs(alloc, folder, &files.inputs) {
         Ok(inputs) => inputs,

@@ -1,11 +1,12 @@
 //! The command `verify`: a transcript is checked step by step, and the result that it shows is printed.
 
-ghost use Rattle.std.specs.Prelude.{◌≡◌, ◌≤◌, ℕ, IfOk, List, Ok};
+ghost use Rattle.std.specs.Prelude.{◌≡◌, ◌≢◌, ◌≤◌, ℕ, IfOk, List, Ok, Err};
 ghost use Rattle.pack_defs.specs.Scenario.{IsWithinLimits};
 ghost use Rattle.auction_core.specs.Backed.{undecided_of};
 ghost use Rattle.auction_core.specs.Setup.{IsOfAuction};
 ghost use Rattle.transcript_text.specs.Pieces.{HasRead};
 ghost use Rattle.auction_cmd.specs.Ends.{VerifyEnds};
+ghost use Rattle.auction_cmd.specs.Faults.{IsCounted};
 ghost use Rattle.auction_cmd.specs.Outside.{outside};
 ghost use Rattle.auction_cmd.specs.Records.{IsRecordIn, result_of};
 ghost use Rattle.auction_cmd.specs.Transcripts.{ExplainsDenied, ExplainsLoad, IsTextRead, IsVerdict, not_read};
@@ -50,6 +51,7 @@ fn read_text<F: Folder>(
     ensures read { IsTextRead inputs.now (F.files folder.old) (F.steady folder.old) (F.faults folder.old) (F.faults folder.new) name.now result }
     ensures files { F.files folder.new ≡ F.files folder.old }
     ensures counted { F.faults folder.old ≤ F.faults folder.new }
+    ensures uncounted { result ≢ Err LoadErr.Failed → F.faults folder.new ≡ F.faults folder.old }
 {
     let mut reader = TranscriptReader::new(alloc);
     let mut piece = Vec::new(alloc);
@@ -156,10 +158,14 @@ pub fn verify<F: Folder, K: Sink>(
     folder: &mut F,
     out: &mut K,
 ) -> Finish
-    ensures { VerifyEnds (verify_seen files.now)
+    ensures ends { VerifyEnds (verify_seen files.now)
         (outside (F.files folder.old) (F.faults folder.old) (F.steady folder.old) (K.held out.old) (K.faults out.old) (K.sure out.old))
         (outside (F.files folder.new) (F.faults folder.new) (F.steady folder.new) (K.held out.new) (K.faults out.new) (K.sure out.new))
         result.status result.result }
+    ensures counted { IsCounted
+        (outside (F.files folder.old) (F.faults folder.old) (F.steady folder.old) (K.held out.old) (K.faults out.old) (K.sure out.old))
+        (outside (F.files folder.new) (F.faults folder.new) (F.steady folder.new) (K.held out.new) (K.faults out.new) (K.sure out.new))
+        result.status }
 {
     let inputs = match read_inputs(alloc, folder, &files.inputs) {
         Ok(inputs) => inputs,

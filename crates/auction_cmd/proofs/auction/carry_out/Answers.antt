@@ -6,25 +6,25 @@ use Rattle.auction_cmd.proofs.NumberLemmas.{command-sized}
 use Rattle.auction_cmd.proofs.PlanLemmas.{plan-none, plan-checks, plan-made_twice, plan-makes, plan-repeats, plan-runs, plan-verifies}
 use Rattle.auction_cmd.proofs.auction.carry_out.Goals as goal
 
-pub returns-in-Some : goal.returns-in-Some
-returns-in-Some g c =
+pub returns-in-Some-clause-ends : goal.returns-in-Some-clause-ends
+returns-in-Some-clause-ends g c =
     Repeated c.in-Some.name.now (plan-repeats _ (names_seen c.in-Ok-Run.files) c.in-Some.name.now (rw c.in-Ok-Run.field-0-is at c.in-Ok-Run.ensures.order) c.in-Some.ensures)
     c.without_record.ensures.status c.without_record.ensures.none c.say.ensures.says refl refl
 
-pub returns-in-None : goal.returns-in-None
-returns-in-None g c =
-    Ran (names_seen c.in-Ok-Run.files) (plan-runs _ (names_seen c.in-Ok-Run.files) (rw c.in-Ok-Run.field-0-is at c.in-Ok-Run.ensures.order) c.in-None.ensures) (sym c.in-None.ensures) c.run.ensures
+pub returns-in-None-clause-ends : goal.returns-in-None-clause-ends
+returns-in-None-clause-ends g c =
+    Ran (names_seen c.in-Ok-Run.files) (plan-runs _ (names_seen c.in-Ok-Run.files) (rw c.in-Ok-Run.field-0-is at c.in-Ok-Run.ensures.order) c.in-None.ensures) (sym c.in-None.ensures) c.run.ensures.ends
 
-pub returns-in-Ok-Check : goal.returns-in-Ok-Check
-returns-in-Ok-Check g c =
-    Checked (inputs_seen c.in-Ok-Check.files) (plan-checks _ (inputs_seen c.in-Ok-Check.files) (rw c.in-Ok-Check.field-0-is at c.in-Ok-Check.ensures.order)) c.check.ensures
+pub returns-in-Ok-Check-clause-ends : goal.returns-in-Ok-Check-clause-ends
+returns-in-Ok-Check-clause-ends g c =
+    Checked (inputs_seen c.in-Ok-Check.files) (plan-checks _ (inputs_seen c.in-Ok-Check.files) (rw c.in-Ok-Check.field-0-is at c.in-Ok-Check.ensures.order)) c.check.ensures.ends
 
-pub returns-in-Ok-Verify : goal.returns-in-Ok-Verify
-returns-in-Ok-Verify g c =
-    Verified (verify_seen c.in-Ok-Verify.files) (plan-verifies _ (verify_seen c.in-Ok-Verify.files) (rw c.in-Ok-Verify.field-0-is at c.in-Ok-Verify.ensures.order)) c.verify.ensures
+pub returns-in-Ok-Verify-clause-ends : goal.returns-in-Ok-Verify-clause-ends
+returns-in-Ok-Verify-clause-ends g c =
+    Verified (verify_seen c.in-Ok-Verify.files) (plan-verifies _ (verify_seen c.in-Ok-Verify.files) (rw c.in-Ok-Verify.field-0-is at c.in-Ok-Verify.ensures.order)) c.verify.ensures.ends
 
-pub returns-in-Err-Refused : goal.returns-in-Err-Refused
-returns-in-Err-Refused g c =
+pub returns-in-Err-Refused-clause-ends : goal.returns-in-Err-Refused-clause-ends
+returns-in-Err-Refused-clause-ends g c =
     Usage _ (plan-none _ ((rw c.in-Err-Refused.field-0-is at c.in-Err-Refused.ensures.refused) tt)) c.without_record-in-Err-Refused.ensures.status c.without_record-in-Err-Refused.ensures.none c.say-in-Err-Refused.ensures.says refl refl
 
 pub make-requires-clause-some : goal.make-requires-clause-some
@@ -37,14 +37,14 @@ make-requires-clause-most g c κs within =
     let sized = command-sized (map string_bytes c.args.words.now) (make_seen c.in-Ok-Make.files) (rw c.in-Ok-Make.field-0-is at c.in-Ok-Make.ensures.order) in
     sized.1
 
-pub returns-in-Some-given_twice : goal.returns-in-Some-given_twice
-returns-in-Some-given_twice g c =
+pub returns-in-Some-given_twice-clause-ends : goal.returns-in-Some-given_twice-clause-ends
+returns-in-Some-given_twice-clause-ends g c =
     Repeated c.in-Some-given_twice.name.now
     (plan-made_twice _ (make_seen c.in-Ok-Make.files) c.in-Some-given_twice.name.now (rw c.in-Ok-Make.field-0-is at c.in-Ok-Make.ensures.order) c.in-Some-given_twice.ensures)
     c.without_record-in-Some-given_twice.ensures.status c.without_record-in-Some-given_twice.ensures.none c.say-in-Some-given_twice.ensures.says refl refl
 
-pub returns-in-None-given_twice : goal.returns-in-None-given_twice
-returns-in-None-given_twice g c =
+pub returns-in-None-given_twice-clause-ends : goal.returns-in-None-given_twice-clause-ends
+returns-in-None-given_twice-clause-ends g c =
     Made (make_seen c.in-Ok-Make.files)
     (plan-makes _ (make_seen c.in-Ok-Make.files) (rw c.in-Ok-Make.field-0-is at c.in-Ok-Make.ensures.order) c.in-None-given_twice.ensures)
-    (sym c.in-None-given_twice.ensures) c.make.ensures
+    (sym c.in-None-given_twice.ensures) c.make.ensures.ends

@@ -1,4 +1,4 @@
-use Rattle.std.proofs.Common.{◌≡◌, ◌≤◌, ◌-◌, ℕ}
+use Rattle.std.proofs.Common.{◌≡◌, ◌-◌, ℕ}
 use Rattle.constraint_files.specs.Domains.{domains_fed}
 use Rattle.auction_cmd.proofs.FeedLemmas.{IsFeeding}
 use Rattle.auction_cmd.proofs.constraints.feed_domains.Given as goal
@@ -8,7 +8,7 @@ invariant-loop-piece g l = record {
   told : IsFeeding domains_fed (g.F.Folder.left l.fn.folder) (g.F.Folder.left l.folder) l.fn.reader l.reader;
   files : g.F.Folder.files l.folder ≡ g.F.Folder.files l.fn.folder;
   steady : g.F.Folder.steady l.folder ≡ g.F.Folder.steady l.fn.folder;
-  kept : g.F.Folder.faults l.fn.folder ≤ g.F.Folder.faults l.folder;
+  uncounted : g.F.Folder.faults l.folder ≡ g.F.Folder.faults l.fn.folder;
 }
 
 abbrev pub decreases-loop-piece : goal.decreases-loop-piece

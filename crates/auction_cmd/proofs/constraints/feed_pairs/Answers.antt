@@ -27,7 +27,7 @@ loop-piece-preserved g c = record {
       (λ rest e. (c.deref.ensures.value ∙ (c.in_ok-next_piece.ensures.told rest e).0, (c.in_ok-next_piece.ensures.told rest e).1)) (λ bytes had. c.in-Ok.ensures bytes domains had);
   files = c.next_piece.ensures.files ∙ c.loop-piece.invariant.files;
   steady = c.next_piece.ensures.steady ∙ c.loop-piece.invariant.steady;
-  kept = search rules;
+  uncounted = c.in_ok-next_piece.ensures.counted.rises ∙ c.loop-piece.invariant.uncounted;
 }
 
 pub returns-in-Err-clause-told : goal.returns-in-Err-clause-told

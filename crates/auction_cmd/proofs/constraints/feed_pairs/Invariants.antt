@@ -1,4 +1,4 @@
-use Rattle.std.proofs.Common.{◌≡◌, ◌≤◌, ◌-◌, ℕ, List}
+use Rattle.std.proofs.Common.{◌≡◌, ◌-◌, ℕ, List}
 use Rattle.pack_defs.specs.declared.domain.Domain.{Domain}
 use Rattle.constraint_files.specs.Rows.{pairs_fed}
 use Rattle.auction_cmd.proofs.FeedLemmas.{IsFeeding}
@@ -9,7 +9,7 @@ invariant-loop-piece g l = record {
   told : (domains : List Domain) → IsFeeding (λ bytes. pairs_fed bytes domains) (g.F.Folder.left l.fn.folder) (g.F.Folder.left l.folder) l.fn.reader l.reader;
   files : g.F.Folder.files l.folder ≡ g.F.Folder.files l.fn.folder;
   steady : g.F.Folder.steady l.folder ≡ g.F.Folder.steady l.fn.folder;
-  kept : g.F.Folder.faults l.fn.folder ≤ g.F.Folder.faults l.folder;
+  uncounted : g.F.Folder.faults l.folder ≡ g.F.Folder.faults l.fn.folder;
 }
 
 abbrev pub decreases-loop-piece : goal.decreases-loop-piece

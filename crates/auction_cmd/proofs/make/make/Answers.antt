@@ -6,14 +6,14 @@ use Rattle.auction_cmd.proofs.EndLemmas.{cut-over}
 use Rattle.auction_cmd.proofs.SaysLemmas.{says-write}
 use Rattle.auction_cmd.proofs.make.make.Goals as goal
 
-pub returns-in-Err : goal.returns-in-Err
-returns-in-Err g c =
+pub returns-in-Err-clause-ends : goal.returns-in-Err-clause-ends
+returns-in-Err-clause-ends g c =
     let files = c.in-Ok.ensures.files in
     rw c.without_record.ensures.status
     (MakeStopped (rw (files.0, files.1, files.2) at c.in-Err.ensures.stopped) c.without_record.ensures.none)
 
-pub returns-in_default-carry_out : goal.returns-in_default-carry_out
-returns-in_default-carry_out g c =
+pub returns-in_default-carry_out-clause-ends : goal.returns-in_default-carry_out-clause-ends
+returns-in_default-carry_out-clause-ends g c =
     let files = c.in-Ok.ensures.files in
     AuctionStarved _ (rw (files.0, files.1, files.2) at c.in_default-store_files.ensures.stored) (record {
       status_is = c.starve-in_default-carry_out.ensures.status;
@@ -22,8 +22,8 @@ returns-in_default-carry_out g c =
       files = refl;
     })
 
-pub returns-in-Ok-write : goal.returns-in-Ok-write
-returns-in-Ok-write g c =
+pub returns-in-Ok-write-clause-ends : goal.returns-in-Ok-write-clause-ends
+returns-in-Ok-write-clause-ends g c =
     let files = c.in-Ok.ensures.files in
     Carried _ c.in-Ok-carry_out.carried.record c.in-Ok-carry_out.carried.summary.items
     (rw (files.0, files.1, files.2) at c.in_default-store_files.ensures.stored)
@@ -31,8 +31,8 @@ returns-in-Ok-write g c =
     c.with_record.ensures.kept
     (Written (c.with_record.ensures.status ∙ c.done_status-done.ensures) refl (rw c.deref.ensures.value at c.in-Ok-write.ensures.told))
 
-pub returns : goal.returns
-returns g c =
+pub returns-clause-ends : goal.returns-clause-ends
+returns-clause-ends g c =
     let files = c.in-Ok.ensures.files in
     Carried _ c.in-Ok-carry_out.carried.record c.in-Ok-carry_out.carried.summary.items
     (rw (files.0, files.1, files.2) at c.in_default-store_files.ensures.stored)

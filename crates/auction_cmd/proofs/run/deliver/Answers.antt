@@ -5,8 +5,8 @@ use Rattle.auction_cmd.proofs.EndLemmas.{cut-over}
 use Rattle.auction_cmd.proofs.SaysLemmas.{says-write}
 use Rattle.auction_cmd.proofs.run.deliver.Goals as goal
 
-pub returns-in-Ok : goal.returns-in-Ok
-returns-in-Ok g c =
+pub returns-in-Ok-clause-delivers : goal.returns-in-Ok-clause-delivers
+returns-in-Ok-clause-delivers g c =
     inl (
       _,
       (rw c.deref.ensures.value at c.in_default.ensures.stored),
@@ -21,8 +21,8 @@ returns-in-Ok g c =
       ),
     )
 
-pub returns-in-Err-write : goal.returns-in-Err-write
-returns-in-Err-write g c =
+pub returns-in-Err-write-clause-delivers : goal.returns-in-Err-write-clause-delivers
+returns-in-Err-write-clause-delivers g c =
     inl (
       _,
       (rw c.deref.ensures.value at c.in_default.ensures.stored),

@@ -14,6 +14,7 @@ loop-piece-init g c = record {
   steady = c.begin.ensures.steady;
   most = c.begin.ensures.most;
   kept = c.begin.ensures.counted;
+  uncounted = search rules;
 }
 
 pub loop-piece-preserved : goal.loop-piece-preserved
@@ -25,6 +26,7 @@ loop-piece-preserved g c = record {
   steady = c.piece.ensures.steady ∙ c.loop-piece.invariant.steady;
   most = c.piece.ensures.most ∙ c.loop-piece.invariant.most;
   kept = search rules;
+  uncounted = search rules;
 }
 
 pub returns-in_err-piece-clause-read : goal.returns-in_err-piece-clause-read

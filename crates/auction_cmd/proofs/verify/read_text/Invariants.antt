@@ -10,6 +10,7 @@ invariant-loop-piece g l = record {
   steady : g.F.Folder.steady l.folder ≡ g.F.Folder.steady l.fn.folder;
   most : g.F.Folder.most l.folder ≡ file_limit;
   kept : g.F.Folder.faults l.fn.folder ≤ g.F.Folder.faults l.folder;
+  uncounted : g.F.Folder.faults l.folder ≡ g.F.Folder.faults l.fn.folder;
 }
 
 abbrev pub decreases-loop-piece : goal.decreases-loop-piece
