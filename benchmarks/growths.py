@@ -6,17 +6,21 @@ import struct
 import subprocess
 import sys
 import typing
+from subprocess import DEVNULL as NONE, PIPE
 
 SOURCE = pathlib.Path(__file__).resolve().parent / "refuse.c"
 # The numbers that the library keeps, in its order.
 NUMBERS = struct.Struct("6q")
+# The seconds that a run may take.
+LIMIT = 60
 
 
 class Run(typing.NamedTuple):
-    """How a run ended: its status, what it printed and what it said on standard error; how many growths it asked for and how
-    many of them were refused; the most bytes of blocks that it held at once, and the most kilobytes of memory that it had."""
+    """How a run ended: its status, None where it was ended after a minute, what it printed and what it said on standard error; how
+    many growths it asked for and how many of them were refused; the most bytes of blocks that it held at once, and the most
+    kilobytes of memory that it had."""
 
-    status: int
+    status: typing.Optional[int]
     printed: bytes
     said: bytes
     growths: int
@@ -44,10 +48,17 @@ class Counted:
                 return
         sys.exit(f"{SOURCE} can't be built: neither cc nor the toolchain's clang does")
 
-    def run(self, command, folder, refuse=0, limit=60):
+    def run(self, command, folder, refuse=0):
         """Runs a command in a folder with the growth of this number refused, or none where it is 0."""
         self.numbers.write_bytes(NUMBERS.pack(refuse, 0, 0, 0, 0, 0))
         places = {**os.environ, "LD_PRELOAD": str(self.library), "GROWTHS": str(self.numbers)}
-        done = subprocess.run(command, cwd=folder, env=places, stdin=subprocess.DEVNULL, capture_output=True, timeout=limit)
+        with subprocess.Popen(command, cwd=folder, env=places, stdin=NONE, stdout=PIPE, stderr=PIPE) as process:
+            try:
+                printed, said = process.communicate(timeout=LIMIT)
+                status = process.returncode
+            except subprocess.TimeoutExpired:
+                process.kill()
+                printed, said = process.communicate()
+                status = None
         _, growths, refused, _, most, peak = NUMBERS.unpack(self.numbers.read_bytes())
-        return Run(done.returncode, done.stdout, done.stderr, growths, refused, most, peak)
+        return Run(status, printed, said, growths, refused, most, peak)
