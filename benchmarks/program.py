@@ -1,10 +1,20 @@
-"""Proves and builds a program of a benchmark in a copy of the crates."""
+"""The program that a script runs, built before, or proved and built in a copy of the crates."""
 import pathlib
 import shutil
 import subprocess
 import sys
 
 TOP = pathlib.Path(__file__).resolve().parent.parent
+
+
+def told(words):
+    """What a script is told by these words, of which `--program` names the program, built before."""
+    at = TOP / "crates" / "auction_cli" / "out" / "auction_cli"
+    words.add_argument("--program", type=lambda path: pathlib.Path(path).resolve(), default=at, help="the program, built before")
+    given = words.parse_args()
+    if not given.program.exists():
+        sys.exit(f"{given.program} isn't there: ./repack --version builds it")
+    return given
 
 
 def built(top, name, needs):

@@ -1,0 +1,64 @@
+"""Runs a program with its growths counted, one of them refused where that is asked, and its memory measured (`refuse.c`)."""
+import os
+import pathlib
+import shutil
+import struct
+import subprocess
+import sys
+import typing
+from subprocess import DEVNULL as NONE, PIPE
+
+SOURCE = pathlib.Path(__file__).resolve().parent / "refuse.c"
+# The numbers that the library keeps, in its order.
+NUMBERS = struct.Struct("6q")
+# The seconds that a run may take.
+LIMIT = 60
+
+
+class Run(typing.NamedTuple):
+    """How a run ended: its status, None where it was ended after a minute, what it printed and what it said on standard error; how
+    many growths it asked for and how many of them were refused; the most bytes of blocks that it held at once, and the most
+    kilobytes of memory that it had."""
+
+    status: typing.Optional[int]
+    printed: bytes
+    said: bytes
+    growths: int
+    refused: int
+    most: int
+    peak: int
+
+
+def compilers():
+    """The commands that may build the library: the system's compiler, and the one of the toolchain beside rt."""
+    yield ["cc"]
+    rt = shutil.which("rt")
+    if rt:
+        yield [str(pathlib.Path(rt).resolve().parent.parent / "toolchain/bin/clang"), "-nostdlib", "-fuse-ld=lld"]
+
+
+class Counted:
+    """The library, built in a folder, and the file of its numbers."""
+
+    def __init__(self, folder):
+        self.library, self.numbers = folder / "refuse.so", folder / "growths"
+        for compiler in compilers():
+            command = [*compiler, "-O1", "-shared", "-fPIC", "-o", self.library, SOURCE]
+            if shutil.which(compiler[0]) and subprocess.run(command, stderr=subprocess.DEVNULL).returncode == 0:
+                return
+        sys.exit(f"{SOURCE} can't be built: neither cc nor the toolchain's clang does")
+
+    def run(self, command, folder, refuse=0):
+        """Runs a command in a folder with the growth of this number refused, or none where it is 0."""
+        self.numbers.write_bytes(NUMBERS.pack(refuse, 0, 0, 0, 0, 0))
+        places = {**os.environ, "LD_PRELOAD": str(self.library), "GROWTHS": str(self.numbers)}
+        with subprocess.Popen(command, cwd=folder, env=places, stdin=NONE, stdout=PIPE, stderr=PIPE) as process:
+            try:
+                printed, said = process.communicate(timeout=LIMIT)
+                status = process.returncode
+            except subprocess.TimeoutExpired:
+                process.kill()
+                printed, said = process.communicate()
+                status = None
+        _, growths, refused, _, most, peak = NUMBERS.unpack(self.numbers.read_bytes())
+        return Run(status, printed, said, growths, refused, most, peak)

@@ -1,0 +1,177 @@
+"""What a run of the program on hostile words and files may answer, print and store.
+
+The words are looked at as the command line is described, apart from the program's own reading of them: status 2 comes exactly
+where they are no command, and an output name that is given twice is told exactly where it is. Of the files it is looked at
+that the status is one that the command may end with, that what is printed is a line of that status with the right file's
+name, that nothing is stored where nothing may be, and that what is printed and stored at status 0 and 1 agrees with itself.
+Whether a file is rightly refused, or a result is the clock rule's, isn't looked at.
+"""
+import os
+import re
+
+# The statuses that each command may end with, but for 2, which is of the words, and 8: there is memory enough.
+STATUSES = {"run": {0, 1, 3, 4, 5, 6, 7}, "check": {0, 3, 5}, "verify": {0, 1, 3, 5, 9}, "make": {0, 1, 4, 5}}
+# How many inputs and outputs each command names, these behind the two numbers of `make`.
+INPUTS = {"run": 3, "check": 3, "verify": 4, "make": 0}
+OUTPUTS = {"run": 3, "check": 0, "verify": 0, "make": 3}
+LONGEST = 255
+SIZES = range(1, 4097)
+ROW = rb"line (?P<line>[1-9]\d*): "
+LINES = (
+    ROW + rb"(short row|unknown key|bad number|channel out of range|second domain row|too many)|no domain row for station \d+",
+    ROW + rb"(short row|unknown key|bad number|channel out of range|channels do not fit the key|too many)",
+    rb"not JSON|(missing|wrong kind|out of limit) [a-z]+( at [1-9]\d*)?|repeated station \d+|decrements exceed the opening|no cdcl worker",
+    rb"version|" + ROW + rb"bad line|truncated|step \d+: (order|not valid)",
+)
+SUMMARY = re.compile(rb"stations (\d+)\non-air (\d+)\nfrozen (\d+)\nundecided (\d+)\ntotal (\d+)\n")
+COUNTS = re.compile(rb"stations \d+\npairs \d+\nself-pairs \d+\nstrangers \d+\n")
+RESULT = re.compile(rb"facility,outcome,round,price\n(\d+,(start,0,0|exit,[1-9]\d*,0|(frozen|undecided),[1-9]\d*,\d+)\n)*")
+CHANNELS = re.compile(rb"facility,channel\n(\d+,[1-5]\d\n)*")
+
+
+class Wrong(Exception):
+    """A run that ended as none may."""
+
+
+def need(so, what):
+    """Fails with this where it isn't so."""
+    if not so:
+        raise Wrong(what)
+
+
+def whole(word, most):
+    """The number of a word, from 0 up to the most, or None."""
+    return int(word) if re.fullmatch(r"\+?[0-9]{1,5000}", word) and int(word.lstrip("+0")[:30] or 0) <= most else None
+
+
+class Order:
+    """The command that words are: its name, its inputs and its outputs, and of `make` the number of stations."""
+
+    def __init__(self, words):
+        self.name = words[0]
+        first = 2 if self.name == "make" else 0
+        middle = first + INPUTS[self.name]
+        self.size = int(words[2]) if first else None
+        self.inputs, self.outputs = words[1 + first : 1 + middle], words[1 + middle :]
+
+    def twice(self):
+        """The first output name that equals another name, or None."""
+        names = self.inputs + self.outputs
+        return next((name for name in self.outputs if names.count(name) > 1), None)
+
+
+def order_of(words):
+    """The command that these words are, or None."""
+    if not words or words[0] not in STATUSES or any("\udc80" <= c <= "\udcff" for word in words for c in word):
+        return None
+    name, *rest = words
+    free = rest.index("--") if "--" in rest else len(rest)
+    if any(word.startswith("-") and word != "-" for word in rest[:free]):
+        return None
+    rest = rest[:free] + rest[free + 1 :]
+    if len(rest) != INPUTS[name] + OUTPUTS[name] + (2 if name == "make" else 0):
+        return None
+    if name == "make" and (whole(rest[0], 2**64 - 1) is None or whole(rest[1], 2**64 - 1) not in SIZES):
+        return None
+    return Order([name, *rest])
+
+
+def is_plain(name):
+    """Whether a name is one of a file in the folder, which can be stored."""
+    return name not in ("", ".", "..") and "/" not in name and len(os.fsencode(name)) <= LONGEST
+
+
+def told(order, status, before):
+    """The lines of a status from 3 to 9, as pairs of a pattern and the file whose lines it may count."""
+    names = [os.fsencode(name) for name in order.inputs]
+    if status == 3:
+        return [(b"cannot read " + re.escape(os.fsencode(name)), None) for name in order.inputs if name not in before][:1]
+    if status == 4:
+        return [(b"cannot write " + re.escape(os.fsencode(name)), None) for name in order.outputs if not is_plain(name)][:1]
+    if status == 6:
+        return [(b"the start set does not fit", None)]
+    if status == 7:
+        return [(b"the start set is undecided", None)]
+    some = range(3) if status == 5 else range(3, 4)
+    return [(re.escape(names[i]) + b": (" + LINES[i] + b")", order.inputs[i]) for i in some if i < len(names)]
+
+
+def is_told(printed, lines, before):
+    """Whether what is printed is one of these lines, and counts no more lines than the file has, and the one behind it."""
+    for pattern, name in lines:
+        found = re.fullmatch(pattern + b"\n", printed)
+        if found:
+            counted = found.groupdict().get("line")
+            return counted is None or int(counted) <= before[name].count(b"\n") + 1
+    return False
+
+
+def look_at_line(order, status, printed, before):
+    """What is printed at a status from 3 to 9."""
+    twice = order.twice()
+    if twice is not None:
+        need(status == 5 and printed == os.fsencode(twice) + b": given twice\n", f"{twice!r} is given twice")
+    elif status > 1:
+        need(is_told(printed, told(order, status, before), before), "no line of this status")
+
+
+def look_at_result(text):
+    """The numbers of stations, on air, frozen and undecided, and the total, of a text of RESULT."""
+    need(RESULT.fullmatch(text), "no text of RESULT")
+    rows = [line.split(b",") for line in text.splitlines()[1:]]
+    stations = [int(row[0]) for row in rows]
+    need(all(one < two for one, two in zip(stations, stations[1:])), "RESULT isn't ascending")
+    frozen = [row for row in rows if row[1] in (b"frozen", b"undecided")]
+    undecided = sum(row[1] == b"undecided" for row in rows)
+    return len(rows), len(rows) - len(frozen), len(frozen), undecided, sum(int(row[3]) for row in rows)
+
+
+def look_at_end(order, status, printed, after):
+    """What is printed and stored at status 0 and 1."""
+    if order.name == "check":
+        need(COUNTS.fullmatch(printed), "no counts")
+        return
+    if order.name == "verify":
+        numbers = look_at_result(printed)
+    else:
+        found = SUMMARY.fullmatch(printed)
+        need(found, "no summary")
+        numbers = tuple(map(int, found.groups()))
+    need((status == 1) == (numbers[3] > 0), "the status isn't that of the undecided tests")
+    if order.name == "make":
+        need(numbers[0] == order.size, "another number of stations")
+    if order.name == "run":
+        result, channels, transcript = (after[name] for name in order.outputs)
+        need(look_at_result(result) == numbers, "the summary isn't that of RESULT")
+        need(CHANNELS.fullmatch(channels) and channels.count(b"\n") == numbers[1] + 1, "CHANNELS isn't of those on air")
+        need(transcript.startswith(b"transcript 2\n") and transcript.endswith(b"\n"), "no transcript")
+
+
+def may_change(order, status, printed):
+    """The names that may be new or changed, and how many of these have to be there."""
+    if order is None or status not in (0, 1, 4):
+        return [], 0
+    bad = next((i for i, name in enumerate(order.outputs) if not is_plain(name)), len(order.outputs))
+    return order.outputs[: bad + 1], bad
+
+
+def look_at(case, status, printed, said, after):
+    """Fails where a run may not have ended so. `said` is what stands on standard error."""
+    order = order_of(case.words)
+    need(status >= 0, f"ended by signal {-status}")
+    need(not said, f"on standard error: {said[:200]!r}")
+    names, there = may_change(order, status, printed)
+    changed = [name for name in {**case.files, **after} if case.files.get(name) != after.get(name)]
+    need(all(name in names for name in changed), f"new or changed: {changed}")
+    need(all(name in after for name in names[:there]), f"not all of {names[:there]} are there")
+    if order is None:
+        need(status == 2 and (case.full or printed.endswith(b"\n")), "the words are no command")
+        return
+    allowed = STATUSES[order.name]
+    need(status in (allowed - {0, 1} | {4} if case.full else allowed), "no status of this command, with memory enough")
+    if case.full:
+        return
+    look_at_line(order, status, printed, case.files)
+    if status in (0, 1):
+        need(all(name in case.files for name in order.inputs), "an input isn't there")
+        look_at_end(order, status, printed, after)

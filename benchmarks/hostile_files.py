@@ -1,0 +1,316 @@
+"""Sound inputs of the program, and how they are made hostile.
+
+A set holds the texts of an auction's three input files and of a transcript of it. Most transcripts are those that the program
+writes; some are written here, with steps that few auctions have. A draw of a stream makes one or more of a set's texts
+hostile, or all the words that go with them.
+"""
+import json
+import re
+import subprocess
+
+INPUTS = ("domains.csv", "rows.csv", "scenario.json")
+OUTPUTS = ("result.csv", "channels.csv", "stored.txt")
+TRANSCRIPT = "transcript.txt"
+NAMES = (*INPUTS, TRANSCRIPT)
+MADE = (1, 5, 16)
+# The greatest budget that a hostile scenario of `run` keeps, but for the sound ones and one in fifty others.
+TAME = 1000
+SOUND_BUDGETS = (b"1000", b"100000")
+
+FITS = "start empty\nfit 1 1 1\nat 1 14\nfit 1 2 1\nat 2 14\nfit 1 3 1\nat 3 15\nfit 2 1 1\nat 1 15\n"
+PROOF = "13 -1 0 7 2 8 3 12 0\n14 0 13 1 9 2 10 3 11 0\n"
+# Transcripts of the three stations, with steps of each kind that settles one.
+OF_THREE = {
+    "log": f"transcript 1\n{FITS}log 2 3 0 2\non 1 2 3\n{PROOF}end 5\n",
+    "outside": f"transcript 2\n{FITS}outside 2 3 2\n{PROOF}end 5\n",
+    "spent": f"transcript 2\n{FITS}undecided 2 3 2\nlines 0 1\n13 -1 0 7 2 8 3 12 0\nmoves 1 1\nmove 3 15\nend 5\n",
+}
+# Auctions of one and two stations: one has no channel, the other one interferes with the first on the only channel.
+SMALL = {
+    "none": (
+        "DOMAIN,1,40\n",
+        "",
+        {"version": 1, "top": 36, "opening": 100, "decrements": [], "stations": [{"id": 1, "volume": 1, "value": 5}],
+         "workers": [{"kind": "cdcl", "budget": 1000}]},
+        "transcript 1\nstart empty\nnone 1 1\nend 1\n",
+    ),
+    "dead": (
+        "DOMAIN,1,14\nDOMAIN,2,14\n",
+        "CO,14,14,1,2\n",
+        {"version": 2, "top": 14, "opening": 100, "rate": 1000, "floor": 0,
+         "stations": [{"id": 1, "volume": 1, "value": 50}, {"id": 2, "volume": 1, "value": 50}],
+         "workers": [{"kind": "walk", "budget": 9, "seed": 7}, {"kind": "cdcl", "budget": 9}]},
+        "transcript 2\nstart empty\nfit 1 1 1\nat 1 14\ndead 1 2 0 1 14 2 14\nend 2\n",
+    ),
+}
+
+
+class Faulty(Exception):
+    """The program doesn't do what is asked of it."""
+
+
+def read(folder, names):
+    """The files of a folder, by name."""
+    return {name: (folder / name).read_bytes() for name in names}
+
+
+def ran(program, folder, *words):
+    """Runs the program in a folder, where it has to end with status 0 or 1."""
+    done = subprocess.run([program, *words], cwd=folder, stdout=subprocess.PIPE)
+    if done.returncode not in (0, 1):
+        raise Faulty(f"{folder}: {' '.join(words)}: status {done.returncode}: {done.stdout.decode()}")
+
+
+def add(program, top, name, texts, transcript=None):
+    """Writes a sound set, with the transcript that is given or that of its auction, and has it verified."""
+    folder = top / name
+    folder.mkdir(exist_ok=True)
+    for file, text in zip(INPUTS, texts):
+        (folder / file).write_bytes(text)
+    if transcript is None:
+        ran(program, folder, "run", *INPUTS, "result", "channels", TRANSCRIPT)
+    else:
+        (folder / TRANSCRIPT).write_bytes(transcript)
+    ran(program, folder, "verify", *NAMES)
+
+
+def spent(scenario, top, budget=1):
+    """A scenario with this top channel and a worker of each kind, of a budget so small that some tests are left undecided."""
+    workers = [{"kind": "cdcl", "budget": budget}, {"kind": "walk", "budget": budget}]
+    return json.dumps({**json.loads(scenario), "workers": workers, "top": top}).encode()
+
+
+def make_sound(program, examples, top):
+    """Writes the sound sets, a folder each."""
+    three = [(examples / "three-stations" / name).read_bytes() for name in INPUTS]
+    thirty = read(examples / "verified", NAMES)
+    add(program, top, "three", three)
+    for name, text in OF_THREE.items():
+        scenario = spent(three[2], 15) if name == "spent" else three[2]
+        add(program, top, f"three-{name}", [*three[:2], scenario], text.encode())
+    for name, (domains, rows, scenario, transcript) in SMALL.items():
+        add(program, top, name, [domains.encode(), rows.encode(), json.dumps(scenario).encode()], transcript.encode())
+    texts = [thirty[name] for name in INPUTS]
+    add(program, top, "thirty", texts, thirty[TRANSCRIPT])
+    add(program, top, "thirty-spent", [*texts[:2], spent(texts[2], 18, 8)])
+    for size in MADE:
+        folder = top / f"made-{size}"
+        folder.mkdir()
+        ran(program, folder, "make", "7", str(size), *INPUTS)
+        texts = [(folder / name).read_bytes() for name in INPUTS]
+        add(program, top, f"made-{size}", texts)
+        add(program, top, f"made-{size}-spent", [*texts[:2], spent(texts[2], 15)])
+
+
+NUMBERS = [str(n).encode() for n in (
+    0, -1, 1, 2, 13, 14, 15, 51, 52, 100, 255, 256, 1000, 1001, 4096, 4097, 8192, 8193, 65535, 65536, 1_000_000, 1_000_001,
+    10**9, 10**15, 10**15 + 1, 2**31, 2**32 - 1, 2**32, 2**53, 2**63 - 1, 2**63, 2**64 - 1, 2**64, 2**65, 10**40,
+)] + [b"00", b"007", b"+7", b"-0", b"1.0", b"1e2", b"1e999", b"0x10", b"9" * 400]
+TOKENS = NUMBERS + [b"null", b"true", b"[]", b"{}", b'""', b'"x"', b'"cdcl"', b'"walk"', b'"\\ud800"', b"NaN", b"DOMAIN", b"CO",
+                    b"ADJ+1", b"ADJ-1", b"ADJ+2", b"ADJ-2", b"d", b"c", b"fit", b"log", b"end", b"", b" ", b"\t"]
+MARKS = [b'"', b'""', b"'", b"\r", b"\r\n", b"\n", b"\n\n", b"\0", b"\xef\xbb\xbf", b"\xff", b"\xc3", b"\xed\xa0\x80", b"\\", b",",
+         b",,", b" ", b"  ", b"\t", b"[", b"]", b"{", b"}", b":", b"-", b"#", b"\x1a", b"\x0b", b"\xe2\x80\xa8", b"/*", b"\\u0000"]
+LIES = [
+    b"transcript 1", b"transcript 2", b"transcript 3", b"start empty", b"start fit 0", b"start fit 1000000", b"fit 1 1 1000000",
+    b"fit 1 1 0", b"fit 4294967295 1 1", b"fit 1 1 18446744073709551616", b"at 1 14", b"at 4294967295 51", b"same 1 1", b"same 2 1",
+    b"none 1 1", b"log 2 3 0 1000000", b"log 2 3 0 0", b"log 2 3 0 1000001", b"on", b"on 1 2 3", b"on 3 2 1", b"on 1 1",
+    b"dead 2 3 0 1 14 2 14", b"outside 2 3 1000000", b"outside 2 3 0", b"undecided 2 3 1", b"undecided 2 3 2",
+    b"undecided 2 3 1000000", b"lines 0 1000000", b"lines 0 0",
+    b"moves 1 1000000", b"moves 0 0", b"move 1 14", b"13 0 0", b"13 -1 0 0", b"9223372036854775807 0 1 0",
+    b"9223372036854775808 0 1 0", b"13 9223372036854775807 0 9223372036854775807 0", b"13 d 1 0", b"13 0 -7 0", b"0 0 1 0",
+    b"end 0", b"end 5", b"end 4294967296", b"end 18446744073709551615", b"end 18446744073709551616", b"", b"x",
+    b"DOMAIN,1,14", b"DOMAIN,4294967296,14", b"DOMAIN", b"CO,14,14,1,2,3", b"CO,14,14", b"ADJ+1,51,52,1,2", b"ADJ-2,14,12,1,2",
+    b'CO,"14",14,1,"2"', b'DOMAIN,"1', b"CO,14,14,1,1,1", b"CO,14,14," + b"1," * 3000 + b"2", b"DOMAIN,1" + b",14" * 3000,
+]
+
+
+def place(draw, text):
+    """A place in a text, its end too."""
+    return draw.randrange(len(text) + 1)
+
+
+def span(draw, text):
+    """Two places of a text, the second not before the first and mostly near to it."""
+    start = place(draw, text)
+    return start, min(len(text), start + int(draw.expovariate(1 / 40)))
+
+
+def put(text, start, end, middle):
+    """The text with this in the place of a span."""
+    return text[:start] + middle + text[end:]
+
+
+def bytes_of(draw):
+    """Some random bytes."""
+    return draw.randbytes(1 + int(draw.expovariate(1 / 4)))
+
+
+def cut(draw, text, _):
+    return text[: place(draw, text)]
+
+
+def beheaded(draw, text, _):
+    return text[place(draw, text) :]
+
+
+def doubled(draw, text, _):
+    start, end = span(draw, text)
+    return put(text, start, start, text[start:end])
+
+
+def doubled_whole(_, text, __):
+    return text + text
+
+
+def dropped(draw, text, _):
+    return put(text, *span(draw, text), b"")
+
+
+def spliced(draw, text, other):
+    start, end = span(draw, other)
+    return put(text, *span(draw, text), other[start:end])
+
+
+def sprinkled(draw, text, _):
+    at = place(draw, text)
+    return put(text, at, at, bytes_of(draw))
+
+
+def overwritten(draw, text, _):
+    some = bytes_of(draw)
+    at = place(draw, text)
+    return put(text, at, min(len(text), at + len(some)), some)
+
+
+def swapped_bytes(draw, text, _):
+    if len(text) < 2:
+        return text
+    some = bytearray(text)
+    one, two = draw.randrange(len(some)), draw.randrange(len(some))
+    some[one], some[two] = some[two], some[one]
+    return bytes(some)
+
+
+def marked(draw, text, _):
+    at = place(draw, text)
+    return put(text, at, at, draw.choice(MARKS))
+
+
+def of_other_ends(draw, text, _):
+    return text.replace(b"\n", draw.choice((b"\r\n", b"\r", b"", b"\n\n", b" \n")))
+
+
+def begun_by_mark(_, text, __):
+    return b"\xef\xbb\xbf" + text
+
+
+def unvalued(draw, text, _):
+    """A scenario in which some stations, from the first on, have no value."""
+    return text.replace(b'"value"', b'"worth"', draw.choice((1, 2, 3, -1)))
+
+
+def of_lines(change):
+    """A mutation of a text's list of lines."""
+
+    def changed(draw, text, other):
+        lines = text.split(b"\n")
+        change(draw, lines, other.split(b"\n"))
+        return b"\n".join(lines)
+
+    return changed
+
+
+def double_line(draw, lines, _):
+    lines.insert(draw.randrange(len(lines) + 1), draw.choice(lines))
+
+
+def drop_line(draw, lines, _):
+    lines.pop(draw.randrange(len(lines)))
+
+
+def swap_lines(draw, lines, _):
+    one, two = draw.randrange(len(lines)), draw.randrange(len(lines))
+    lines[one], lines[two] = lines[two], lines[one]
+
+
+def take_line(draw, lines, others):
+    lines.insert(draw.randrange(len(lines) + 1), draw.choice(others))
+
+
+def lie(draw, lines, _):
+    at = draw.randrange(len(lines))
+    lines[at : at + draw.randrange(2)] = [draw.choice(LIES)]
+
+
+def at_token(pattern, choose):
+    """A mutation that puts something in the place of one of a text's matches."""
+    found = re.compile(pattern)
+
+    def changed(draw, text, other):
+        spans = [match.span() for match in found.finditer(text)]
+        if not spans:
+            return sprinkled(draw, text, other)
+        start, end = draw.choice(spans)
+        return put(text, start, end, choose(draw, text[start:end], text))
+
+    return changed
+
+
+def near(draw, number, _):
+    """A number near this one."""
+    return str(int(number[:30]) + draw.choice((-2, -1, 1, 2, 10))).encode()
+
+
+def same_kind(draw, _, text):
+    """Another number of the text."""
+    return draw.choice(re.findall(rb"\d+", text))
+
+
+def nest(draw, token, _):
+    """A value deep within others."""
+    depth = draw.choice((1, 2, 100, 126, 127, 128, 129, 5000, 100_000))
+    left, right = draw.choice(((b"[", b"]"), (b'{"a":', b"}")))
+    return left * depth + token + right * draw.choice((depth, depth, 0))
+
+
+NUMBER, TOKEN = rb"-?\d+", rb'[^\s,:\[\]{}]+'
+# Those that leave most texts in form, so that the auction and the check of its steps meet them.
+MILD = [
+    *[at_token(NUMBER, near), at_token(rb"\d+", same_kind)] * 3,
+    unvalued,
+    *map(of_lines, (double_line, drop_line, swap_lines)),
+]
+HARSH = [
+    cut, beheaded, doubled, doubled_whole, dropped, spliced, sprinkled, overwritten, swapped_bytes, marked, of_other_ends, begun_by_mark,
+    *map(of_lines, (double_line, drop_line, swap_lines, swap_lines, take_line, lie, lie)),
+    *[at_token(NUMBER, lambda draw, *_: draw.choice(NUMBERS))] * 3,
+    *[at_token(TOKEN, lambda draw, *_: draw.choice(TOKENS))] * 2,
+    at_token(TOKEN, nest),
+    lambda *_: b"",
+]
+
+
+def tamed(draw, scenario):
+    """A scenario whose budgets are small, that a run ends soon; one in fifty stays."""
+    if draw.randrange(50) == 0:
+        return scenario
+
+    def small(found):
+        sound = found[2] in SOUND_BUDGETS or not TAME < int(found[2][:30]) <= 1_000_000
+        return found[0] if sound else found[1] + str(int(found[2]) % TAME + 1).encode()
+
+    return re.sub(rb'("budget"\s*:\s*)(\d+)', small, scenario)
+
+
+def hostile(draw, files, others, weights):
+    """Makes some of the files hostile, in place. `others` are texts of other files."""
+    if draw.randrange(25) == 0:
+        name = draw.choice(list(files))
+        files[name] = draw.choice(others)
+    for _ in range(draw.choices((0, 1, 2, 3, 8), (3, 60, 20, 12, 5))[0]):
+        (name,) = draw.choices(list(files), weights)
+        mutations = MILD if draw.randrange(2) else HARSH
+        files[name] = draw.choice(mutations)(draw, files[name], draw.choice(others))
+    files["scenario.json"] = tamed(draw, files["scenario.json"])
+    if draw.randrange(40) == 0:
+        del files[draw.choice(list(files))]
