@@ -33,6 +33,11 @@ get-map f [] i d = refl
 get-map f (x ∷ xs) zero d = refl
 get-map f (x ∷ xs) (suc i) d = get-map f xs i d
 
+-- the images of a list, one by one
+pub image-at : {X Y : Type 0} (f : X → Y) (xs : List X) (ys : List Y) (i : ℕ) (d : X) → map f xs ≡ ys → i < length ys → slice_get ys i ≡ Some (f (get_or xs i d))
+image-at f xs ys i d e lt =
+    subst (λ l. slice_get l i ≡ Some (f (get_or xs i d))) e (slice_get-get_or (map f xs) i (f d) (subst (λ l. i < length l) (sym e) lt) ∙ ap (λ x. Some x) (get-map f xs i d))
+
 long-map : {X Y : Type 0} (f : X → Y) (xs : List X) → length (map f xs) ≡ length xs
 long-map f [] = refl
 long-map f (x ∷ xs) = ap suc (long-map f xs)

@@ -65,7 +65,7 @@ says-valid book task worker last (Moved now) h = tt
 
 -- ---- what a worker posts
 
-all-on : {X : Type 0} (P : X → Type 0) (xs ys : List X) → AllOf P xs → AllOf P ys → AllOf P (xs ++ ys)
+pub all-on : {X : Type 0} (P : X → Type 0) (xs ys : List X) → AllOf P xs → AllOf P ys → AllOf P (xs ++ ys)
 all-on P [] ys h k = k
 all-on P (x ∷ xs) ys h k = (h.0, all-on P xs ys h.1 k)
 
