@@ -1,6 +1,6 @@
 -- A posting that was looked at goes into a history that replays.
-use Rattle.std.proofs.Common.{◌≡◌, ℕ, ◌≤◌, Bool, true, false, ◌&&◌, nat_lt, if◌then◌else◌, List, [], ◌∷◌, ◌++◌, length, Option, Some, None, option_and_then, refl, sym, ap, ◌∙◌, subst, arith}
-use Rattle.std.proofs.lemmas.Bool.{cond-true}
+use Rattle.std.proofs.Common.{◌≡◌, ℕ, ◌-◌, ◌≤◌, Bool, true, false, ◌&&◌, nat_lt, if◌then◌else◌, List, [], ◌∷◌, ◌++◌, length, Option, Some, None, option_and_then, refl, sym, ap, ◌∙◌, subst, arith}
+use Rattle.std.proofs.lemmas.Bool.{and_parts, cond-true, lt-ltb, ltb-true}
 use Rattle.pack_defs.specs.Book.{BookView, IsInOrder}
 use Rattle.pack_defs.specs.declared.order.Order.{Order}
 use Rattle.pack_defs.specs.declared.scenario.Scenario.{Scenario}
@@ -147,6 +147,22 @@ told-between old new before after history posting reply h may t e f w = record {
   replayed = moved old.scenario new.scenario old.book new.book (history ++ entry_told posting reply ∷ []) (state_at new after) (state_at new after) e f refl
       (told-replayed old.scenario old.book history (state_at old before) (state_at new after) posting reply h.replayed may t);
 }
+
+one-kept : (x y : Bool) → (x ≡ true → y ≡ true) → (if x then 1 else 0) ≤ (if y then 1 else 0)
+one-kept false y f = omega arith
+one-kept true true f = omega arith
+one-kept true false f = let no : false ≡ true = f refl in cc
+
+-- room for a posting is there still where none of it is lost
+pub spare-kept : (clockwork clockwork' : ClockworkView) (notes notes' : NotesView) (capacity capacity' len len' : ℕ)
+    → (clockwork.ready ≡ true → clockwork'.ready ≡ true) → (notes.ready ≡ true → notes'.ready ≡ true) → capacity ≤ capacity' → len' ≡ len
+    → spare_of clockwork notes (capacity - len) ≤ spare_of clockwork' notes' (capacity' - len')
+spare-kept clockwork clockwork' notes notes' capacity capacity' len len' f g more same =
+    one-kept (clockwork.ready && (notes.ready && nat_lt 0 (capacity - len))) (clockwork'.ready && (notes'.ready && nat_lt 0 (capacity' - len'))) (λ h.
+      let here = and_parts clockwork.ready (notes.ready && nat_lt 0 (capacity - len)) h in
+      let both = and_parts notes.ready (nat_lt 0 (capacity - len)) here.1 in
+      let some : nat_lt 0 (capacity' - len') ≡ true = lt-ltb 0 (capacity' - len') (omega (arith, ltb-true 0 (capacity - len) both.1, more, same)) in
+      rw (f here.0, g both.0, some) refl)
 
 some-spare : (a b : Bool) (entries : ℕ) → 1 ≤ (if a && (b && nat_lt 0 entries) then 1 else 0) → (a ≡ true) × (b ≡ true)
 some-spare true true entries h = (refl, refl)

@@ -1,7 +1,7 @@
 -- An auction between two queries, as the program keeps it.
-use Rattle.std.proofs.Common.{◌≡◌, ◌∙◌, ℕ, zero, suc, ◌+◌, ◌-◌, ◌*◌, ◌<◌, ◌≤◌, ◌^◌, Bool, true, false, not, cond, inl, inr, List, [], ◌∷◌, length, map, filter, Option, Some, None, is_none, option_map, refl, sym, ap, subst, arith, nat_le, length-append}
+use Rattle.std.proofs.Common.{◌≡◌, ◌∙◌, ℕ, zero, suc, ◌+◌, ◌-◌, ◌*◌, ◌<◌, ◌≤◌, ◌^◌, Bool, true, false, not, ◌&&◌, cond, inl, inr, List, [], ◌∷◌, length, map, filter, Option, Some, None, is_none, option_map, refl, sym, ap, subst, arith, nat_le, length-append}
 use Rattle.std.specs.Option.{option_map_or}
-use Rattle.std.proofs.lemmas.Bool.{and_parts, both_ways, cond-false, leb-true}
+use Rattle.std.proofs.lemmas.Bool.{and_parts, both_ways, cond-false, le-leb, leb-true}
 use Rattle.std.proofs.lemmas.List.{length-map}
 use Rattle.pack_defs.specs.Book.{BookView}
 use Rattle.pack_defs.specs.ChannelMap.{overlaid}
@@ -210,6 +210,12 @@ clockwork-opening s c holds rest e =
 
 abbrev pub with_room : CourseView → ℕ → ℕ → CourseView
 with_room c room verdicts = record c { past = record c.past { room = room; verdicts = verdicts } }
+
+-- a room that was enough is enough where there is no less
+pub roomy-kept : (s : SetupView) (c : CourseView) (room verdicts : ℕ) → c.past.room ≤ room → c.past.verdicts ≤ verdicts → is_roomy s c ≡ true → is_roomy s (with_room c room verdicts) ≡ true
+roomy-kept s c room verdicts more told h =
+    let parts = room-parts s c h in
+    ap (λ b. b && nat_le 1 verdicts) (le-leb (turns_left s c) room (omega (arith, parts.0, more))) ∙ le-leb 1 verdicts (omega (arith, parts.1, told))
 
 rest-roomier : (s : SetupView) (c : CourseView) (room verdicts : ℕ) → IsAtRest s c → IsAtRest s (with_room c room verdicts)
 rest-roomier s c room verdicts (inl over) = inl over

@@ -166,9 +166,11 @@ impl Auction {
         self.clockwork.task(alloc)
     }
 
-    /// Makes room for all that one posting can add. The only error is want of memory, and nothing else is changed.
+    /// Makes room for all that one posting can add. The only error is want of memory. Whatever it answers, there is no less
+    /// room than before, and nothing else is changed.
     pub fn reserve(&mut self) -> Result<(), NoMemory>
         ensures spare { OnOk result (1 ≤ self.new.spare) }
+        ensures kept { self.old.spare ≤ self.new.spare }
         ensures scenario { self.new.scenario ≡ self.old.scenario }
         ensures book { self.new.book ≡ self.old.book }
         ensures state { self.new.state ≡ self.old.state }

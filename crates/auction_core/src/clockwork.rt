@@ -178,9 +178,10 @@ impl Clockwork {
     }
 
     /// Makes room for all the steps that settling one query can add: its own, and those that need no query behind it. The
-    /// only error is want of memory, and nothing else is changed.
+    /// only error is want of memory. Whatever it answers, room that there was is there still, and nothing else is changed.
     pub fn reserve(&mut self) -> Result<(), NoMemory>
         ensures ready { OnOk result (self.new.ready ≡ true) }
+        ensures kept { self.old.ready ≡ true → self.new.ready ≡ true }
         ensures scenario { self.new.scenario ≡ self.old.scenario }
         ensures book { self.new.book ≡ self.old.book }
         ensures state { self.new.state ≡ self.old.state }

@@ -111,12 +111,14 @@ impl Course {
         setup.scenario().stations.as_slice()[place].id
     }
 
-    /// Makes room for a step of every test that is left, and for the verdict of one. The only error is want of memory, and
-    /// nothing else is changed.
+    /// Makes room for a step of every test that is left, and for the verdict of one. The only error is want of memory.
+    /// Whatever it answers, there is no less room than before, and nothing else is changed.
     pub fn reserve(&mut self, setup: &Setup) -> Result<(), NoMemory>
         requires round { self.old.round ≤ last_round setup.now.scenario }
         requires turn { self.old.turn ≤ length setup.now.scenario.stations }
         ensures room { OnOk result (is_roomy setup.now self.new ≡ true) }
+        ensures room_kept { self.old.past.room ≤ self.new.past.room }
+        ensures verdicts_kept { self.old.past.verdicts ≤ self.new.past.verdicts }
         ensures same { self.new ≡ record self.old { past = record self.old.past { room = self.new.past.room; verdicts = self.new.past.verdicts } } }
     {
         let turns = setup.turns();

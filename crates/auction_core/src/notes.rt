@@ -68,9 +68,11 @@ impl Notes {
         (worker as usize) < self.places.len() && self.places[worker as usize].is_some()
     }
 
-    /// Makes room for a receipt of every worker. The only error is want of memory, and nothing else is changed.
+    /// Makes room for a receipt of every worker. The only error is want of memory. Whatever it answers, room that there was
+    /// is there still, and nothing else is changed.
     pub fn reserve(&mut self) -> Result<(), NoMemory>
         ensures ready { OnOk result (self.new.ready ≡ true) }
+        ensures kept { self.old.ready ≡ true → self.new.ready ≡ true }
         ensures places { self.new.workers ≡ self.old.workers }
         ensures noted { self.new.noted ≡ self.old.noted }
     {

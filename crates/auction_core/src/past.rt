@@ -89,11 +89,13 @@ impl Past {
         self.on_air
     }
 
-    /// Makes room for so many steps more, of which one has a verdict. The only error is want of memory, and nothing else is
-    /// changed.
+    /// Makes room for so many steps more, of which one has a verdict. The only error is want of memory. Whatever it answers,
+    /// there is no less room than before, and nothing else is changed.
     pub fn reserve(&mut self, more: usize) -> Result<(), NoMemory>
         ensures room { OnOk result (more ≤ self.new.room) }
         ensures verdicts { OnOk result (1 ≤ self.new.verdicts) }
+        ensures room_kept { self.old.room ≤ self.new.room }
+        ensures verdicts_kept { self.old.verdicts ≤ self.new.verdicts }
         ensures same { self.new ≡ record self.old { room = self.new.room; verdicts = self.new.verdicts } }
     {
         self.steps.reserve(more)

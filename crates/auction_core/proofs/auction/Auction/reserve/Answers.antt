@@ -1,0 +1,23 @@
+-- No room is lost, whichever of the three wants memory.
+use Rattle.std.proofs.Common.{◌≤◌, ◌-◌, vec_capacity, vec_len, subst}
+use Rattle.auction_core.specs.Auction.{AuctionView, spare_of}
+use Rattle.auction_core.proofs.AuctionLemmas.{spare-kept}
+use Rattle.auction_core.proofs.auction.Auction.reserve.Goals as goal
+
+pub returns-in_err-reserve-clause-kept : goal.returns-in_err-reserve-clause-kept
+returns-in_err-reserve-clause-kept c =
+    let a = c.self.inside in
+    subst (λ (v : AuctionView). v.spare ≤ spare_of a.clockwork a.notes (vec_capacity c.reserve.new.self - vec_len c.reserve.new.self)) c.self.view_is
+    (spare-kept a.clockwork a.clockwork a.notes a.notes _ _ _ _ (λ ready. ready) (λ ready. ready) c.reserve.ensures.capacity c.reserve.ensures.len)
+
+pub returns-in_err-reserve-2-clause-kept : goal.returns-in_err-reserve-2-clause-kept
+returns-in_err-reserve-2-clause-kept c =
+    let a = c.self.inside in
+    subst (λ (v : AuctionView). v.spare ≤ spare_of a.clockwork c.reserve-2.new.self (vec_capacity c.reserve.new.self - vec_len c.reserve.new.self)) c.self.view_is
+    (spare-kept a.clockwork a.clockwork a.notes c.reserve-2.new.self _ _ _ _ (λ ready. ready) c.reserve-2.ensures.kept c.reserve.ensures.capacity c.reserve.ensures.len)
+
+pub returns-clause-kept : goal.returns-clause-kept
+returns-clause-kept c =
+    let a = c.self.inside in
+    subst (λ (v : AuctionView). v.spare ≤ spare_of c.reserve-3.new.self c.reserve-2.new.self (vec_capacity c.reserve.new.self - vec_len c.reserve.new.self)) c.self.view_is
+    (spare-kept a.clockwork c.reserve-3.new.self a.notes c.reserve-2.new.self _ _ _ _ c.reserve-3.ensures.kept c.reserve-2.ensures.kept c.reserve.ensures.capacity c.reserve.ensures.len)
