@@ -159,10 +159,10 @@ pub spare-kept : (clockwork clockwork' : ClockworkView) (notes notes' : NotesVie
     → spare_of clockwork notes (capacity - len) ≤ spare_of clockwork' notes' (capacity' - len')
 spare-kept clockwork clockwork' notes notes' capacity capacity' len len' f g more same =
     one-kept (clockwork.ready && (notes.ready && nat_lt 0 (capacity - len))) (clockwork'.ready && (notes'.ready && nat_lt 0 (capacity' - len'))) (λ h.
-      let here = and_parts clockwork.ready (notes.ready && nat_lt 0 (capacity - len)) h in
-      let both = and_parts notes.ready (nat_lt 0 (capacity - len)) here.1 in
-      let some : nat_lt 0 (capacity' - len') ≡ true = lt-ltb 0 (capacity' - len') (omega (arith, ltb-true 0 (capacity - len) both.1, more, same)) in
-      rw (f here.0, g both.0, some) refl)
+    let here = and_parts clockwork.ready (notes.ready && nat_lt 0 (capacity - len)) h in
+    let both = and_parts notes.ready (nat_lt 0 (capacity - len)) here.1 in
+    let some : nat_lt 0 (capacity' - len') ≡ true = lt-ltb 0 (capacity' - len') (omega (arith, ltb-true 0 (capacity - len) both.1, more, same)) in
+    rw (f here.0, g both.0, some) refl)
 
 some-spare : (a b : Bool) (entries : ℕ) → 1 ≤ (if a && (b && nat_lt 0 entries) then 1 else 0) → (a ≡ true) × (b ≡ true)
 some-spare true true entries h = (refl, refl)
