@@ -3,6 +3,7 @@ pub mod NumberLemmas
 pub mod DigitLemmas
 pub mod SplitLemmas
 pub mod WriteLemmas
+pub mod CutLemmas
 pub mod LogLemmas
 pub mod RoundTrip
 pub mod Named

@@ -1,6 +1,6 @@
 //! The writing of logs and formulas, number by number behind the text so far.
 
-ghost use Rattle.std.specs.Prelude.{◌≡◌, ◌+◌, ◌≤◌, ◌^◌, ◌∷◌, ◌++◌, [], List, ℕ, IfOk, OnErr, OnOk, decimal, length, map};
+ghost use Rattle.std.specs.Prelude.{◌≡◌, ◌+◌, ◌≤◌, ◌^◌, ◌∷◌, ◌++◌, [], ℕ, IfOk, OnErr, OnOk, decimal, length, map, take};
 ghost use Rattle.std.specs.List.{flat_map};
 ghost use Rattle.lrat_text.specs.Lines.{line_of};
 ghost use Rattle.lrat_text.specs.LogText.{clause_fields, dimacs_text, header_line, lit_text, log_fields, log_text, spaced, zero_field};
@@ -24,18 +24,19 @@ pub fn push_number(text: &mut Vec<u8>, n: u64) -> Result<(), NoMemory>
 // Adds a literal.
 fn push_lit(text: &mut Vec<u8>, lit: Lit) -> Result<(), NoMemory>
     ensures written { OnOk result (text.new.items ≡ text.old.items ++ lit_text lit) }
-    ensures begins { (more : List ℕ) × (text.new.items ≡ text.old.items ++ more) }
+    ensures begins { (n : ℕ) × (text.new.items ≡ text.old.items ++ take n (lit_text lit)) }
 {
-    if !lit.positive {
-        text.extend_from_slice(b"-")?;
+    if lit.positive {
+        return push_number(text, lit.var);
     }
+    text.extend_from_slice(b"-")?;
     push_number(text, lit.var)
 }
 
 // Adds the literals that are left, each behind a space.
 fn push_lits(text: &mut Vec<u8>, lits: Literals<'_>) -> Result<(), NoMemory>
     ensures written { OnOk result (text.new.items ≡ text.old.items ++ spaced (map lit_text lits.entry)) }
-    ensures begins { (more : List ℕ) × (text.new.items ≡ text.old.items ++ more) }
+    ensures begins { (n : ℕ) × (text.new.items ≡ text.old.items ++ take n (spaced (map lit_text lits.entry))) }
 {
     let mut left = lits;
     while let Some(lit) = left.next() {
@@ -48,7 +49,7 @@ fn push_lits(text: &mut Vec<u8>, lits: Literals<'_>) -> Result<(), NoMemory>
 // Adds the hints that are left, each behind a space.
 fn push_hints(text: &mut Vec<u8>, hints: Hints<'_>) -> Result<(), NoMemory>
     ensures written { OnOk result (text.new.items ≡ text.old.items ++ spaced (map decimal hints.entry)) }
-    ensures begins { (more : List ℕ) × (text.new.items ≡ text.old.items ++ more) }
+    ensures begins { (n : ℕ) × (text.new.items ≡ text.old.items ++ take n (spaced (map decimal hints.entry))) }
 {
     let mut left = hints;
     while let Some(hint) = left.next() {
@@ -58,11 +59,11 @@ fn push_hints(text: &mut Vec<u8>, hints: Hints<'_>) -> Result<(), NoMemory>
     Ok(())
 }
 
-/// Adds numbers, each behind a space. The only error is want of memory, and the text then has all that it had, and maybe
-/// some of the numbers behind it.
+/// Adds numbers, each behind a space. The only error is want of memory, and the text then has all that it had, and behind
+/// it the first bytes of what was to be added, or none.
 pub fn push_numbers(text: &mut Vec<u8>, numbers: &[u64]) -> Result<(), NoMemory>
     ensures written { OnOk result (text.new.items ≡ text.old.items ++ spaced (map decimal numbers.now)) }
-    ensures begins { (more : List ℕ) × (text.new.items ≡ text.old.items ++ more) }
+    ensures begins { (n : ℕ) × (text.new.items ≡ text.old.items ++ take n (spaced (map decimal numbers.now))) }
 {
     for n in numbers {
         text.extend_from_slice(b" ")?;
@@ -79,7 +80,7 @@ fn push_log_line(
     hints: Hints<'_>,
 ) -> Result<(), NoMemory>
     ensures written { OnOk result (text.new.items ≡ text.old.items ++ line_of (log_fields number (record { lits = lits.entry; hints = hints.entry }))) }
-    ensures begins { (more : List ℕ) × (text.new.items ≡ text.old.items ++ more) }
+    ensures begins { (n : ℕ) × (text.new.items ≡ text.old.items ++ take n (line_of (log_fields number (record { lits = lits.entry; hints = hints.entry })))) }
 {
     push_number(text, number)?;
     push_lits(text, lits)?;
@@ -90,11 +91,12 @@ fn push_log_line(
 }
 
 /// Adds a log, its lines numbered on from `first`: each is its number, its literals, 0, its hints and 0. The only
-/// error is want of memory, and the text then has all that it had, and maybe a part of the log behind it.
+/// error is want of memory, and the text then has all that it had, and behind it the first bytes of what was to be added,
+/// or none.
 pub fn push_log(text: &mut Vec<u8>, first: u64, log: &Log) -> Result<(), NoMemory>
     requires { first + length log.now.lines ≤ 2 ^ 63 }
     ensures written { OnOk result (text.new.items ≡ text.old.items ++ log_text first log.now.lines) }
-    ensures begins { (more : List ℕ) × (text.new.items ≡ text.old.items ++ more) }
+    ensures begins { (n : ℕ) × (text.new.items ≡ text.old.items ++ take n (log_text first log.now.lines)) }
 {
     for i in 0..log.lines.len() {
         push_log_line(
