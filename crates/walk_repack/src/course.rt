@@ -1,6 +1,6 @@
 //! The moves of a walk and the map that they lead to: the exact part of its state.
 
-ghost use Rattle.std.specs.Prelude.{◌≡◌, ◌++◌, ◌∷◌, [], OnOk, false, length, true};
+ghost use Rattle.std.specs.Prelude.{◌≡◌, ◌++◌, ◌∷◌, [], OnErr, OnOk, false, length, true};
 ghost use Rattle.pack_defs.specs.Book.{domain_of};
 ghost use Rattle.pack_defs.specs.ChannelMap.{IsAscending, put};
 ghost use Rattle.pack_defs.specs.Lists.{has_entry, is_in};
@@ -81,6 +81,8 @@ impl Course {
         ensures start { self.new.start ≡ self.old.start }
         ensures moves { OnOk result (self.new.moves ≡ self.old.moves ++ (station, channel) ∷ []) }
         ensures entries { OnOk result (self.new.entries ≡ put (station, channel) self.old.entries) }
+        ensures moves_kept { OnErr result (self.new.moves ≡ self.old.moves) }
+        ensures entries_kept { OnErr result (self.new.entries ≡ self.old.entries) }
     {
         self.moves.reserve(1)?;
         set_channel(&mut self.entries, station, channel);
