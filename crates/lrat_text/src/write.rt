@@ -59,9 +59,23 @@ fn push_hints(text: &mut Vec<u8>, hints: Hints<'_>) -> Result<(), NoMemory>
     Ok(())
 }
 
-/// Adds numbers, each behind a space. The only error is want of memory, and the text then has all that it had, and behind
-/// it the first bytes of what was to be added, or none.
+/// Adds numbers, each behind a space. The only error is want of memory, and the text is as before then.
 pub fn push_numbers(text: &mut Vec<u8>, numbers: &[u64]) -> Result<(), NoMemory>
+    ensures written { OnOk result (text.new.items ≡ text.old.items ++ spaced (map decimal numbers.now)) }
+    ensures kept { OnErr result (text.new.items ≡ text.old.items) }
+{
+    let length = text.len();
+    match push_each(text, numbers) {
+        Ok(()) => Ok(()),
+        Err(why) => {
+            text.truncate(length);
+            Err(why)
+        }
+    }
+}
+
+// Adds numbers, each behind a space. Where memory runs out the first bytes of what was to be added may stand there.
+fn push_each(text: &mut Vec<u8>, numbers: &[u64]) -> Result<(), NoMemory>
     ensures written { OnOk result (text.new.items ≡ text.old.items ++ spaced (map decimal numbers.now)) }
     ensures begins { (n : ℕ) × (text.new.items ≡ text.old.items ++ take n (spaced (map decimal numbers.now))) }
 {
@@ -91,9 +105,24 @@ fn push_log_line(
 }
 
 /// Adds a log, its lines numbered on from `first`: each is its number, its literals, 0, its hints and 0. The only
-/// error is want of memory, and the text then has all that it had, and behind it the first bytes of what was to be added,
-/// or none.
+/// error is want of memory, and the text is as before then.
 pub fn push_log(text: &mut Vec<u8>, first: u64, log: &Log) -> Result<(), NoMemory>
+    requires { first + length log.now.lines ≤ 2 ^ 63 }
+    ensures written { OnOk result (text.new.items ≡ text.old.items ++ log_text first log.now.lines) }
+    ensures kept { OnErr result (text.new.items ≡ text.old.items) }
+{
+    let length = text.len();
+    match push_lines(text, first, log) {
+        Ok(()) => Ok(()),
+        Err(why) => {
+            text.truncate(length);
+            Err(why)
+        }
+    }
+}
+
+// Adds the lines of a log. Where memory runs out the first bytes of what was to be added may stand there.
+fn push_lines(text: &mut Vec<u8>, first: u64, log: &Log) -> Result<(), NoMemory>
     requires { first + length log.now.lines ≤ 2 ^ 63 }
     ensures written { OnOk result (text.new.items ≡ text.old.items ++ log_text first log.now.lines) }
     ensures begins { (n : ℕ) × (text.new.items ≡ text.old.items ++ take n (log_text first log.now.lines)) }

@@ -5,7 +5,7 @@ use Rattle.rup_check.specs.Packed.{line_at, no_line}
 use Rattle.lrat_text.specs.Lines.{line_of}
 use Rattle.lrat_text.specs.LogText.{log_fields, log_text}
 use Rattle.lrat_text.proofs.CutLemmas.{all-begins, grown, step-begins}
-use Rattle.lrat_text.proofs.write.push_log.Goals as goal
+use Rattle.lrat_text.proofs.write.push_lines.Goals as goal
 
 -- a line more is written
 pub more : (text : List ℕ) (first i : ℕ) (lines : List Line) → i < length lines

@@ -3,7 +3,7 @@ use Rattle.std.proofs.Common.{◌∙◌, ◌+◌, ◌<◌, ◌∷◌, ◌++◌, 
 use Rattle.std.proofs.lemmas.List.{drop_more}
 use Rattle.lrat_text.specs.LogText.{spaced}
 use Rattle.lrat_text.proofs.CutLemmas.{all-begins, none-begins, numbers-cut, part-begins}
-use Rattle.lrat_text.proofs.write.push_numbers.Goals as goal
+use Rattle.lrat_text.proofs.write.push_each.Goals as goal
 
 pub returns-in_err-extend_from_slice-clause-begins : goal.returns-in_err-extend_from_slice-clause-begins
 returns-in_err-extend_from_slice-clause-begins c =
