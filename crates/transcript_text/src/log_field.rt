@@ -57,7 +57,7 @@ fn first_number<'a>(text: &'a [u8]) -> Option<(usize, Lit, Option<&'a [u8]>)>
 }
 
 // The first field of a text where it is a number from 1, of digits alone, with no 0 before them: where it ends, what it says,
-// and what stands behind the space after it. None where it isn't, or is too long to be read so.
+// and what stands behind the space after it. None where it isn't, or may be too great to be read so.
 fn first_numeral<'a>(text: &'a [u8]) -> Option<(usize, u64, Option<&'a [u8]>)>
     ensures fields { IfSome result (λ x. fields_of text.now ≡ take x.0 text.now ∷ option_map_or (λ rest. fields_of rest.now) x.2 []) }
     ensures numeral { IfSome result (λ x. IsNumeral (take x.0 text.now) x.1) }
@@ -83,7 +83,8 @@ fn first_numeral<'a>(text: &'a [u8]) -> Option<(usize, u64, Option<&'a [u8]>)>
     }
 }
 
-// How many digits a text begins with, and what they say; those that make more than a number may be are left out.
+// How many digits a text begins with, and what they say; where they could make more than a number may be, only the first of
+// them, which can't.
 fn digits_at(text: &[u8]) -> (usize, u64)
     ensures count { result.0 ≤ length text.now }
     ensures digits { all_ascii_digits (take result.0 text.now) ≡ true }
