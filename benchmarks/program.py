@@ -18,7 +18,8 @@ def told(words):
 
 
 def built(top, name, needs):
-    """Builds the program `name`.txt of this folder, which needs these crates, below the folder `top`. Gives its path."""
+    """Builds the program `name`.txt of this folder, which needs these crates, below the folder `top`. What is written of its
+    proof is in `name`_proofs, where there is such a folder. Gives its path."""
     print("proving and building the program, which takes some minutes", file=sys.stderr, flush=True)
     shutil.copytree(TOP / "crates", top / "crates", ignore=shutil.ignore_patterns("out"))
     (top / "crates.txt").write_text((TOP / "crates.txt").read_text() + f"\n{name}: {needs}\n")
@@ -27,6 +28,9 @@ def built(top, name, needs):
     crate = top / "crates" / name
     (crate / "src").mkdir(parents=True)
     shutil.copy(TOP / "benchmarks" / f"{name}.txt", crate / "src" / "main.rt")
+    proofs = TOP / "benchmarks" / f"{name}_proofs"
+    if proofs.exists():
+        shutil.copytree(proofs, crate / "proofs")
     # rt builds a program by running it; without its files it ends at once.
     done = subprocess.run(["rt", "run"], cwd=crate, stdout=subprocess.PIPE, stderr=subprocess.STDOUT, text=True)
     program = crate / "out" / name
