@@ -29,8 +29,11 @@ def built(top, name, needs):
     (crate / "src").mkdir(parents=True)
     shutil.copy(TOP / "benchmarks" / f"{name}.txt", crate / "src" / "main.rt")
     proofs = TOP / "benchmarks" / f"{name}_proofs"
-    if proofs.exists():
-        shutil.copytree(proofs, crate / "proofs")
+    # They are texts there, since rt wants each proof file within a crate.
+    for text in proofs.rglob("*.txt"):
+        place = (crate / "proofs" / text.relative_to(proofs)).with_suffix(".antt")
+        place.parent.mkdir(parents=True, exist_ok=True)
+        shutil.copy(text, place)
     # rt builds a program by running it; without its files it ends at once.
     done = subprocess.run(["rt", "run"], cwd=crate, stdout=subprocess.PIPE, stderr=subprocess.STDOUT, text=True)
     program = crate / "out" / name
