@@ -28,7 +28,7 @@ use Rattle.cert_types.specs.Walks.{first_move, start_map}
 use Rattle.cert_types.proofs.Validity.{unless-parts, fit-clean, proof-follows, proof_line, some_line}
 use Rattle.cert_types.proofs.SpentLaws.{is-none, then-none, lines-spent, spent-lines, moves-spent, spent-moves}
 
-unless-from : (b : Bool) (place : Place) (rest : Option Place) → b ≡ true → rest ≡ None → unless b place rest ≡ None
+pub unless-from : (b : Bool) (place : Place) (rest : Option Place) → b ≡ true → rest ≡ None → unless b place rest ≡ None
 unless-from true place rest e f = f
 unless-from false place rest e f = cc
 
@@ -53,7 +53,7 @@ open-parts true c e = cc
 open-parts false c e = (refl, e)
 
 -- a log that follows and ends empty passes the test of each line
-follows-proof : (vars : ℕ) (clauses : List (List Lit)) (place : ℕ) (lines : List Line) → lines_fault vars clauses place lines ≡ None → ends_empty lines ≡ true → first_line (is_proof_line vars) clauses place lines ≡ None
+pub follows-proof : (vars : ℕ) (clauses : List (List Lit)) (place : ℕ) (lines : List Line) → lines_fault vars clauses place lines ≡ None → ends_empty lines ≡ true → first_line (is_proof_line vars) clauses place lines ≡ None
 follows-proof vars clauses place [] e f = cc
 follows-proof vars clauses place (line ∷ []) e f =
     let parts = lines-next vars clauses place line [] e in

@@ -7,13 +7,15 @@ ghost use Rattle.pack_defs.specs.Lists.{is_ascending};
 use crate::answer::{Answer, CertifyFault, CertifyWhy, Place, Receipt, Refutation};
 use crate::certified::Certified;
 use crate::certify::certify;
+use crate::outside::certify_outside;
 use crate::samples::{
     EMPTY_AGAIN, NOT_ONE, OUT_OF_TURN, THE_END, Text, crowded_stations, fit, four_stations,
-    learner, on_one, proof, receipt, task, walk, walker,
+    learner, log, on_one, proof, receipt, task, walk, walker,
 };
 use crate::start::start_map;
 use pack_defs::pair::Pair;
 use rup_check::cursors::{Hints, Literals};
+use rup_check::line::Log;
 use rup_check::lines::Lines;
 use std::alloc::{AllocError as NoMemory, Global};
 use std::test::Fail;
@@ -88,6 +90,47 @@ fn faults_of_proofs(rt: HostRuntime) -> Result<(), Fail> {
         (9, ALL, &[NOT_ONE, THE_END, EMPTY_AGAIN], SECOND),
     ];
     assert_eq!(rt; wrong_proof(rt.alloc(), CASES)?, None);
+    Ok(())
+}
+
+// Where a log from outside is at fault, of the test of the first three stations; and that it comes back.
+fn outside_fault(alloc: Global, log: Log) -> Result<Option<Place>, NoMemory> {
+    let book = four_stations(alloc)?;
+    let task = task(alloc, &[1, 2, 3], &[(1, 15), (2, 14)])?;
+    let count = log.lines.len();
+    match certify_outside(alloc, &book, &task, log) {
+        Ok(_) => Ok(None),
+        Err(fault) => match fault.why {
+            CertifyWhy::Rejected(place) if fault.log.lines.len() == count => Ok(Some(place)),
+            CertifyWhy::Rejected(_) => Ok(Some(Place::Kind)),
+            CertifyWhy::NoMemory => Err(NoMemory),
+        },
+    }
+}
+
+#[test]
+fn faults_of_logs_from_outside(rt: HostRuntime) -> Result<(), Fail> {
+    const CASES: &[(&[Text], Option<Place>)] = &[
+        (&[NOT_ONE, THE_END], None),
+        (&[], COUNT),
+        // A line that does not follow, a last line that is not empty, an empty line before the last.
+        (&[OUT_OF_TURN, THE_END], FIRST),
+        (&[THE_END], FIRST),
+        (&[NOT_ONE], FIRST),
+        (&[NOT_ONE, OUT_OF_TURN], SECOND),
+        (&[NOT_ONE, THE_END, EMPTY_AGAIN], SECOND),
+    ];
+    for (lines, want) in CASES {
+        assert_eq!(rt; outside_fault(rt.alloc(), log(rt.alloc(), lines)?)?, *want);
+    }
+    // One line more than a proof from outside may have; with one less, the first of them does not follow.
+    for (count, want) in [(1_000_001, COUNT), (1_000_000, FIRST)] {
+        let mut lines = Lines::new(rt.alloc());
+        for _ in 0..count {
+            lines.push(&[], &[])?;
+        }
+        assert_eq!(rt; outside_fault(rt.alloc(), Log { lines })?, want);
+    }
     Ok(())
 }
 

@@ -18,8 +18,9 @@ use Rattle.cert_types.specs.declared.answer.Refutation.{Refutation}
 use Rattle.cert_types.specs.declared.answer.Place.{Place}
 use Rattle.cert_types.specs.declared.answer.Place.TheVariants.{Kind, Count, Subset, Station, PairOf, LineAt, MoveAt}
 use Rattle.cert_types.specs.Valid.{answer_fault, fit_fault, place_of, unless, IsValid}
-use Rattle.cert_types.specs.Outside.{IsOutsideProof}
+use Rattle.cert_types.specs.Outside.{IsOutsideProof, outside_fault}
 use Rattle.cert_types.specs.declared.outside.OutsideProof.{OutsideProof}
+use Rattle.cert_types.proofs.Outsiders.{outside-means, means-outside}
 use Rattle.cert_types.proofs.Validity.{unless-parts, fit-clean}
 use Rattle.auction_core.specs.declared.record.Shown.{Shown}
 use Rattle.auction_core.specs.declared.record.Shown.TheVariants.{Empty, Fits, Same, NoChannel, Refuted, Outside, Undecided}
@@ -28,9 +29,8 @@ use Rattle.auction_core.specs.Backed.{IsValidOf, AreReceipts, IsSettledBy, IsSte
 use Rattle.auction_core.proofs.Sets.{unasked-cases}
 use Rattle.transcript_text.specs.declared.transcript.TranscriptStep.{TranscriptStep}
 use Rattle.transcript_text.specs.Spelling.{clauses_in, first_number, first_of, firsts_of}
-use Rattle.transcript_check.specs.NotShown.{or_first_line, receipt_fault, fault_or, each_fault, receipts_fault, refuted_fault, outside_fault, outside_log_fault, one_log_fault, query_fault, is_bare, is_like_before, is_unasked_so, unasked_fault, step_fault}
+use Rattle.transcript_check.specs.NotShown.{or_first_line, receipt_fault, fault_or, each_fault, receipts_fault, refuted_fault, outside_log_fault, one_log_fault, query_fault, is_bare, is_like_before, is_unasked_so, unasked_fault, step_fault}
 use Rattle.transcript_check.specs.Sound.{IsNumbered}
-use Rattle.transcript_check.proofs.LogLemmas.{outside-means, means-outside}
 
 pub unless-from : (b : Bool) (place : Place) (rest : Option Place) → b ≡ true → rest ≡ None → unless b place rest ≡ None
 unless-from true place rest e f = f
@@ -119,13 +119,13 @@ outside-shown : (book : BookView) (task : Task) (proof : OutsideProof) (firsts :
 outside-shown book task proof [] e = absurd (absurd-place Kind e)
 outside-shown book task proof (first ∷ []) e =
     let right = first_number (clauses_in book task.set) proof.log.lines in
-    let parts = numbered-parts (first == right) (outside_fault book task proof.log.lines) e in
-    (outside-means book task proof parts.1, ap (λ (n : ℕ). n ∷ []) (eqb-true first right parts.0))
+    let parts = numbered-parts (first == right) (outside_fault book task.set proof.log.lines) e in
+    (outside-means book task.set proof parts.1, ap (λ (n : ℕ). n ∷ []) (eqb-true first right parts.0))
 outside-shown book task proof (first ∷ second ∷ more) e = absurd (absurd-place Kind e)
 
 outside-none : (book : BookView) (task : Task) (proof : OutsideProof) → IsOutsideProof book task.set proof → one_log_fault book task proof.log.lines (first_number (clauses_in book task.set) proof.log.lines ∷ []) ≡ None
 outside-none book task proof h =
-    rw (eq-eqb (first_number (clauses_in book task.set) proof.log.lines) (first_number (clauses_in book task.set) proof.log.lines) refl) (means-outside book task proof h)
+    rw (eq-eqb (first_number (clauses_in book task.set) proof.log.lines) (first_number (clauses_in book task.set) proof.log.lines) refl) (means-outside book task.set proof h)
 
 -- A query about a station, as each test's is.
 pub query-shown : (sc : Scenario) (book : BookView) (task : Task) (s : ℕ) (shown : Shown) (firsts : List ℕ) → task.station ≡ Some s → query_fault sc book task shown firsts ≡ None

@@ -1,6 +1,6 @@
 -- The first step of a transcript that is not shown, and why. That a step's test comes first, and then the places of its
 -- answer in their order, is this project's own.
-use Rattle.std.specs.Prelude.{ℕ, Bool, true, false, ◌≡◌, ◌&&◌, ◌+◌, ◌==◌, nat_le, nat_lt, if◌then◌else◌, List, [], ◌∷◌, length, slice_get, Option, Some, None, is_none, option_map}
+use Rattle.std.specs.Prelude.{ℕ, Bool, true, false, ◌≡◌, ◌&&◌, ◌+◌, ◌==◌, if◌then◌else◌, List, [], ◌∷◌, length, slice_get, Option, Some, None, is_none, option_map}
 use Rattle.std.specs.Option.{option_map_or}
 use Rattle.pack_defs.specs.declared.scenario.Scenario.{Scenario}
 use Rattle.pack_defs.specs.declared.worker.Worker.{Worker}
@@ -8,7 +8,6 @@ use Rattle.pack_defs.specs.Book.{BookView}
 use Rattle.pack_defs.specs.Lists.{is_empty}
 use Rattle.pack_defs.specs.Prices.{start_set}
 use Rattle.pack_defs.specs.ClockRule.{ClockState, ClockTest, clock_tests, is_active}
-use Rattle.cnf_encode.specs.Formula.{packing_formula, variables_in}
 use Rattle.rup_check.specs.declared.line.Line.{Line}
 use Rattle.cert_types.specs.declared.task.Task.{Task}
 use Rattle.cert_types.specs.declared.answer.Answer.TheVariants.{Refuted as Refutes, Spent}
@@ -16,8 +15,7 @@ use Rattle.cert_types.specs.declared.answer.Receipt.{Receipt}
 use Rattle.cert_types.specs.declared.answer.Refutation.{Refutation}
 use Rattle.cert_types.specs.declared.answer.Place.{Place}
 use Rattle.cert_types.specs.declared.answer.Place.TheVariants.{Kind, Count, Subset, Station, PairOf, LineAt, MoveAt}
-use Rattle.cert_types.specs.FirstLine.{first_line}
-use Rattle.cert_types.specs.Refutes.{is_proof_line}
+use Rattle.cert_types.specs.Outside.{outside_fault}
 use Rattle.cert_types.specs.Valid.{answer_fault, fit_fault, unless}
 use Rattle.auction_core.specs.declared.record.Shown.{Shown}
 use Rattle.auction_core.specs.declared.record.Shown.TheVariants.{Empty, Fits, Same, NoChannel, Refuted, Outside, Undecided}
@@ -79,17 +77,10 @@ abbrev pub refuted_fault : BookView → Task → Option Worker → Refutation �
 refuted_fault book task None how = Some Kind
 refuted_fault book task (Some worker) how = answer_fault book task worker (Refutes how)
 
--- the fault of a log over the clauses of a test's set, of which no worker is named: its number of lines, the first line that
--- is no proof's
-abbrev pub outside_fault : BookView → Task → List Line → Option Place
-outside_fault book task lines =
-    unless (nat_lt 0 (length lines) && nat_le (length lines) 1000000) Count
-    (option_map LineAt (first_line (is_proof_line (variables_in book task.set)) (packing_formula book task.set) 1 lines))
-
--- the same of a log whose first line has this number
+-- the fault of a proof from outside, whose log's first line has this number
 abbrev pub outside_log_fault : BookView → Task → List Line → ℕ → Option Place
 outside_log_fault book task lines first =
-    let fault = outside_fault book task lines in
+    let fault = outside_fault book task.set lines in
     if first == first_number (clauses_in book task.set) lines then fault else or_first_line fault
 
 -- there is one number first

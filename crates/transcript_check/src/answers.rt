@@ -1,30 +1,29 @@
 //! The check of what one query was settled by: a fit, a worker's refutation, a proof from outside.
 
 ghost use Rattle.std.specs.Prelude.{◌≡◌, IfErr, IfOk, None, Some, length, option_map, slice_get};
+ghost use Rattle.cert_types.specs.Outside.{outside_fault};
 ghost use Rattle.cert_types.specs.Query.{IsQuery};
 ghost use Rattle.cert_types.specs.Valid.{answer_fault, fit_fault};
 ghost use Rattle.transcript_check.specs.Checked.{Tells};
-ghost use Rattle.transcript_check.specs.NotShown.{one_log_fault, outside_fault, refuted_fault};
+ghost use Rattle.transcript_check.specs.NotShown.{one_log_fault, refuted_fault};
 ghost use Rattle.transcript_check.specs.declared.error.ShownWhy.TheVariants.{NotValid};
 
 use crate::numbers::is_first;
 use crate::step_err::{StepErr, not_valid, numbered, why_of};
 use cert_types::answer::{Answer, Place, Refutation};
 use cert_types::certify::certify_query;
-use cert_types::outside::OutsideProof;
+use cert_types::outside::{OutsideProof, certify_outside};
 use cert_types::task::Task;
 use cnf_encode::count::clause_count;
 use pack_defs::book::Book;
 use pack_defs::channel_map::ChannelMap;
-use pack_defs::items::Items;
 use pack_defs::worker::{Kind, Worker};
 use std::alloc::Global;
 
-// A worker of no scenario. A fit is judged alike of any, and a proof from outside as one of a worker that learns and has
-// this budget.
+// A worker of no scenario: a fit is judged alike of any.
 const NO_ONE: Worker = Worker {
     kind: Kind::Cdcl,
-    budget: 1_000_000,
+    budget: 1,
     seed: 0,
 };
 
@@ -91,7 +90,7 @@ pub(crate) fn refuted(
     }
 }
 
-// A proof from outside, where it refutes the task's set: it is judged as a proof over the whole set.
+// A proof from outside, where it refutes the task's set.
 fn refuting(
     alloc: Global,
     book: &Book,
@@ -100,16 +99,12 @@ fn refuting(
 ) -> Result<OutsideProof, StepErr>
     requires { IsQuery book.now task.now }
     ensures same { IfOk result (λ p. p ≡ proof) }
-    ensures valid { IfOk result (λ p. outside_fault book.now task.now proof.log.lines ≡ None) }
-    ensures why { IfErr result (λ e. Tells e (option_map NotValid (outside_fault book.now task.now proof.log.lines))) }
+    ensures valid { IfOk result (λ p. outside_fault book.now task.now.set proof.log.lines ≡ None) }
+    ensures why { IfErr result (λ e. Tells e (option_map NotValid (outside_fault book.now task.now.set proof.log.lines))) }
 {
-    let subset = Items::from_vec(Vec::from_slice(alloc, task.set.as_slice())?);
-    let log = proof.log;
-    let answer = Answer::Refuted(Refutation::Proof { subset, log });
-    match let_through(alloc, book, task, &NO_ONE, answer) {
-        Ok(Answer::Refuted(Refutation::Proof { subset: _, log })) => Ok(OutsideProof { log }),
-        Ok(_) => unreachable!(),
-        Err(e) => Err(e),
+    match certify_outside(alloc, book, task, proof.log) {
+        Ok(proof) => Ok(proof),
+        Err(fault) => Err(why_of(fault.why)),
     }
 }
 

@@ -1,5 +1,6 @@
 -- By the lemmas, both ways.
 use Rattle.cert_types.proofs.Meaning.{fit-means, means-fit, proof-means, means-proof, dead-means, means-dead, lines-means, means-lines, moves-means, means-moves}
+use Rattle.cert_types.proofs.Outsiders.{outside-means, means-outside}
 use Rattle.cert_types.proofs.laws.what_valid_means.Goals as goal
 
 pub returns-clause-fit : goal.returns-clause-fit
@@ -16,3 +17,6 @@ returns-clause-lines c book task worker log = (λ e. lines-means book task worke
 
 pub returns-clause-moves : goal.returns-clause-moves
 returns-clause-moves c book task worker moves = (λ e. moves-means book task worker moves e, λ h. means-moves book task worker moves h)
+
+pub returns-clause-outside : goal.returns-clause-outside
+returns-clause-outside c book set proof = (λ e. outside-means book set proof e, λ h. means-outside book set proof h)
