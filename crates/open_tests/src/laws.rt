@@ -1,0 +1,27 @@
+//! What a proof from outside changes of a record, and of the auction's result: nothing but that its test was left open.
+
+ghost use Rattle.std.specs.Prelude.{◌≡◌, ℕ, List, MatchOption, ⊤, map};
+ghost use Rattle.pack_defs.specs.Book.{BookView};
+ghost use Rattle.pack_defs.specs.ClockRule.{ClockState, ClockTest, clock_rule};
+ghost use Rattle.pack_defs.specs.ResultRows.{result_rows};
+ghost use Rattle.pack_defs.specs.declared.scenario.Scenario.{Scenario};
+ghost use Rattle.cert_types.specs.declared.outside.OutsideProof.{OutsideProof};
+ghost use Rattle.auction_core.specs.Backed.{IsBacked, undecided_of};
+ghost use Rattle.auction_core.specs.Rule.{IsAuction};
+ghost use Rattle.auction_core.specs.State.{test_of};
+ghost use Rattle.auction_core.specs.declared.record.Record.{Record};
+ghost use Rattle.open_tests.specs.Queries.{step_at};
+ghost use Rattle.open_tests.specs.Settled.{IsLeftOpen, RefutesStep, decided_row, settled_by, without_test};
+
+/// A record of which an undecided test is settled by a proof that refutes its set is backed, leaves the others open, and the
+/// clock rule with these left open comes to the same state as before.
+pub fn settled_by_a_proof()
+    ensures backed { (sc : Scenario) (book : BookView) (rec : Record) (step : ℕ) (proof : OutsideProof) → IsAuction sc book → IsBacked sc book rec.order rec → IsLeftOpen rec step → RefutesStep book rec step proof → IsBacked sc book rec.order (settled_by rec step proof) }
+    ensures left { (sc : Scenario) (book : BookView) (rec : Record) (step : ℕ) (proof : OutsideProof) → IsAuction sc book → IsBacked sc book rec.order rec → IsLeftOpen rec step → MatchOption (step_at rec.steps step) ⊤ (λ x. undecided_of (settled_by rec step proof).steps ≡ without_test (test_of x) (undecided_of rec.steps)) }
+    ensures clock { (sc : Scenario) (book : BookView) (rec : Record) (step : ℕ) (proof : OutsideProof) → IsAuction sc book → IsBacked sc book rec.order rec → IsLeftOpen rec step → RefutesStep book rec step proof → clock_rule sc book rec.order (undecided_of (settled_by rec step proof).steps) ≡ clock_rule sc book rec.order (undecided_of rec.steps) }
+{}
+
+/// The rows of a result with one test fewer left open are the same rows, with that test's undecided made frozen.
+pub fn one_row_is_decided()
+    ensures { (sc : Scenario) (state : ClockState) (tests : List ClockTest) (t : ClockTest) → result_rows sc state (without_test t tests) ≡ map (decided_row t) (result_rows sc state tests) }
+{}
