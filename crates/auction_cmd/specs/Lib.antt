@@ -12,6 +12,7 @@ pub mod Promises
 pub mod Records
 pub mod Refusals
 pub mod Says
+pub mod Settling
 pub mod Transcripts
 pub mod Verified
 pub mod VerifyPromises

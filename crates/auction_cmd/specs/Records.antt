@@ -28,9 +28,13 @@ outcome order inputs undecided = clock_rule inputs.scenario inputs.book order un
 abbrev pub result_of : Order → Inputs → List ClockTest → List ℕ
 result_of order inputs undecided = result_text inputs.scenario (outcome order inputs undecided) undecided
 
--- the text of a run's summary
+-- the text of the summary
+abbrev pub summary_in : Order → Inputs → List ClockTest → List ℕ
+summary_in order inputs undecided = summary_text inputs.scenario (outcome order inputs undecided) undecided
+
+-- that of a run
 abbrev pub summary_of : Inputs → List ClockTest → List ℕ
-summary_of inputs undecided = summary_text inputs.scenario (outcome run_order inputs undecided) undecided
+summary_of inputs undecided = summary_in run_order inputs undecided
 
 -- the status of an auction that was carried through: 0 where no test was left open, else 1
 abbrev pub done_status : List ClockTest → ℕ

@@ -1,11 +1,10 @@
 //! Why a transcript is refused, and the line that says so.
 
-ghost use Rattle.std.specs.Prelude.{◌≡◌, ◌≤◌, ◌++◌, decimal};
+ghost use Rattle.std.specs.Prelude.{◌≡◌, ◌≤◌, ◌++◌};
 ghost use Rattle.auction_cmd.specs.Says.{Says};
 ghost use Rattle.auction_cmd.specs.Verified.{fault_line, unread_text, why_text};
 
-use crate::says::say;
-use itoa::Buffer;
+use crate::says::{say, say_at};
 use outside_io::sink::Sink;
 use transcript_check::ShownWhy;
 use transcript_text::TextErr;
@@ -17,16 +16,6 @@ pub enum TranscriptFault {
     Unread(TextErr),
     /// A step of it is not shown: the first one, where the start is step 0.
     Unshown { step: u64, why: ShownWhy },
-}
-
-// Says of the file of this name what is wrong with it at this place.
-fn say_at<'p, K: Sink>(out: &mut K, name: &'p str, what: &'p str, at: u64, why: &'p str)
-    ensures says { Says (K.held out.old) (K.held out.new) (K.faults out.old) (K.faults out.new)
-        (name.now ++ (what.now ++ (decimal at ++ why.now))) }
-    ensures counted { K.faults out.old ≤ K.faults out.new }
-{
-    let mut place = Buffer::new();
-    say(out, &[name, what, place.format(at), why]);
 }
 
 // Why a step is not shown, and the line's end.

@@ -1,11 +1,12 @@
 //! The lines that the program writes at its end.
 
-ghost use Rattle.std.specs.Prelude.{◌≤◌, OnErr};
+ghost use Rattle.std.specs.Prelude.{◌≤◌, ◌++◌, OnErr, decimal};
 ghost use Rattle.std.specs.List.{flat_map};
 ghost use Rattle.outside_io.specs.Faults.{HasRisen};
 ghost use Rattle.outside_io.specs.Loads.{Writes};
 ghost use Rattle.auction_cmd.specs.Says.{Says};
 
+use itoa::Buffer;
 use outside_io::sink::{Failed, Sink};
 
 // Writes these parts, up to the first that fails, as one write of them all would. It takes no memory.
@@ -27,4 +28,14 @@ pub fn say<K: Sink>(out: &mut K, parts: &[&str])
     ensures counted { K.faults out.old ≤ K.faults out.new }
 {
     let _ = write_parts(out, parts);
+}
+
+/// Says of the file of this name what is wrong with it at this place. It takes no memory.
+pub fn say_at<'p, K: Sink>(out: &mut K, name: &'p str, what: &'p str, at: u64, why: &'p str)
+    ensures says { Says (K.held out.old) (K.held out.new) (K.faults out.old) (K.faults out.new)
+        (name.now ++ (what.now ++ (decimal at ++ why.now))) }
+    ensures counted { K.faults out.old ≤ K.faults out.new }
+{
+    let mut place = Buffer::new();
+    say(out, &[name, what, place.format(at), why]);
 }

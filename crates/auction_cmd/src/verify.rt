@@ -1,147 +1,28 @@
 //! The command `verify`: a transcript is checked step by step, and the result that it shows is printed.
 
-ghost use Rattle.std.specs.Prelude.{◌≡◌, ◌≢◌, ◌≤◌, ℕ, IfOk, List, Ok, Err};
+ghost use Rattle.std.specs.Prelude.{◌≡◌, IfOk};
 ghost use Rattle.pack_defs.specs.Scenario.{IsWithinLimits};
 ghost use Rattle.auction_core.specs.Backed.{undecided_of};
-ghost use Rattle.auction_core.specs.Setup.{IsOfAuction};
-ghost use Rattle.transcript_text.specs.Pieces.{HasRead};
 ghost use Rattle.auction_cmd.specs.Ends.{VerifyEnds};
 ghost use Rattle.auction_cmd.specs.Faults.{IsCounted};
 ghost use Rattle.auction_cmd.specs.Outside.{outside};
 ghost use Rattle.auction_cmd.specs.Records.{IsRecordIn, result_of};
-ghost use Rattle.auction_cmd.specs.Transcripts.{ExplainsDenied, ExplainsLoad, IsTextRead, IsVerdict, not_read};
-ghost use Rattle.auction_cmd.specs.Verified.{record_by, verified};
 ghost use Rattle.auction_cmd.specs.Words.{verify_seen};
 
-use crate::explain::{explain, say_memory, starve};
-use crate::fault::{TranscriptFault, say_fault};
+use crate::explain::starve;
 use crate::finish::Finish;
-use crate::inputs::{FILE_LIMIT, Inputs, read_inputs};
+use crate::inputs::Inputs;
 use crate::run::done_status;
-use crate::says::say;
+use crate::shown::{ShownAuction, shown_by};
 use crate::words::VerifyArgs;
 use auction_core::record::Record;
-use outside_io::folder::{Folder, LoadErr};
+use outside_io::folder::Folder;
 use outside_io::sink::Sink;
 use result_text::rows::result_csv;
 use std::alloc::{AllocError as NoMemory, Global};
-use transcript_check::VerifyErr;
-use transcript_check::verify::verify as check_transcript;
-use transcript_text::TextErr;
-use transcript_text::again::is_named;
-use transcript_text::reader::TranscriptReader;
-use transcript_text::transcript::Transcript;
 
-// Why there is no record of a transcript.
-pub enum Denied {
-    // The transcript is at fault.
-    Fault(TranscriptFault),
-    // Memory ran out.
-    NoMemory,
-}
-
-// What is read of the transcript of this name, up to its end. A fault of its text is told once it has been read.
-fn read_text<F: Folder>(
-    alloc: Global,
-    folder: &mut F,
-    inputs: &Inputs,
-    name: &str,
-) -> Result<TranscriptReader, LoadErr>
-    requires { IsWithinLimits inputs.now.scenario }
-    ensures read { IsTextRead inputs.now (F.files folder.old) (F.steady folder.old) (F.faults folder.old) (F.faults folder.new) name.now result }
-    ensures files { F.files folder.new ≡ F.files folder.old }
-    ensures counted { F.faults folder.old ≤ F.faults folder.new }
-    ensures uncounted { result ≢ Err LoadErr.Failed → F.faults folder.new ≡ F.faults folder.old }
-{
-    let mut reader = TranscriptReader::new(alloc);
-    let mut piece = Vec::new(alloc);
-    folder.begin(name, FILE_LIMIT)?;
-    loop {
-        folder.piece(&mut piece)?;
-        if piece.is_empty() {
-            return Ok(reader);
-        }
-        reader = reader.feed(&inputs.scenario, &inputs.book, &piece)?;
-    }
-}
-
-// Says why the transcript of this name was not loaded. It gives the status.
-fn say_unloaded<K: Sink>(out: &mut K, name: &str, why: LoadErr) -> u8
-    ensures { ExplainsLoad name.now why (K.held out.old) (K.held out.new) (K.faults out.old) (K.faults out.new) result }
-{
-    match why {
-        LoadErr::Failed => {
-            say(out, &["cannot read ", name, "\n"]);
-            3
-        }
-        LoadErr::TooLong => {
-            say(out, &[name, ": too long\n"]);
-            5
-        }
-        LoadErr::NoMemory => {
-            say_memory(out);
-            8
-        }
-    }
-}
-
-// The record that a transcript shows.
-fn record_from(alloc: Global, inputs: &Inputs, transcript: Transcript) -> Result<Record, Denied>
-    requires { IsOfAuction inputs.now.scenario inputs.now.book }
-    ensures { IsVerdict inputs.now (record_by inputs.now (Ok transcript)) result }
-{
-    // With its length a book says that it is in order.
-    let _stations = inputs.book.len();
-    match check_transcript(alloc, &inputs.book, &inputs.scenario, transcript) {
-        Ok(record) => Ok(record),
-        Err(VerifyErr::NotShown { step, why }) => {
-            Err(Denied::Fault(TranscriptFault::Unshown { step, why }))
-        }
-        Err(VerifyErr::NoMemory) => Err(Denied::NoMemory),
-    }
-}
-
-// Why there is no record of a text that was not read so.
-fn not_read(why: TextErr) -> Denied
-    ensures { result ≡ not_read why }
-{
-    match why {
-        TextErr::Version => Denied::Fault(TranscriptFault::Unread(TextErr::Version)),
-        TextErr::BadLine { n } => Denied::Fault(TranscriptFault::Unread(TextErr::BadLine { n })),
-        TextErr::Truncated => Denied::Fault(TranscriptFault::Unread(TextErr::Truncated)),
-        TextErr::NoMemory => Denied::NoMemory,
-    }
-}
-
-// The record that the text of a transcript shows, of which this was read. It touches nothing outside.
-fn record_of(alloc: Global, inputs: &Inputs, read: TranscriptReader) -> Result<Record, Denied>
-    requires { IsOfAuction inputs.now.scenario inputs.now.book }
-    ensures { (text : List ℕ) → HasRead inputs.now.scenario inputs.now.book text read → IsVerdict inputs.now (verified inputs.now text) result }
-{
-    match read.finish(&inputs.scenario, &inputs.book) {
-        Ok(transcript) => record_from(alloc, inputs, transcript),
-        Err(why) => Err(not_read(why)),
-    }
-}
-
-// Says why there is no record of the transcript of this name. It gives the status.
-fn say_denied<K: Sink>(out: &mut K, name: &str, why: Denied) -> u8
-    ensures { ExplainsDenied name.now why (K.held out.old) (K.held out.new) (K.faults out.old) (K.faults out.new) result }
-{
-    match why {
-        Denied::Fault(fault) => {
-            say_fault(out, name, fault);
-            9
-        }
-        Denied::NoMemory => {
-            say_memory(out);
-            8
-        }
-    }
-}
-
-// The text of the record's result.
-fn result_text(alloc: Global, inputs: &Inputs, rec: &Record) -> Result<Vec<u8>, NoMemory>
+/// The text of the record's result.
+pub fn result_text(alloc: Global, inputs: &Inputs, rec: &Record) -> Result<Vec<u8>, NoMemory>
     requires limits { IsWithinLimits inputs.now.scenario }
     requires of { IsRecordIn rec.now.order inputs.now rec.now }
     ensures { IfOk result (λ text. text.items ≡ result_of rec.now.order inputs.now (undecided_of rec.now.steps)) }
@@ -167,18 +48,9 @@ pub fn verify<F: Folder, K: Sink>(
         (outside (F.files folder.new) (F.faults folder.new) (F.steady folder.new) (K.held out.new) (K.faults out.new) (K.sure out.new))
         result.status }
 {
-    let inputs = match read_inputs(alloc, folder, &files.inputs) {
-        Ok(inputs) => inputs,
-        Err(stop) => return Finish::without_record(explain(out, &files.inputs, stop)),
-    };
-    let read = match read_text(alloc, folder, &inputs, files.transcript) {
-        Ok(read) => read,
-        Err(why) => return Finish::without_record(say_unloaded(out, files.transcript, why)),
-    };
-    is_named(&inputs.scenario, &inputs.book);
-    let record = match record_of(alloc, &inputs, read) {
-        Ok(record) => record,
-        Err(why) => return Finish::without_record(say_denied(out, files.transcript, why)),
+    let ShownAuction { inputs, record } = match shown_by(alloc, files, folder, out) {
+        Ok(shown) => shown,
+        Err(finish) => return finish,
     };
     let Ok(result) = result_text(alloc, &inputs, &record) else {
         return starve(out);

@@ -1,0 +1,75 @@
+//! The command `export`: the packing formula of a step's test is stored, for a prover of the reader's own.
+
+ghost use Rattle.std.specs.Prelude.{◌≡◌, IfOk, None};
+ghost use Rattle.auction_core.specs.Setup.{IsOfAuction};
+ghost use Rattle.auction_cmd.specs.Ends.{ExportEnds};
+ghost use Rattle.auction_cmd.specs.Faults.{IsCounted};
+ghost use Rattle.auction_cmd.specs.Outside.{outside};
+ghost use Rattle.auction_cmd.specs.Records.{IsRecordIn};
+ghost use Rattle.auction_cmd.specs.Settling.{missing_fault};
+ghost use Rattle.auction_cmd.specs.Words.{export_seen};
+ghost use Rattle.open_tests.specs.Queries.{step_at};
+ghost use Rattle.open_tests.specs.Settling.{formula_text};
+
+use crate::explain::starve;
+use crate::finish::Finish;
+use crate::inputs::Inputs;
+use crate::proof_words::ExportArgs;
+use crate::run::store;
+use crate::settling::{missing_fault, say_step};
+use crate::shown::{ShownAuction, shown_by};
+use auction_core::record::Record;
+use open_tests::formula::formula_of_step;
+use outside_io::folder::Folder;
+use outside_io::sink::Sink;
+use std::alloc::{AllocError as NoMemory, Global};
+
+// The text of the packing formula of the stations that a step asked about.
+fn formula_of(
+    alloc: Global,
+    inputs: &Inputs,
+    rec: &Record,
+    step: u32,
+) -> Result<Vec<u8>, NoMemory>
+    requires auction { IsOfAuction inputs.now.scenario inputs.now.book }
+    requires own { IsRecordIn rec.now.order inputs.now rec.now }
+    requires there { missing_fault (step_at rec.now.steps step) ≡ None }
+    ensures { IfOk result (λ text. text.items ≡ formula_text inputs.now.book rec.now step) }
+{
+    let text = formula_of_step(alloc, rec, &inputs.book, step)?;
+    Ok(text)
+}
+
+/// Reads the inputs and the transcript, checks each step of it, and stores the packing formula of the stations that a step asked
+/// about, as DIMACS CNF. A formula that has no model says that they don't fit. It prints nothing, and gives no record.
+pub fn export<F: Folder, K: Sink>(
+    alloc: Global,
+    files: &ExportArgs<'_>,
+    folder: &mut F,
+    out: &mut K,
+) -> Finish
+    ensures ends { ExportEnds (export_seen files.now)
+        (outside (F.files folder.old) (F.faults folder.old) (F.steady folder.old) (K.held out.old) (K.faults out.old) (K.sure out.old))
+        (outside (F.files folder.new) (F.faults folder.new) (F.steady folder.new) (K.held out.new) (K.faults out.new) (K.sure out.new))
+        result.status result.result }
+    ensures counted { IsCounted
+        (outside (F.files folder.old) (F.faults folder.old) (F.steady folder.old) (K.held out.old) (K.faults out.old) (K.sure out.old))
+        (outside (F.files folder.new) (F.faults folder.new) (F.steady folder.new) (K.held out.new) (K.faults out.new) (K.sure out.new))
+        result.status }
+{
+    let ShownAuction { inputs, record } = match shown_by(alloc, &files.shown, folder, out) {
+        Ok(shown) => shown,
+        Err(finish) => return finish,
+    };
+    if let Some(fault) = missing_fault(&record, files.step) {
+        say_step(out, files.step, fault);
+        return Finish::without_record(10);
+    }
+    let Ok(text) = formula_of(alloc, &inputs, &record, files.step) else {
+        return starve(out);
+    };
+    match store(folder, out, files.formula, &text) {
+        Ok(()) => Finish::without_record(0),
+        Err(status) => Finish::without_record(status),
+    }
+}

@@ -1,0 +1,177 @@
+//! The command `import`: a step that was left open is settled by a proof from outside.
+
+ghost use Rattle.std.specs.Prelude.{◌≡◌, ◌≢◌, ◌≤◌, IfOk, None, Ok, Err};
+ghost use Rattle.pack_defs.specs.Scenario.{IsWithinLimits};
+ghost use Rattle.auction_core.specs.Backed.{undecided_of};
+ghost use Rattle.auction_core.specs.Setup.{IsOfAuction};
+ghost use Rattle.transcript_text.specs.Spelling.{transcript_text};
+ghost use Rattle.open_tests.specs.Queries.{step_at};
+ghost use Rattle.open_tests.specs.Settling.{settled_text};
+ghost use Rattle.auction_cmd.specs.Delivery.{Delivers};
+ghost use Rattle.auction_cmd.specs.Ends.{ImportEnds, pair_of_texts};
+ghost use Rattle.auction_cmd.specs.Faults.{IsCounted};
+ghost use Rattle.auction_cmd.specs.Outside.{outside};
+ghost use Rattle.auction_cmd.specs.Records.{IsRecordIn, result_of, summary_in};
+ghost use Rattle.auction_cmd.specs.Settling.{open_fault};
+ghost use Rattle.auction_cmd.specs.Transcripts.{ExplainsLog, IsFileRead, IsSettling};
+ghost use Rattle.auction_cmd.specs.Words.{import_seen};
+
+use crate::explain::{say_memory, starve};
+use crate::finish::Finish;
+use crate::inputs::{FILE_LIMIT, Inputs};
+use crate::proof_words::ImportArgs;
+use crate::run::{done_status, store};
+use crate::settling::{open_fault, say_log, say_step};
+use crate::shown::{ShownAuction, say_unloaded, shown_by};
+use crate::verify::result_text;
+use auction_core::record::Record;
+use open_tests::settle::{SettleErr, settle_by_text};
+use outside_io::folder::{Folder, LoadErr};
+use outside_io::sink::Sink;
+use result_text::counts::summary;
+use std::alloc::{AllocError as NoMemory, Global};
+use transcript_text::again::is_held;
+use transcript_text::write::write_transcript;
+
+// The texts of a record of which a step was settled.
+#[derive(Drop)]
+struct Texts {
+    result: Vec<u8>,
+    transcript: Vec<u8>,
+    summary: Vec<u8>,
+}
+
+// The bytes of the file of this name.
+fn file_bytes<F: Folder>(alloc: Global, folder: &mut F, name: &str) -> Result<Vec<u8>, LoadErr>
+    ensures read { IsFileRead (F.files folder.old) (F.steady folder.old) (F.faults folder.old) (F.faults folder.new) name.now result }
+    ensures files { F.files folder.new ≡ F.files folder.old }
+    ensures steady { F.steady folder.new ≡ F.steady folder.old }
+    ensures counted { F.faults folder.old ≤ F.faults folder.new }
+    ensures uncounted { result ≢ Err LoadErr.Failed → F.faults folder.new ≡ F.faults folder.old }
+{
+    let mut bytes = Vec::new(alloc);
+    folder.load(name, FILE_LIMIT, &mut bytes)?;
+    Ok(bytes)
+}
+
+// The record, its undecided step of this number settled by the log of this text. It touches nothing outside.
+fn settled_by(
+    alloc: Global,
+    inputs: &Inputs,
+    rec: Record,
+    step: u32,
+    text: &[u8],
+) -> Result<Record, SettleErr>
+    requires auction { IsOfAuction inputs.now.scenario inputs.now.book }
+    requires own { IsRecordIn rec.order inputs.now rec }
+    requires undecided { open_fault (step_at rec.steps step) ≡ None }
+    ensures { IsSettling inputs.now (settled_text inputs.now.book rec step text.now) result }
+{
+    // With its length a book says that it is in order.
+    let _stations = inputs.book.len();
+    settle_by_text(alloc, rec, &inputs.book, step, text)
+}
+
+// Says why the log of this name settled nothing. It gives the status.
+fn say_unsettled<K: Sink>(out: &mut K, name: &str, why: SettleErr) -> u8
+    ensures { ExplainsLog name.now why (K.held out.old) (K.held out.new) (K.faults out.old) (K.faults out.new) result }
+{
+    if let SettleErr::NoMemory = why {
+        say_memory(out);
+        return 8;
+    }
+    say_log(out, name, why);
+    10
+}
+
+// The texts of this record, which is one of the inputs' auction. It touches nothing outside.
+fn texts_of(alloc: Global, inputs: &Inputs, rec: &Record) -> Result<Texts, NoMemory>
+    requires limits { IsWithinLimits inputs.now.scenario }
+    requires of { IsRecordIn rec.now.order inputs.now rec.now }
+    ensures result { IfOk result (λ texts. texts.result.items ≡ result_of rec.now.order inputs.now (undecided_of rec.now.steps)) }
+    ensures transcript { IfOk result (λ texts. texts.transcript.items ≡ transcript_text inputs.now.scenario inputs.now.book rec.now) }
+    ensures summary { IfOk result (λ texts. texts.summary.items ≡ summary_in rec.now.order inputs.now (undecided_of rec.now.steps)) }
+{
+    let result = result_text(alloc, inputs, rec)?;
+    let transcript = write_transcript(alloc, rec, &inputs.book)?;
+    let summary = summary(alloc, rec, &inputs.book)?;
+    Ok(Texts {
+        result,
+        transcript,
+        summary,
+    })
+}
+
+// Stores the two texts under their names, in order, and writes the summary. It gives the status, which is `done` where all is
+// done.
+fn deliver<F: Folder, K: Sink>(
+    folder: &mut F,
+    out: &mut K,
+    names: &ImportArgs<'_>,
+    texts: &Texts,
+    done: u8,
+) -> u8
+    ensures delivers { Delivers (pair_of_texts (import_seen names.now) texts.now.result.items texts.now.transcript.items)
+        texts.now.summary.items done
+        (outside (F.files folder.old) (F.faults folder.old) (F.steady folder.old) (K.held out.old) (K.faults out.old) (K.sure out.old))
+        (outside (F.files folder.new) (F.faults folder.new) (F.steady folder.new) (K.held out.new) (K.faults out.new) (K.sure out.new))
+        result }
+    ensures counted { IsCounted
+        (outside (F.files folder.old) (F.faults folder.old) (F.steady folder.old) (K.held out.old) (K.faults out.old) (K.sure out.old))
+        (outside (F.files folder.new) (F.faults folder.new) (F.steady folder.new) (K.held out.new) (K.faults out.new) (K.sure out.new))
+        result }
+{
+    if let Err(status) = store(folder, out, names.result, &texts.result) {
+        return status;
+    }
+    if let Err(status) = store(folder, out, names.transcript, &texts.transcript) {
+        return status;
+    }
+    match out.write(&texts.summary) {
+        Ok(()) => done,
+        Err(_) => 4,
+    }
+}
+
+/// Reads the inputs and the transcript, checks each step of it, and settles an undecided step by a log that refutes the step's
+/// set: the log in LRAT's lines over the clauses that `export` stores for that step, of which what stands behind its first empty
+/// line is passed over. The result and the transcript of the new record are stored, in this order, and the summary is written.
+pub fn import<F: Folder, K: Sink>(
+    alloc: Global,
+    files: &ImportArgs<'_>,
+    folder: &mut F,
+    out: &mut K,
+) -> Finish
+    ensures ends { ImportEnds (import_seen files.now)
+        (outside (F.files folder.old) (F.faults folder.old) (F.steady folder.old) (K.held out.old) (K.faults out.old) (K.sure out.old))
+        (outside (F.files folder.new) (F.faults folder.new) (F.steady folder.new) (K.held out.new) (K.faults out.new) (K.sure out.new))
+        result.status result.result }
+    ensures counted { IsCounted
+        (outside (F.files folder.old) (F.faults folder.old) (F.steady folder.old) (K.held out.old) (K.faults out.old) (K.sure out.old))
+        (outside (F.files folder.new) (F.faults folder.new) (F.steady folder.new) (K.held out.new) (K.faults out.new) (K.sure out.new))
+        result.status }
+{
+    let ShownAuction { inputs, record } = match shown_by(alloc, &files.shown, folder, out) {
+        Ok(shown) => shown,
+        Err(finish) => return finish,
+    };
+    if let Some(fault) = open_fault(&record, files.step) {
+        say_step(out, files.step, fault);
+        return Finish::without_record(10);
+    }
+    let log = match file_bytes(alloc, folder, files.proof) {
+        Ok(log) => log,
+        Err(why) => return Finish::without_record(say_unloaded(out, files.proof, why)),
+    };
+    let settled = match settled_by(alloc, &inputs, record, files.step, &log) {
+        Ok(settled) => settled,
+        Err(why) => return Finish::without_record(say_unsettled(out, files.proof, why)),
+    };
+    let Ok(texts) = texts_of(alloc, &inputs, &settled) else {
+        return starve(out);
+    };
+    is_held(&settled);
+    let done = done_status(&settled);
+    let status = deliver(folder, out, files, &texts, done);
+    Finish::with_record(status, settled)
+}

@@ -1,0 +1,87 @@
+-- What the settling of a step asks, and what it leaves.
+use Rattle.std.proofs.Common.{◌≡◌, ◌≤◌, ◌<◌, ◌-◌, ◌∙◌, ℕ, zero, suc, Bool, true, false, if◌then◌else◌, List, length, Option, Some, None, is_none, refl, sym, ap, subst, arith}
+use Rattle.std.specs.Prelude.{MatchOption, Result, Ok, Err, []}
+use Rattle.std.specs.Option.{option_map_or}
+use Rattle.std.proofs.lemmas.Option.{slice_get_within}
+use Rattle.pack_defs.specs.Book.{BookView}
+use Rattle.rup_check.specs.declared.line.Line.{Line}
+use Rattle.rup_check.specs.declared.line.Log.{Log}
+use Rattle.cert_types.specs.Outside.{IsOutsideProof, outside_fault}
+use Rattle.cert_types.specs.declared.answer.CertifyWhy.{CertifyWhy}
+use Rattle.cert_types.specs.declared.answer.CertifyWhy.TheVariants.{Rejected, NoMemory as NoSpace}
+use Rattle.cert_types.specs.declared.answer.Place.{Place}
+use Rattle.cert_types.specs.declared.outside.OutsideProof.{OutsideProof}
+use Rattle.cert_types.specs.declared.task.Task.{Task}
+use Rattle.cert_types.specs.Certificate.{Tells}
+use Rattle.cert_types.proofs.Outsiders.{means-outside}
+use Rattle.auction_core.specs.Backed.{is_undecided}
+use Rattle.auction_core.specs.declared.record.Record.{Record}
+use Rattle.auction_core.specs.declared.record.Step.{Step}
+use Rattle.lrat_text.specs.LogReading.{log_of}
+use Rattle.lrat_text.specs.declared.error.LratErr.{LratErr}
+use Rattle.lrat_text.specs.declared.error.LratErr.TheVariants.{Truncated, BadLine, RatStep, NoMemory as NoRoom}
+use Rattle.lrat_text.specs.Steps.{Fails as NotRead}
+use Rattle.transcript_text.specs.Spelling.{clauses_in}
+use Rattle.open_tests.specs.Cut.{up_to_empty}
+use Rattle.open_tests.specs.Queries.{step_at, task_at}
+use Rattle.open_tests.specs.Settled.{IsLeftOpen, RefutesStep, settled_by}
+use Rattle.open_tests.specs.Settling.{Fails, refused, set_of_step, settled_lines, settled_log, settled_text, unread}
+use Rattle.open_tests.specs.declared.settle.SettleErr.{SettleErr}
+use Rattle.open_tests.specs.declared.settle.SettleErr.TheVariants.{Unread, NoRefutation, NoMemory}
+
+-- ---- the step
+
+-- a step that there is has a number from 1 to how many there are
+pub step-there : (steps : List Step) (step : ℕ) (x : Step) → step_at steps step ≡ Some x → (1 ≤ step) × (step ≤ length steps)
+step-there steps zero x e = cc
+step-there steps (suc i) x e = let within = slice_get_within steps i x e in (omega arith, omega arith)
+
+some-match : {A : Type 0} (o : Option A) (P : A → Type 0) → MatchOption o ⊥ P → (x : A) × (o ≡ Some x)
+some-match None P h = absurd h
+some-match (Some x) P h = (x, refl)
+
+pub open-there : (rec : Record) (step : ℕ) → IsLeftOpen rec step → (1 ≤ step) × (step ≤ length rec.steps)
+open-there rec step h =
+    let found = some-match (step_at rec.steps step) (λ x. is_undecided x.shown ≡ true) h in
+    step-there rec.steps step found.0 found.1
+
+-- ---- the set
+
+pub task-set : (book : BookView) (rec : Record) (step : ℕ) (task : Task) → task_at book rec step ≡ Some task → set_of_step book rec step ≡ task.set
+task-set book rec step task e = ap (λ o. option_map_or (λ (t : Task). t.set) o []) e
+
+pub proof-refutes : (book : BookView) (rec : Record) (step : ℕ) (task : Task) (proof : OutsideProof) → task_at book rec step ≡ Some task → IsOutsideProof book task.set proof → RefutesStep book rec step proof
+proof-refutes book rec step task proof e h = subst (λ o. MatchOption o ⊥ (λ t. IsOutsideProof book t.set proof)) (sym e) h
+
+-- ---- the log
+
+-- the log that was read, over the clauses of the task's set
+read-so : (book : BookView) (rec : Record) (step : ℕ) (task : Task) (text : List ℕ) (r : Result Log LratErr) → task_at book rec step ≡ Some task → log_of text (clauses_in book task.set) ≡ r → settled_text book rec step text ≡ settled_log book rec step r
+unfolding settled_text
+read-so book rec step task text r e is = ap (settled_log book rec step) (ap (λ s. log_of text (clauses_in book s)) (task-set book rec step task e) ∙ is)
+
+-- where the lines refute the set
+pub settled-so : (book : BookView) (rec : Record) (step : ℕ) (task : Task) (text : List ℕ) (log : Log) → task_at book rec step ≡ Some task → log_of text (clauses_in book task.set) ≡ Ok log
+    → IsOutsideProof book task.set (record { log = record { lines = up_to_empty log.lines } }) → settled_text book rec step text ≡ Ok (settled_by rec step (record { log = record { lines = up_to_empty log.lines } }))
+settled-so book rec step task text log e is h =
+    let proof : OutsideProof = record { log = record { lines = up_to_empty log.lines } } in
+    let none : outside_fault book (set_of_step book rec step) (up_to_empty log.lines) ≡ None =
+    ap (λ s. outside_fault book s (up_to_empty log.lines)) (task-set book rec step task e) ∙ means-outside book task.set proof h in
+    read-so book rec step task text (Ok log) e is ∙ ap (λ o. if is_none o then Ok (settled_by rec step proof) else Err NoRefutation) none
+
+-- where they don't, or memory ran out
+pub refused-so : (book : BookView) (rec : Record) (step : ℕ) (task : Task) (text : List ℕ) (log : Log) (why : CertifyWhy) → task_at book rec step ≡ Some task → log_of text (clauses_in book task.set) ≡ Ok log
+    → Tells why (outside_fault book task.set (up_to_empty log.lines)) → Fails (refused why) (settled_text book rec step text)
+refused-so book rec step task text log (Rejected place) e is h =
+    let proof : OutsideProof = record { log = record { lines = up_to_empty log.lines } } in
+    let some : outside_fault book (set_of_step book rec step) (up_to_empty log.lines) ≡ Some place =
+    ap (λ s. outside_fault book s (up_to_empty log.lines)) (task-set book rec step task e) ∙ h in
+    read-so book rec step task text (Ok log) e is ∙ ap (λ o. if is_none o then Ok (settled_by rec step proof) else Err NoRefutation) some
+refused-so book rec step task text log NoSpace e is h = tt
+
+-- where the text is none of a log
+pub unread-so : (book : BookView) (rec : Record) (step : ℕ) (task : Task) (text : List ℕ) (why : LratErr) → task_at book rec step ≡ Some task → NotRead why (log_of text (clauses_in book task.set)) → Fails (unread why) (settled_text book rec step text)
+unread-so book rec step task text Truncated e is = read-so book rec step task text (Err Truncated) e is
+unread-so book rec step task text (BadLine n) e is = read-so book rec step task text (Err (BadLine n)) e is
+unread-so book rec step task text (RatStep n) e is = read-so book rec step task text (Err (RatStep n)) e is
+unread-so book rec step task text NoRoom e is = tt

@@ -1,0 +1,97 @@
+//! An undecided step, settled by the text of a log from outside.
+
+ghost use Rattle.std.specs.Prelude.{◌≡◌, IfErr, IfOk, Ok};
+ghost use Rattle.pack_defs.specs.Scenario.{IsWithinLimits};
+ghost use Rattle.auction_core.specs.Backed.{IsBacked};
+ghost use Rattle.open_tests.specs.Settled.{IsLeftOpen};
+ghost use Rattle.open_tests.specs.Settling.{Fails, refused, settled_text, unread};
+
+use crate::cut::up_to_empty;
+use crate::replace::replace_undecided;
+use crate::task::task_at;
+use auction_core::record::Record;
+use cert_types::answer::CertifyWhy;
+use cert_types::outside::certify_outside;
+use cnf_encode::count::clause_count;
+use lrat_text::LratErr;
+use lrat_text::read::read_log;
+use pack_defs::book::Book;
+use std::alloc::{AllocError, Global};
+
+/// Why a log doesn't settle a step.
+#[derive(Clone, Copy, Debug, PartialEq, Eq)]
+pub enum SettleErr {
+    /// The text is none of a log.
+    Unread(LratErr),
+    /// Up to its first empty line the log is no refutation of the step's set, of at most 1,000,000 lines.
+    NoRefutation,
+    /// Memory ran out.
+    NoMemory,
+}
+
+impl From<AllocError> for SettleErr {
+    ghost use Rattle.open_tests.specs.declared.settle.SettleErr.TheVariants.{NoMemory};
+
+    ghost from_gives = { λ _ e. e ≡ NoMemory };
+
+    fn from(_e: AllocError) -> SettleErr {
+        SettleErr::NoMemory
+    }
+}
+
+// What a text that was not read as a log comes to.
+fn unread(why: LratErr) -> SettleErr
+    ensures { result ≡ unread why }
+{
+    match why {
+        LratErr::NoMemory => SettleErr::NoMemory,
+        LratErr::Truncated => SettleErr::Unread(LratErr::Truncated),
+        LratErr::BadLine { n } => SettleErr::Unread(LratErr::BadLine { n }),
+        LratErr::RatStep { n } => SettleErr::Unread(LratErr::RatStep { n }),
+    }
+}
+
+// What a log that was not let through comes to.
+fn refused(why: CertifyWhy) -> SettleErr
+    ensures { result ≡ refused why }
+{
+    match why {
+        CertifyWhy::Rejected(_) => SettleErr::NoRefutation,
+        CertifyWhy::NoMemory => SettleErr::NoMemory,
+    }
+}
+
+/// The record, its undecided step of this number, from 1, settled by the log that the text says in LRAT's lines over the clauses
+/// of the step's set. What stands behind the log's first empty line is read, and passed over. The record is moved, and no line is
+/// copied. It costs what `task_at`, the reading of the text and the check of the log cost.
+///
+/// # Errors
+///
+/// The text is none of a log, with the first line at fault; the log doesn't refute the step's set in at most 1,000,000 lines; or
+/// memory ran out. The record is gone then.
+#[tactic(auto, unfolding(crate::specs::Settling::settled_text))]
+pub fn settle_by_text(
+    alloc: Global,
+    rec: Record,
+    book: &Book,
+    step: u32,
+    text: &[u8],
+) -> Result<Record, SettleErr>
+    requires backed { IsBacked rec.scenario book.now rec.order rec }
+    requires limits { IsWithinLimits rec.scenario }
+    requires undecided { IsLeftOpen rec step }
+    ensures settled { IfOk result (λ new. settled_text book.now rec step text.now ≡ Ok new) }
+    ensures backed { IfOk result (IsBacked rec.scenario book.now rec.order) }
+    ensures why { IfErr result (λ e. Fails e (settled_text book.now rec step text.now)) }
+{
+    let task = task_at(alloc, &rec, book, step)?;
+    let clauses = clause_count(book, task.set.as_slice());
+    let log = match read_log(alloc, text, clauses) {
+        Ok(log) => up_to_empty(log),
+        Err(why) => return Err(unread(why)),
+    };
+    match certify_outside(alloc, book, &task, log) {
+        Ok(proof) => Ok(replace_undecided(rec, book, step, proof)),
+        Err(fault) => Err(refused(fault.why)),
+    }
+}
