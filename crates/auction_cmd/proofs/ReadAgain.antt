@@ -73,6 +73,14 @@ accepted-limits files names inputs e =
     let (bytes, held) = accepted-scenario files names inputs e in
     subst (λ r. IfOk r IsWithinLimits) held (read-limits bytes)
 
+-- so they are those of an auction
+pub accepted-auction : (files : List StoredFile) (names : InputNames) (inputs : Inputs) → inputs_of files names ≡ Ok inputs → CanBeNamed inputs → IsAuction inputs.scenario inputs.book
+accepted-auction files names inputs e can =
+    let named = can (accepted-channels files names inputs e) in
+    let limits = accepted-limits files names inputs e in
+    let some = limits.some_worker in
+    record { stations = limits.ascend; in_order = named.in_order; workers = omega arith }
+
 -- ---- the transcript of a record
 
 -- a sound transcript's record is what its check gives
@@ -85,8 +93,7 @@ unfolding verified
 record-verified files names inputs rec e can backed done held =
     let named = can (accepted-channels files names inputs e) in
     let limits = accepted-limits files names inputs e in
-    let some = limits.some_worker in
-    let auction : IsAuction inputs.scenario inputs.book = record { stations = limits.ascend; in_order = named.in_order; workers = omega arith } in
+    let auction = accepted-auction files names inputs e can in
     let t = transcript_for inputs.scenario inputs.book rec in
     let none : not_shown inputs.scenario inputs.book t ≡ None = sound-shown inputs.scenario inputs.book t auction (transcript-sound inputs.scenario inputs.book rec auction backed done) in
     let same : transcript_record inputs.scenario inputs.book t ≡ rec = same-again inputs.scenario inputs.book rec auction backed done in

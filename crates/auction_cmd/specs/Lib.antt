@@ -1,7 +1,9 @@
 pub mod Counts
 pub mod Delivery
 pub mod Ends
+pub mod ExportPromises
 pub mod Faults
+pub mod ImportPromises
 pub mod Inputs
 pub mod Made
 pub mod MakePromises

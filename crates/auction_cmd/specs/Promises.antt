@@ -21,16 +21,18 @@ use Rattle.transcript_text.specs.Spelling.{transcript_text}
 use Rattle.auction_cmd.specs.Counts.{counts_text}
 use Rattle.auction_cmd.specs.Delivery.{AllOthersStand, AreStored, AreStoredUpTo}
 use Rattle.auction_cmd.specs.Ends.{AreHeld, run_texts}
+use Rattle.auction_cmd.specs.ExportPromises.{ExportPromises}
+use Rattle.auction_cmd.specs.ImportPromises.{ImportPromises}
 use Rattle.auction_cmd.specs.Inputs.{inputs_of}
 use Rattle.auction_cmd.specs.MakePromises.{MakePromises}
 use Rattle.auction_cmd.specs.Outside.{Outside, IsSaid}
-use Rattle.auction_cmd.specs.Plan.{Plan, no_command, repeats, runs, checks, verifies, makes}
+use Rattle.auction_cmd.specs.Plan.{Plan, no_command, repeats, runs, checks, verifies, makes, exports, imports}
 use Rattle.auction_cmd.specs.Records.{IsOpenRecordOf, IsRecordBy, IsRecordOf, StartFits, StartUnfit, done_status, outcome, result_of, run_order, summary_of}
 use Rattle.auction_cmd.specs.Refusals.{line_of, name_of}
 use Rattle.auction_cmd.specs.Says.{memory_line, open_line, twice_line, unfit_line, unread_line, unwritten_line}
 use Rattle.auction_cmd.specs.Verified.{verified}
 use Rattle.auction_cmd.specs.VerifyPromises.{IsOr, VerifyPromises}
-use Rattle.auction_cmd.specs.Words.{InputNames, MakeNames, RunNames, VerifyNames, output_names}
+use Rattle.auction_cmd.specs.Words.{ExportNames, ImportNames, InputNames, MakeNames, RunNames, VerifyNames, output_names}
 
 -- the inputs that a plan reads which reads no other file, if it reads any
 abbrev pub inputs_read : Plan → Option InputNames
@@ -40,6 +42,8 @@ inputs_read (runs names) = Some names.inputs
 inputs_read (checks names) = Some names
 inputs_read (verifies names) = None
 inputs_read (makes names) = None
+inputs_read (exports names) = None
+inputs_read (imports names) = None
 
 -- the plan reads no file and stores none
 abbrev pub asks_nothing : Plan → Bool
@@ -49,8 +53,10 @@ asks_nothing (runs names) = false
 asks_nothing (checks names) = false
 asks_nothing (verifies names) = false
 asks_nothing (makes names) = false
+asks_nothing (exports names) = false
+asks_nothing (imports names) = false
 
--- the plan stores no file before there is a record
+-- the plan stores no file without a record
 abbrev pub records_first : Plan → Bool
 records_first no_command = true
 records_first (repeats name) = true
@@ -58,6 +64,30 @@ records_first (runs names) = true
 records_first (checks names) = true
 records_first (verifies names) = true
 records_first (makes names) = false
+records_first (exports names) = false
+records_first (imports names) = true
+
+-- the plan verifies a transcript
+abbrev pub verifies_first : Plan → Bool
+verifies_first no_command = false
+verifies_first (repeats name) = false
+verifies_first (runs names) = false
+verifies_first (checks names) = false
+verifies_first (verifies names) = true
+verifies_first (makes names) = false
+verifies_first (exports names) = true
+verifies_first (imports names) = true
+
+-- the plan names a step
+abbrev pub asks_step : Plan → Bool
+asks_step no_command = false
+asks_step (repeats name) = false
+asks_step (runs names) = false
+asks_step (checks names) = false
+asks_step (verifies names) = false
+asks_step (makes names) = false
+asks_step (exports names) = true
+asks_step (imports names) = true
 
 -- the three input files are there
 pub record AreThere (files : List StoredFile) (names : InputNames) : Type 0 where
@@ -153,7 +183,7 @@ pub record IsLeftOpen (files : List StoredFile) (names : RunNames) (before after
   pub line : IsSaid before after open_line
 
 pub record Promises (plan : Plan) (before after : Outside) (status : ℕ) (found : Option Record) : Type 0 where
-  pub statuses : IsTrue (is_in (0 ∷ 1 ∷ 2 ∷ 3 ∷ 4 ∷ 5 ∷ 6 ∷ 7 ∷ 8 ∷ 9 ∷ []) status)
+  pub statuses : IsTrue (is_in (0 ∷ 1 ∷ 2 ∷ 3 ∷ 4 ∷ 5 ∷ 6 ∷ 7 ∷ 8 ∷ 9 ∷ 10 ∷ []) status)
   -- Status 2 comes exactly where the words are no command, but for want of memory.
   pub usage : plan ≡ no_command → (status ≡ 2) ⊎ (status ≡ 8)
   pub usage_only : status ≡ 2 → plan ≡ no_command
@@ -180,12 +210,12 @@ pub record Promises (plan : Plan) (before after : Outside) (status : ℕ) (found
       (inputs : Inputs) × (inputs_of files names ≡ Ok inputs)
       × Writes before.held after.held (counts_text inputs) (Ok tt)
   -- The record: backed, also where the folder tells nothing. `run` has that of its inputs: of an auction that was carried
-  -- through at 0, 1 and 4, of a refuted start at 6 and of one left open at 7. None has one at 2, 3, 5 and 9, nor has `check`.
+  -- through at 0, 1 and 4, of a refuted start at 6 and of one left open at 7. None has one at 2, 3, 5, 9 and 10, nor has `check`.
   pub backed : MatchOption found ⊤ IsSomeRecord
   pub recorded : (names : RunNames) → plan ≡ runs names → IsTrue (is_in (0 ∷ 1 ∷ 4 ∷ []) status) → IsRecordAt names before Done found
   pub refuted_recorded : (names : RunNames) → plan ≡ runs names → status ≡ 6 → IsRecordAt names before StartRefuted found
   pub open_recorded : (names : RunNames) → plan ≡ runs names → status ≡ 7 → IsRecordAt names before StartUndecided found
-  pub unrecorded : IsTrue (is_in (2 ∷ 3 ∷ 5 ∷ 9 ∷ []) status) → found ≡ None
+  pub unrecorded : IsTrue (is_in (2 ∷ 3 ∷ 5 ∷ 9 ∷ 10 ∷ []) status) → found ≡ None
   pub no_record : (names : InputNames) → plan ≡ checks names → found ≡ None
   -- Status 5, beside a name given twice, comes exactly where an input is too long or refused, and the line names the file
   -- and the cause. Before that memory may run out, and a folder that isn't steady may fail.
@@ -221,7 +251,7 @@ pub record Promises (plan : Plan) (before after : Outside) (status : ℕ) (found
   pub nobody : (files : List StoredFile) (names : RunNames) (inputs : Inputs) →
       before.files ≡ Some files → plan ≡ runs names → inputs_of files names.inputs ≡ Ok inputs →
       start_set inputs.scenario ≡ [] → IsFalse (is_in (6 ∷ 7 ∷ []) status)
-  pub run_only : (names : InputNames) → plan ≡ checks names → IsFalse (is_in (1 ∷ 6 ∷ 7 ∷ 9 ∷ []) status)
+  pub run_only : (names : InputNames) → plan ≡ checks names → IsFalse (is_in (1 ∷ 6 ∷ 7 ∷ 9 ∷ 10 ∷ []) status)
   -- Status 4 comes only where a count of faults rose: for `run`, a store failed, or the three texts are stored and the
   -- summary was written, or some of it from the first byte on; for `check` so were the counts. It never comes over a steady folder
   -- and a sink that surely takes the summary, whatever is undecided, or the counts. Where memory runs out at a store, there is
@@ -243,7 +273,7 @@ pub record Promises (plan : Plan) (before after : Outside) (status : ℕ) (found
       before.files ≡ Some files → plan ≡ checks names →
       ((inputs : Inputs) → inputs_of files names ≡ Ok inputs → length (counts_text inputs) ≤ before.sure) → status ≢ 4
   -- No file is touched but RESULT, CHANNELS and TRANSCRIPT, and those only where there is a record of an auction that was
-  -- carried through; `make` alone stores before there is one.
+  -- carried through; `make` alone stores before there is one, and `export` without one.
   pub others : (files : List StoredFile) (names : RunNames) →
       before.files ≡ Some files → plan ≡ runs names → MatchOption after.files ⊥ (λ new. AllOthersStand files new (output_names names))
   pub untouched : records_first plan ≡ true → found ≡ None → after.files ≡ before.files
@@ -260,7 +290,11 @@ pub record Promises (plan : Plan) (before after : Outside) (status : ℕ) (found
   pub verify : (names : VerifyNames) → plan ≡ verifies names → VerifyPromises names before after status found
   -- What may be relied on of `make`: what it stores, and that it ends at 0, 1, 4 or 8.
   pub make : (names : MakeNames) → plan ≡ makes names → MakePromises names before after status found
-  -- Status 9 is of `verify` alone.
-  pub verify_only : status ≡ 9 → (names : VerifyNames) × (plan ≡ verifies names)
+  -- What may be relied on of `export` and of `import`.
+  pub export : (names : ExportNames) → plan ≡ exports names → ExportPromises names before after status found
+  pub import : (names : ImportNames) → plan ≡ imports names → ImportPromises names before after status found
+  -- Status 9 is of the commands alone that verify a transcript, and 10 of `export` and `import`.
+  pub verify_only : status ≡ 9 → IsTrue (verifies_first plan)
+  pub proofs_only : status ≡ 10 → IsTrue (asks_step plan)
   -- At status 8 the line says that memory ran out.
   pub memory : status ≡ 8 → IsSaid before after memory_line

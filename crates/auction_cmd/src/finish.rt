@@ -10,7 +10,8 @@ pub struct Finish {
     /// The exit status.
     pub status: u8,
     /// The record of the auction, where it comes back: of `run` at the statuses 0, 1, 4, 6 and 7, and at 8 where memory ran
-    /// out at a store; of `verify` at 0, 1 and 4; of `make` at 0 and 1, and at 4 where the files are stored.
+    /// out at a store; of `verify` at 0, 1 and 4; of `make` at 0 and 1, and at 4 where the files are stored; of `import` at 0, 1
+    /// and 4, and at 8 where memory ran out at a store.
     pub result: Option<Record>,
 }
 

@@ -1,5 +1,5 @@
 -- What the settling of a step asks, and what it leaves.
-use Rattle.std.proofs.Common.{◌≡◌, ◌≤◌, ◌<◌, ◌-◌, ◌∙◌, ℕ, zero, suc, Bool, true, false, if◌then◌else◌, List, length, Option, Some, None, is_none, refl, sym, ap, subst, arith}
+use Rattle.std.proofs.Common.{◌≡◌, ◌≤◌, ◌<◌, ◌-◌, ◌∙◌, ℕ, zero, suc, Bool, true, false, if◌then◌else◌, List, length, Option, Some, None, is_none, option_map, refl, sym, ap, subst, arith}
 use Rattle.std.specs.Prelude.{MatchOption, Result, Ok, Err, []}
 use Rattle.std.specs.Option.{option_map_or}
 use Rattle.std.proofs.lemmas.Option.{slice_get_within}
@@ -13,8 +13,9 @@ use Rattle.cert_types.specs.declared.answer.Place.{Place}
 use Rattle.cert_types.specs.declared.outside.OutsideProof.{OutsideProof}
 use Rattle.cert_types.specs.declared.task.Task.{Task}
 use Rattle.cert_types.specs.Certificate.{Tells}
-use Rattle.cert_types.proofs.Outsiders.{means-outside}
+use Rattle.cert_types.proofs.Outsiders.{means-outside, outside-means}
 use Rattle.auction_core.specs.Backed.{is_undecided}
+use Rattle.auction_core.specs.State.{test_of, test_task}
 use Rattle.auction_core.specs.declared.record.Record.{Record}
 use Rattle.auction_core.specs.declared.record.Step.{Step}
 use Rattle.lrat_text.specs.LogReading.{log_of}
@@ -23,9 +24,9 @@ use Rattle.lrat_text.specs.declared.error.LratErr.TheVariants.{Truncated, BadLin
 use Rattle.lrat_text.specs.Steps.{Fails as NotRead}
 use Rattle.transcript_text.specs.Spelling.{clauses_in}
 use Rattle.open_tests.specs.Cut.{up_to_empty}
-use Rattle.open_tests.specs.Queries.{step_at, task_at}
+use Rattle.open_tests.specs.Queries.{state_before, step_at, task_at}
 use Rattle.open_tests.specs.Settled.{IsLeftOpen, RefutesStep, settled_by}
-use Rattle.open_tests.specs.Settling.{Fails, refused, set_of_step, settled_lines, settled_log, settled_text, unread}
+use Rattle.open_tests.specs.Settling.{Fails, cut_proof, refused, set_of_step, settled_log, settled_or, settled_text, unread}
 use Rattle.open_tests.specs.declared.settle.SettleErr.{SettleErr}
 use Rattle.open_tests.specs.declared.settle.SettleErr.TheVariants.{Unread, NoRefutation, NoMemory}
 
@@ -62,9 +63,9 @@ read-so book rec step task text r e is = ap (settled_log book rec step) (ap (λ 
 
 -- where the lines refute the set
 pub settled-so : (book : BookView) (rec : Record) (step : ℕ) (task : Task) (text : List ℕ) (log : Log) → task_at book rec step ≡ Some task → log_of text (clauses_in book task.set) ≡ Ok log
-    → IsOutsideProof book task.set (record { log = record { lines = up_to_empty log.lines } }) → settled_text book rec step text ≡ Ok (settled_by rec step (record { log = record { lines = up_to_empty log.lines } }))
+    → IsOutsideProof book task.set (cut_proof log) → settled_text book rec step text ≡ Ok (settled_by rec step (cut_proof log))
 settled-so book rec step task text log e is h =
-    let proof : OutsideProof = record { log = record { lines = up_to_empty log.lines } } in
+    let proof : OutsideProof = cut_proof log in
     let none : outside_fault book (set_of_step book rec step) (up_to_empty log.lines) ≡ None =
     ap (λ s. outside_fault book s (up_to_empty log.lines)) (task-set book rec step task e) ∙ means-outside book task.set proof h in
     read-so book rec step task text (Ok log) e is ∙ ap (λ o. if is_none o then Ok (settled_by rec step proof) else Err NoRefutation) none
@@ -73,7 +74,7 @@ settled-so book rec step task text log e is h =
 pub refused-so : (book : BookView) (rec : Record) (step : ℕ) (task : Task) (text : List ℕ) (log : Log) (why : CertifyWhy) → task_at book rec step ≡ Some task → log_of text (clauses_in book task.set) ≡ Ok log
     → Tells why (outside_fault book task.set (up_to_empty log.lines)) → Fails (refused why) (settled_text book rec step text)
 refused-so book rec step task text log (Rejected place) e is h =
-    let proof : OutsideProof = record { log = record { lines = up_to_empty log.lines } } in
+    let proof : OutsideProof = cut_proof log in
     let some : outside_fault book (set_of_step book rec step) (up_to_empty log.lines) ≡ Some place =
     ap (λ s. outside_fault book s (up_to_empty log.lines)) (task-set book rec step task e) ∙ h in
     read-so book rec step task text (Ok log) e is ∙ ap (λ o. if is_none o then Ok (settled_by rec step proof) else Err NoRefutation) some
@@ -85,3 +86,47 @@ unread-so book rec step task text Truncated e is = read-so book rec step task te
 unread-so book rec step task text (BadLine n) e is = read-so book rec step task text (Err (BadLine n)) e is
 unread-so book rec step task text (RatStep n) e is = read-so book rec step task text (Err (RatStep n)) e is
 unread-so book rec step task text NoRoom e is = tt
+
+-- ---- what a text settles
+
+-- a proof that refutes the set settles
+settled-or : (book : BookView) (rec : Record) (step : ℕ) (proof : OutsideProof) → IsOutsideProof book (set_of_step book rec step) proof → settled_or book rec step proof ≡ Ok (settled_by rec step proof)
+settled-or book rec step proof h =
+    ap (λ o. if is_none o then Ok (settled_by rec step proof) else Err NoRefutation) (means-outside book (set_of_step book rec step) proof h)
+
+pub where-settled : (book : BookView) (rec : Record) (step : ℕ) (text : List ℕ) (log : Log) → log_of text (clauses_in book (set_of_step book rec step)) ≡ Ok log → IsOutsideProof book (set_of_step book rec step) (cut_proof log) → settled_text book rec step text ≡ Ok (settled_by rec step (cut_proof log))
+unfolding settled_text
+where-settled book rec step text log is h = ap (settled_log book rec step) is ∙ settled-or book rec step (cut_proof log) h
+
+-- and nothing else does
+or-settled : (book : BookView) (rec new : Record) (step : ℕ) (proof : OutsideProof) → settled_or book rec step proof ≡ Ok new → IsOutsideProof book (set_of_step book rec step) proof × (new ≡ settled_by rec step proof)
+or-settled book rec new step proof e = go (outside_fault book (set_of_step book rec step) proof.log.lines) refl e
+  where
+    go : (o : Option Place) → outside_fault book (set_of_step book rec step) proof.log.lines ≡ o → (if is_none o then Ok (settled_by rec step proof) else Err NoRefutation) ≡ Ok new → IsOutsideProof book (set_of_step book rec step) proof × (new ≡ settled_by rec step proof)
+    go None is f = (outside-means book (set_of_step book rec step) proof is, cc)
+    go (Some place) is f = cc
+
+-- what a text that settled says
+pub record IsSaid (book : BookView) (rec new : Record) (step : ℕ) (text : List ℕ) : Type 0 where
+  pub log : Log
+  pub read : log_of text (clauses_in book (set_of_step book rec step)) ≡ Ok log
+  pub refutes : IsOutsideProof book (set_of_step book rec step) (cut_proof log)
+  pub same : new ≡ settled_by rec step (cut_proof log)
+
+pub settled-said : (book : BookView) (rec new : Record) (step : ℕ) (text : List ℕ) → settled_text book rec step text ≡ Ok new → IsSaid book rec new step text
+unfolding settled_text
+settled-said book rec new step text e = go (log_of text (clauses_in book (set_of_step book rec step))) refl e
+  where
+    go : (r : Result Log LratErr) → log_of text (clauses_in book (set_of_step book rec step)) ≡ r → settled_log book rec step r ≡ Ok new → IsSaid book rec new step text
+    go (Ok log) is f = let both = or-settled book rec new step (cut_proof log) f in record { log = log; read = is; refutes = both.0; same = both.1 }
+    go (Err why) is f = cc
+
+-- where the step is there, its set is that of its query
+pub said-refutes : (book : BookView) (rec : Record) (step : ℕ) (proof : OutsideProof) (x : Step) → step_at rec.steps step ≡ Some x → IsOutsideProof book (set_of_step book rec step) proof → RefutesStep book rec step proof
+said-refutes book rec step proof x there h = go (step_at rec.steps step) there h
+  where
+    go : (o : Option Step) → o ≡ Some x
+        → IsOutsideProof book (option_map_or (λ (t : Task). t.set) (option_map (λ (y : Step). test_task rec.scenario book (state_before rec step) (test_of y)) o) []) proof
+        → MatchOption (option_map (λ (y : Step). test_task rec.scenario book (state_before rec step) (test_of y)) o) ⊥ (λ t. IsOutsideProof book t.set proof)
+    go None is k = cc
+    go (Some y) is k = k

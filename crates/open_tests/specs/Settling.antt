@@ -5,9 +5,9 @@ use Rattle.std.specs.Prelude.{ℕ, ◌≡◌, if◌then◌else◌, Unit, List, [
 use Rattle.std.specs.Option.{option_map_or}
 use Rattle.pack_defs.specs.Book.{BookView}
 use Rattle.cnf_encode.specs.Formula.{packing_formula, variables_in}
-use Rattle.rup_check.specs.declared.line.Line.{Line}
 use Rattle.rup_check.specs.declared.line.Log.{Log}
 use Rattle.cert_types.specs.Outside.{outside_fault}
+use Rattle.cert_types.specs.declared.outside.OutsideProof.{OutsideProof}
 use Rattle.cert_types.specs.declared.answer.CertifyWhy.{CertifyWhy}
 use Rattle.cert_types.specs.declared.answer.CertifyWhy.TheVariants.{Rejected}
 use Rattle.cert_types.specs.declared.answer.CertifyWhy.TheVariants as certify
@@ -33,17 +33,19 @@ formula_text book rec step =
     let set = set_of_step book rec step in
     dimacs_text (record { vars = variables_in book set; list = packing_formula book set })
 
--- the record, its step of this number shown by these lines, where they refute the step's set
-abbrev pub settled_lines : BookView → Record → ℕ → List Line → Result Record SettleErr
-settled_lines book rec step lines =
-    if is_none (outside_fault book (set_of_step book rec step) lines)
-    then Ok (settled_by rec step (record { log = record { lines = lines } }))
-    else Err NoRefutation
+-- a log up to its first empty line, as a proof from outside
+abbrev pub cut_proof : Log → OutsideProof
+cut_proof log = record { log = record { lines = up_to_empty log.lines } }
+
+-- the record, its step of this number shown by this proof, where it refutes the step's set
+abbrev pub settled_or : BookView → Record → ℕ → OutsideProof → Result Record SettleErr
+settled_or book rec step proof =
+    if is_none (outside_fault book (set_of_step book rec step) proof.log.lines) then Ok (settled_by rec step proof) else Err NoRefutation
 
 -- by a log, if it was read: by its lines up to the first empty one
 abbrev pub settled_log : BookView → Record → ℕ → Result Log LratErr → Result Record SettleErr
 settled_log book rec step (Err why) = Err (Unread why)
-settled_log book rec step (Ok log) = settled_lines book rec step (up_to_empty log.lines)
+settled_log book rec step (Ok log) = settled_or book rec step (cut_proof log)
 
 -- The record, its step of this number settled by the log that this text says over the clauses of the step's set; else why not:
 -- the text is none of a log, or the log doesn't refute that set.

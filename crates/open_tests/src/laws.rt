@@ -1,17 +1,22 @@
 //! What a proof from outside changes of a record, and of the auction's result: nothing but that its test was left open.
 
-ghost use Rattle.std.specs.Prelude.{◌≡◌, ℕ, List, MatchOption, ⊤, map};
+ghost use Rattle.std.specs.Prelude.{◌≡◌, ℕ, List, MatchOption, Ok, ⊤, map};
 ghost use Rattle.pack_defs.specs.Book.{BookView};
 ghost use Rattle.pack_defs.specs.ClockRule.{ClockState, ClockTest, clock_rule};
 ghost use Rattle.pack_defs.specs.ResultRows.{result_rows};
 ghost use Rattle.pack_defs.specs.declared.scenario.Scenario.{Scenario};
+ghost use Rattle.rup_check.specs.declared.line.Log.{Log};
+ghost use Rattle.cert_types.specs.Outside.{IsOutsideProof};
 ghost use Rattle.cert_types.specs.declared.outside.OutsideProof.{OutsideProof};
 ghost use Rattle.auction_core.specs.Backed.{IsBacked, undecided_of};
 ghost use Rattle.auction_core.specs.Rule.{IsAuction};
 ghost use Rattle.auction_core.specs.State.{test_of};
 ghost use Rattle.auction_core.specs.declared.record.Record.{Record};
+ghost use Rattle.lrat_text.specs.LogReading.{log_of};
+ghost use Rattle.transcript_text.specs.Spelling.{clauses_in};
 ghost use Rattle.open_tests.specs.Queries.{step_at};
 ghost use Rattle.open_tests.specs.Settled.{IsLeftOpen, RefutesStep, decided_row, settled_by, without_test};
+ghost use Rattle.open_tests.specs.Settling.{cut_proof, set_of_step, settled_text};
 
 /// A record of which an undecided test is settled by a proof that refutes its set is backed, leaves the others open, and the
 /// clock rule with these left open comes to the same state as before.
@@ -24,4 +29,11 @@ pub fn settled_by_a_proof()
 /// The rows of a result with one test fewer left open are the same rows, with that test's undecided made frozen.
 pub fn one_row_is_decided()
     ensures { (sc : Scenario) (state : ClockState) (tests : List ClockTest) (t : ClockTest) → result_rows sc state (without_test t tests) ≡ map (decided_row t) (result_rows sc state tests) }
+{}
+
+/// A text settles a step exactly where it says a log over the clauses of the step's set whose lines up to the first empty one are a
+/// proof from outside that the set doesn't fit; and then the record is the old one with the step shown by that proof.
+pub fn what_settles()
+    ensures settles { (book : BookView) (rec : Record) (step : ℕ) (text : List ℕ) (log : Log) → log_of text (clauses_in book (set_of_step book rec step)) ≡ Ok log → IsOutsideProof book (set_of_step book rec step) (cut_proof log) → settled_text book rec step text ≡ Ok (settled_by rec step (cut_proof log)) }
+    ensures settled { (book : BookView) (rec new : Record) (step : ℕ) (text : List ℕ) → settled_text book rec step text ≡ Ok new → (log : Log) × (log_of text (clauses_in book (set_of_step book rec step)) ≡ Ok log) × IsOutsideProof book (set_of_step book rec step) (cut_proof log) × (new ≡ settled_by rec step (cut_proof log)) }
 {}

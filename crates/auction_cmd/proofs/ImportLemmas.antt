@@ -1,0 +1,387 @@
+-- What may be relied on of `import` follows from how it ends, case by case.
+use Rattle.std.proofs.Common.{◌≡◌, ◌≢◌, ◌⊎◌, ◌<◌, ◌≤◌, ◌∙◌, ℕ, true, inl, inr, List, [], ◌∷◌, length, refl, sym, ap, subst, arith, Option, Some, None}
+use Rattle.std.specs.Prelude.{Contains, Ok, Err, Result, IsTrue, MatchOption, ⊤}
+use Rattle.pack_defs.specs.Lists.{is_in}
+use Rattle.pack_defs.specs.ClockRule.{ClockTest, FrozenAt}
+use Rattle.pack_defs.specs.Threshold.{IsThresholdPrice}
+use Rattle.pack_defs.proofs.ThresholdLaw.{threshold}
+use Rattle.outside_io.specs.Faults.{HasRisen}
+use Rattle.outside_io.specs.Files.{StoredFile, bytes_of}
+use Rattle.auction_core.specs.Backed.{undecided_of}
+use Rattle.auction_core.specs.declared.record.Record.{Record}
+use Rattle.auction_core.specs.declared.record.Step.{Step}
+use Rattle.open_tests.specs.Queries.{step_at}
+use Rattle.open_tests.specs.Settling.{settled_text}
+use Rattle.open_tests.specs.declared.settle.SettleErr.{SettleErr}
+use Rattle.transcript_text.specs.Named.{IsHeld}
+use Rattle.auction_cmd.specs.declared.fault.TranscriptFault.{TranscriptFault}
+use Rattle.auction_cmd.specs.declared.inputs.Inputs.{Inputs}
+use Rattle.auction_cmd.specs.declared.inputs.Stop.TheVariants.{Refused}
+use Rattle.auction_cmd.specs.declared.refusal.Refusal.{Refusal}
+use Rattle.auction_cmd.specs.declared.settling.StepFault.{StepFault}
+use Rattle.auction_cmd.specs.Delivery.{AllOthersStand, AreStored, Delivers, NamedText}
+use Rattle.auction_cmd.specs.Ends.{AreHeld, ImportEnds, IsFileHeld, IsNotLoaded, IsShown, VerifyEnds, import_texts}
+use Rattle.auction_cmd.specs.Ends.ImportEnds.{NothingShown, ImportStarved, NoOpenStep, NoLog, NotSettled, Settled}
+use Rattle.auction_cmd.specs.Ends.IsNotLoaded.{Unloaded, LongText}
+use Rattle.auction_cmd.specs.ImportPromises.{ImportPromises, IsImported, IsLogIn, IsSoundIn}
+use Rattle.auction_cmd.specs.Inputs.{file_limit, inputs_of}
+use Rattle.auction_cmd.specs.Outside.{Outside, IsSaid}
+use Rattle.auction_cmd.specs.Promises.{IsSomeRecord}
+use Rattle.auction_cmd.specs.Records.{IsRecordIn, done_status, outcome, summary_in}
+use Rattle.auction_cmd.specs.Says.{memory_line}
+use Rattle.auction_cmd.specs.Settling.{log_line, open_fault, step_line}
+use Rattle.auction_cmd.specs.Verified.{verified}
+use Rattle.auction_cmd.specs.VerifyPromises.{IsGiven, IsOr, VerifyPromises}
+use Rattle.auction_cmd.specs.Words.{ImportNames, repeated_import}
+use Rattle.auction_cmd.proofs.DeliveryLemmas.{AreApart, Ended, ended-of, for-told, others-up-to}
+use Rattle.auction_cmd.proofs.DeliveryLemmas.Ended.{Both, NotSaid, NotStored, OutOfRoom}
+use Rattle.auction_cmd.proofs.ExportLemmas.{shown-given, shown-is, shown-not-halted, shown-not-long, shown-not-refused, unshown-or, unshown-statuses}
+use Rattle.auction_cmd.proofs.ImportEndLemmas.{changed, open-some, two-faults}
+use Rattle.auction_cmd.proofs.OutputNames.{own-imports}
+use Rattle.auction_cmd.proofs.ReadAgain.{accepted-auction, record-verified}
+use Rattle.auction_cmd.proofs.ReadingLemmas.{accepted-ascend, accepted-values}
+use Rattle.auction_cmd.proofs.RunLemmas.{absent, ended-statuses, never, some-record}
+use Rattle.auction_cmd.proofs.Statuses.{apart-lists, off, one-of, within}
+use Rattle.auction_cmd.proofs.VerifyCases.{verify-memory}
+use Rattle.auction_cmd.proofs.VerifyEndLemmas.{no-text, same-text, unloaded-statuses}
+use Rattle.auction_cmd.proofs.VerifyLemmas.{verify-promises}
+
+-- ---- two that are one
+
+-- the step of two records that are one
+same-fault : (names : ImportNames) (rec other : Record) → rec ≡ other → open_fault (step_at rec.steps names.step) ≡ open_fault (step_at other.steps names.step)
+same-fault names rec other same = ap (λ (r : Record). open_fault (step_at r.steps names.step)) same
+
+-- what two texts settle that are one
+same-settled : (names : ImportNames) (a b : Inputs) (rec other : Record) (s t : List ℕ) → a ≡ b → rec ≡ other → s ≡ t → settled_text a.book rec names.step s ≡ settled_text b.book other names.step t
+same-settled names a b rec other s t p q r = λ i. settled_text (p i).book (q i) names.step (r i)
+
+ok-not-err : {X : Type 0} {A B : Type 0} (r : Result A B) (a : A) (b : B) → r ≡ Ok a → r ≡ Err b → X
+ok-not-err r a b ok err = cc (sym ok ∙ err)
+
+same-ok : {A B : Type 0} (r : Result A B) (a b : A) → r ≡ Ok a → r ≡ Ok b → a ≡ b
+same-ok r a b p q = cc (sym p ∙ q)
+
+over : (limit n : ℕ) → limit < n → n ≤ limit → ⊥
+over limit n more most = omega arith
+
+module _ (names : ImportNames) (before after : Outside) (status : ℕ) (found : Option Record) where
+  -- how the delivery of an import ended
+  ended : (inputs : Inputs) (new : Record) → Delivers (import_texts names inputs new) (summary_in new.order inputs (undecided_of new.steps)) (done_status (undecided_of new.steps)) before after status
+      → Ended (import_texts names inputs new) (summary_in new.order inputs (undecided_of new.steps)) (done_status (undecided_of new.steps)) before after status
+  ended inputs new d = ended-of (import_texts names inputs new) _ _ before after status d
+
+  delivered-statuses : (inputs : Inputs) (new : Record) → Delivers (import_texts names inputs new) (summary_in new.order inputs (undecided_of new.steps)) (done_status (undecided_of new.steps)) before after status → IsTrue (is_in (0 ∷ 1 ∷ 4 ∷ 8 ∷ []) status)
+  delivered-statuses inputs new d = ended-statuses (import_texts names inputs new) _ (undecided_of new.steps) before after status (ended inputs new d)
+
+  pub import-statuses : ImportEnds names before after status found → IsTrue (is_in (0 ∷ 1 ∷ 3 ∷ 4 ∷ 5 ∷ 8 ∷ 9 ∷ 10 ∷ []) status)
+  import-statuses (NothingShown end none) = within (3 ∷ 5 ∷ 8 ∷ 9 ∷ []) (0 ∷ 1 ∷ 3 ∷ 4 ∷ 5 ∷ 8 ∷ 9 ∷ 10 ∷ []) status refl (unshown-statuses names.shown before after status found end none)
+  import-statuses (ImportStarved s) = one-of (0 ∷ 1 ∷ 3 ∷ 4 ∷ 5 ∷ 8 ∷ 9 ∷ 10 ∷ []) status 8 s.status_is refl
+  import-statuses (NoOpenStep inputs rec fault s is ten none said same) = one-of (0 ∷ 1 ∷ 3 ∷ 4 ∷ 5 ∷ 8 ∷ 9 ∷ 10 ∷ []) status 10 ten refl
+  import-statuses (NoLog inputs rec s is n none same) = within (3 ∷ 5 ∷ []) (0 ∷ 1 ∷ 3 ∷ 4 ∷ 5 ∷ 8 ∷ 9 ∷ 10 ∷ []) status refl (unloaded-statuses names.proof before after status n)
+  import-statuses (NotSettled inputs rec log fault s is held err ten none said same) = one-of (0 ∷ 1 ∷ 3 ∷ 4 ∷ 5 ∷ 8 ∷ 9 ∷ 10 ∷ []) status 10 ten refl
+  import-statuses (Settled inputs rec log new s is held ok own kept some d) = within (0 ∷ 1 ∷ 4 ∷ 8 ∷ []) (0 ∷ 1 ∷ 3 ∷ 4 ∷ 5 ∷ 8 ∷ 9 ∷ 10 ∷ []) status refl (delivered-statuses inputs new d)
+
+  pub import-unrecorded : ImportEnds names before after status found → IsTrue (is_in (2 ∷ 3 ∷ 5 ∷ 9 ∷ 10 ∷ []) status) → found ≡ None
+  import-unrecorded (NothingShown end none) h = none
+  import-unrecorded (ImportStarved s) h = s.found_is
+  import-unrecorded (NoOpenStep inputs rec fault s is ten none said same) h = none
+  import-unrecorded (NoLog inputs rec s is n none same) h = none
+  import-unrecorded (NotSettled inputs rec log fault s is held err ten none said same) h = none
+  import-unrecorded (Settled inputs rec log new s is held ok own kept some d) h = absurd (apart-lists (2 ∷ 3 ∷ 5 ∷ 9 ∷ 10 ∷ []) (0 ∷ 1 ∷ 4 ∷ 8 ∷ []) status refl h (delivered-statuses inputs new d))
+
+  pub import-backed : ImportEnds names before after status found → MatchOption found ⊤ IsSomeRecord
+  import-backed (NothingShown end none) = absent found none
+  import-backed (ImportStarved s) = absent found s.found_is
+  import-backed (NoOpenStep inputs rec fault s is ten none said same) = absent found none
+  import-backed (NoLog inputs rec s is n none same) = absent found none
+  import-backed (NotSettled inputs rec log fault s is held err ten none said same) = absent found none
+  import-backed (Settled inputs rec log new s is held ok own kept some d) = rw some (some-record new.order inputs new own.backed (λ done. own.packing))
+
+  -- where there is no record nothing was stored
+  pub import-kept : ImportEnds names before after status found → found ≡ None → after.files ≡ before.files
+  import-kept (NothingShown end none) absent = let v = verify-promises names.shown before after status found end in v.untouched
+  import-kept (ImportStarved s) absent = s.files
+  import-kept (NoOpenStep inputs rec fault s is ten none said same) absent = same
+  import-kept (NoLog inputs rec s is n none same) absent = same
+  import-kept (NotSettled inputs rec log fault s is held err ten none said same) absent = same
+  import-kept (Settled inputs rec log new s is held ok own kept some d) absent = cc (sym some ∙ absent)
+
+  import-recorded : ImportEnds names before after status found → IsTrue (is_in (0 ∷ 1 ∷ 4 ∷ []) status) →
+      (inputs : Inputs) × (rec : Record) × AreHeld names.shown.inputs before inputs × (found ≡ Some rec) × IsRecordIn rec.order inputs rec
+  import-recorded (NothingShown end none) h = absurd (apart-lists (0 ∷ 1 ∷ 4 ∷ []) (3 ∷ 5 ∷ 8 ∷ 9 ∷ []) status refl h (unshown-statuses names.shown before after status found end none))
+  import-recorded (ImportStarved s) h = absurd (off (0 ∷ 1 ∷ 4 ∷ []) status 8 h s.status_is refl)
+  import-recorded (NoOpenStep inputs rec fault s is ten none said same) h = absurd (off (0 ∷ 1 ∷ 4 ∷ []) status 10 h ten refl)
+  import-recorded (NoLog inputs rec s is n none same) h = absurd (apart-lists (0 ∷ 1 ∷ 4 ∷ []) (3 ∷ 5 ∷ []) status refl h (unloaded-statuses names.proof before after status n))
+  import-recorded (NotSettled inputs rec log fault s is held err ten none said same) h = absurd (off (0 ∷ 1 ∷ 4 ∷ []) status 10 h ten refl)
+  import-recorded (Settled inputs rec log new s is held ok own kept some d) h = (inputs, new, s.accepted, some, own)
+
+  -- ---- a step that is settled
+
+  sound-in : (files : List StoredFile) (inputs : Inputs) (rec : Record) → before.files ≡ Some files → IsShown names.shown before inputs rec → IsSoundIn files names.shown
+  sound-in files inputs rec told s = record { inputs = inputs; text = s.text; given = shown-given files names.shown before inputs rec told s; rec = rec; shown = s.sound }
+
+  log-in : (files : List StoredFile) (log : List ℕ) → before.files ≡ Some files → IsFileHeld names.proof before log → IsLogIn files names.proof log
+  log-in files log told held = record { told = (held files told).0; within = (held files told).1 }
+
+  import-done : (files : List StoredFile) → ImportEnds names before after status found → repeated_import names ≡ None → before.files ≡ Some files → IsTrue (is_in (0 ∷ 1 ∷ []) status) → IsImported files names before after status found
+  import-done files (NothingShown end none) once told h = absurd (apart-lists (0 ∷ 1 ∷ []) (3 ∷ 5 ∷ 8 ∷ 9 ∷ []) status refl h (unshown-statuses names.shown before after status found end none))
+  import-done files (ImportStarved s) once told h = absurd (off (0 ∷ 1 ∷ []) status 8 h s.status_is refl)
+  import-done files (NoOpenStep inputs rec fault s is ten none said same) once told h = absurd (off (0 ∷ 1 ∷ []) status 10 h ten refl)
+  import-done files (NoLog inputs rec s is n none same) once told h = absurd (apart-lists (0 ∷ 1 ∷ []) (3 ∷ 5 ∷ []) status refl h (unloaded-statuses names.proof before after status n))
+  import-done files (NotSettled inputs rec log fault s is held err ten none said same) once told h = absurd (off (0 ∷ 1 ∷ []) status 10 h ten refl)
+  import-done files (Settled inputs rec log new s is held ok own kept some d) once told h = go (ended inputs new d)
+    where
+      x : (y : Step) × (step_at rec.steps names.step ≡ Some y) × _
+      x = open-some (step_at rec.steps names.step) is
+
+      go : Ended (import_texts names inputs new) (summary_in new.order inputs (undecided_of new.steps)) (done_status (undecided_of new.steps)) before after status → IsImported files names before after status found
+      go (Both done all writes) =
+          let accepted = s.accepted files told in
+          let c = changed inputs rec new names.step log x.0 (accepted-auction files names.shown.inputs inputs accepted s.named) s.own x.1 x.2 ok in
+          record {
+            sound = sound-in files inputs rec told s;
+            step = x.0;
+            there = x.1;
+            open_before = x.2;
+            log = log;
+            held = log-in files log told held;
+            new = new;
+            settled = ok;
+            recorded = some;
+            auction = own;
+            left = c.left;
+            rows = c.rows;
+            stored = all files told (own-imports names _ _ once);
+            summary = writes;
+            status_is = done;
+            verifiable = record-verified files names.shown.inputs inputs new accepted s.named own.backed own.ending kept;
+          }
+      go (NotSaid four all rises less said) = absurd (off (0 ∷ 1 ∷ []) status 4 h four refl)
+      go (NotStored y four part rises unsteady said) = absurd (off (0 ∷ 1 ∷ []) status 4 h four refl)
+      go (OutOfRoom y eight part said) = absurd (off (0 ∷ 1 ∷ []) status 8 h eight refl)
+
+  import-paid : (files : List StoredFile) (inputs : Inputs) (rec : Record) (f : FrozenAt) → inputs_of files names.shown.inputs ≡ Ok inputs →
+      Contains (outcome rec.order inputs []).frozen f → IsThresholdPrice inputs.scenario inputs.book rec.order f.station f.price
+  import-paid files inputs rec f is bought =
+      threshold inputs.scenario inputs.book rec.order f (accepted-ascend files names.shown.inputs inputs is) (accepted-values files names.shown.inputs inputs is) bought
+
+  -- ---- a step or a log that is refused
+
+  abbrev Cause : (files : List StoredFile) → IsSoundIn files names.shown → Type 0
+  Cause files s =
+      ((fault : StepFault) × (open_fault (step_at s.rec.steps names.step) ≡ Some fault) × IsSaid before after (step_line names.step fault))
+      ⊎ ((log : List ℕ) × (fault : SettleErr) × IsLogIn files names.proof log × (open_fault (step_at s.rec.steps names.step) ≡ None)
+      × (settled_text s.inputs.book s.rec names.step log ≡ Err fault) × IsSaid before after (log_line names.proof fault))
+
+  import-refused : (files : List StoredFile) → ImportEnds names before after status found → before.files ≡ Some files → status ≡ 10 → (s : IsSoundIn files names.shown) × Cause files s
+  import-refused files (NothingShown end none) told ten = absurd (off (3 ∷ 5 ∷ 8 ∷ 9 ∷ []) status 10 (unshown-statuses names.shown before after status found end none) ten refl)
+  import-refused files (ImportStarved s) told ten = let eight = s.status_is in absurd (omega arith)
+  import-refused files (NoOpenStep inputs rec fault s is ten none said same) told t = (sound-in files inputs rec told s, inl (fault, is, said))
+  import-refused files (NoLog inputs rec s is n none same) told ten = absurd (off (3 ∷ 5 ∷ []) status 10 (unloaded-statuses names.proof before after status n) ten refl)
+  import-refused files (NotSettled inputs rec log fault s is held err ten none said same) told t = (sound-in files inputs rec told s, inr (log, fault, log-in files log told held, is, err, said))
+  import-refused files (Settled inputs rec log new s is held ok own kept some d) told ten = absurd (off (0 ∷ 1 ∷ 4 ∷ 8 ∷ []) status 10 (delivered-statuses inputs new d) ten refl)
+
+  -- the record that is shown is the sound one
+  one-record : (files : List StoredFile) (inputs : Inputs) (rec : Record) (s : IsSoundIn files names.shown) → before.files ≡ Some files → IsShown names.shown before inputs rec → rec ≡ s.rec
+  one-record files inputs rec s told own = shown-is files names.shown before inputs s.inputs s.text rec s.rec told own s.given s.shown
+
+  one-inputs : (files : List StoredFile) (inputs : Inputs) (rec : Record) (s : IsSoundIn files names.shown) → before.files ≡ Some files → IsShown names.shown before inputs rec → inputs ≡ s.inputs
+  one-inputs files inputs rec s told own = same-ok (inputs_of files names.shown.inputs) inputs s.inputs (own.accepted files told) s.given.accepted
+
+  one-log : (files : List StoredFile) (log own : List ℕ) → before.files ≡ Some files → IsFileHeld names.proof before own → IsLogIn files names.proof log → own ≡ log
+  one-log files log own told held l = same-text own log (sym (held files told).0 ∙ l.told)
+
+  unloaded-or : (files : List StoredFile) (log : List ℕ) (wanted : ℕ) → before.files ≡ Some files → IsNotLoaded names.proof before after status → IsLogIn files names.proof log → IsOr wanted before status
+  unloaded-or files log wanted told (Unloaded three rises absent said) l = inr (inr (three, λ steady. no-text log (bytes_of files names.proof) (absent files told steady) l.told))
+  unloaded-or files log wanted told (LongText five long said) l =
+      let (bytes, is, more) = long files told in
+      absurd (over file_limit (length log) (subst (λ z. file_limit < length z) (same-text bytes log (sym is ∙ l.told)) more) l.within)
+
+  import-refuses_step : (files : List StoredFile) (s : IsSoundIn files names.shown) (fault : StepFault) → ImportEnds names before after status found → before.files ≡ Some files → open_fault (step_at s.rec.steps names.step) ≡ Some fault → IsOr 10 before status
+  import-refuses_step files s fault (NothingShown end none) told f = unshown-or names.shown before after status 10 found files s.inputs s.text s.rec end none told s.given s.shown
+  import-refuses_step files s fault (ImportStarved e) told f = inr (inl e.status_is)
+  import-refuses_step files s fault (NoOpenStep inputs rec own o is ten none said same) told f = inl ten
+  import-refuses_step files s fault (NoLog inputs rec o is n none same) told f = two-faults (step_at s.rec.steps names.step) fault f (sym (same-fault names rec s.rec (one-record files inputs rec s told o)) ∙ is)
+  import-refuses_step files s fault (NotSettled inputs rec log own o is held err ten none said same) told f = inl ten
+  import-refuses_step files s fault (Settled inputs rec log new o is held ok own kept some d) told f = two-faults (step_at s.rec.steps names.step) fault f (sym (same-fault names rec s.rec (one-record files inputs rec s told o)) ∙ is)
+
+  import-refuses_log : (files : List StoredFile) (s : IsSoundIn files names.shown) (log : List ℕ) (fault : SettleErr) → ImportEnds names before after status found → before.files ≡ Some files → open_fault (step_at s.rec.steps names.step) ≡ None → IsLogIn files names.proof log → settled_text s.inputs.book s.rec names.step log ≡ Err fault → IsOr 10 before status
+  import-refuses_log files s log fault (NothingShown end none) told f l err = unshown-or names.shown before after status 10 found files s.inputs s.text s.rec end none told s.given s.shown
+  import-refuses_log files s log fault (ImportStarved e) told f l err = inr (inl e.status_is)
+  import-refuses_log files s log fault (NoOpenStep inputs rec own o is ten none said same) told f l err = inl ten
+  import-refuses_log files s log fault (NoLog inputs rec o is n none same) told f l err = unloaded-or files log 10 told n l
+  import-refuses_log files s log fault (NotSettled inputs rec own why o is held e ten none said same) told f l err = inl ten
+  import-refuses_log files s log fault (Settled inputs rec own new o is held ok of kept some d) told f l err =
+      ok-not-err (settled_text s.inputs.book s.rec names.step log) new fault
+      (sym (same-settled names inputs s.inputs rec s.rec own log (one-inputs files inputs rec s told o) (one-record files inputs rec s told o) (one-log files log own told held l)) ∙ ok) err
+
+  import-complete : (files : List StoredFile) (s : IsSoundIn files names.shown) (log : List ℕ) (new : Record) → ImportEnds names before after status found → before.files ≡ Some files → open_fault (step_at s.rec.steps names.step) ≡ None → IsLogIn files names.proof log → settled_text s.inputs.book s.rec names.step log ≡ Ok new → IsOr (done_status (undecided_of new.steps)) before status ⊎ (status ≡ 4)
+  import-complete files s log new (NothingShown end none) told f l ok = inl (unshown-or names.shown before after status (done_status (undecided_of new.steps)) found files s.inputs s.text s.rec end none told s.given s.shown)
+  import-complete files s log new (ImportStarved e) told f l ok = inl (inr (inl e.status_is))
+  import-complete files s log new (NoOpenStep inputs rec own o is ten none said same) told f l ok = two-faults (step_at rec.steps names.step) own is (same-fault names rec s.rec (one-record files inputs rec s told o) ∙ f)
+  import-complete files s log new (NoLog inputs rec o is n none same) told f l ok = inl (unloaded-or files log (done_status (undecided_of new.steps)) told n l)
+  import-complete files s log new (NotSettled inputs rec own why o is held err ten none said same) told f l ok =
+      ok-not-err (settled_text s.inputs.book s.rec names.step log) new why ok
+      (sym (same-settled names inputs s.inputs rec s.rec own log (one-inputs files inputs rec s told o) (one-record files inputs rec s told o) (one-log files log own told held l)) ∙ err)
+  import-complete files s log new (Settled inputs rec own other o is held fine of kept some d) told f l ok = go (ended inputs other d)
+    where
+      same : other ≡ new
+      same = same-ok (settled_text s.inputs.book s.rec names.step log) other new
+          (sym (same-settled names inputs s.inputs rec s.rec own log (one-inputs files inputs rec s told o) (one-record files inputs rec s told o) (one-log files log own told held l)) ∙ fine) ok
+
+      go : Ended (import_texts names inputs other) (summary_in other.order inputs (undecided_of other.steps)) (done_status (undecided_of other.steps)) before after status → IsOr (done_status (undecided_of new.steps)) before status ⊎ (status ≡ 4)
+      go (Both done all writes) = inl (inl (done ∙ ap (λ (r : Record). done_status (undecided_of r.steps)) same))
+      go (NotSaid four all rises less said) = inr four
+      go (NotStored y four part rises unsteady said) = inr four
+      go (OutOfRoom y eight part said) = inl (inr (inl eight))
+
+  -- ---- as `verify`
+
+  import-as_verify : ImportEnds names before after status found → status ≡ 9 → VerifyPromises names.shown before after status found
+  import-as_verify (NothingShown end none) nine = verify-promises names.shown before after status found end
+  import-as_verify (ImportStarved s) nine = let eight = s.status_is in absurd (omega arith)
+  import-as_verify (NoOpenStep inputs rec fault s is ten none said same) nine = absurd (omega arith)
+  import-as_verify (NoLog inputs rec s is n none same) nine = absurd (off (3 ∷ 5 ∷ []) status 9 (unloaded-statuses names.proof before after status n) nine refl)
+  import-as_verify (NotSettled inputs rec log fault s is held err ten none said same) nine = absurd (omega arith)
+  import-as_verify (Settled inputs rec log new s is held ok own kept some d) nine = absurd (off (0 ∷ 1 ∷ 4 ∷ 8 ∷ []) status 9 (delivered-statuses inputs new d) nine refl)
+
+  import-unloaded : ImportEnds names before after status found → IsTrue (is_in (3 ∷ 5 ∷ []) status) → VerifyPromises names.shown before after status found ⊎ IsNotLoaded names.proof before after status
+  import-unloaded (NothingShown end none) h = inl (verify-promises names.shown before after status found end)
+  import-unloaded (ImportStarved s) h = absurd (off (3 ∷ 5 ∷ []) status 8 h s.status_is refl)
+  import-unloaded (NoOpenStep inputs rec fault s is ten none said same) h = absurd (off (3 ∷ 5 ∷ []) status 10 h ten refl)
+  import-unloaded (NoLog inputs rec s is n none same) h = inr n
+  import-unloaded (NotSettled inputs rec log fault s is held err ten none said same) h = absurd (off (3 ∷ 5 ∷ []) status 10 h ten refl)
+  import-unloaded (Settled inputs rec log new s is held ok own kept some d) h = absurd (apart-lists (3 ∷ 5 ∷ []) (0 ∷ 1 ∷ 4 ∷ 8 ∷ []) status refl h (delivered-statuses inputs new d))
+
+  import-refuses : (files : List StoredFile) (inputs : Inputs) (t : List ℕ) (fault : TranscriptFault) → ImportEnds names before after status found → before.files ≡ Some files → IsGiven files names.shown inputs t → verified inputs t ≡ Err fault → IsOr 9 before status
+  import-refuses files inputs t fault (NothingShown end none) told g err = let v = verify-promises names.shown before after status found end in v.refuses files inputs t fault told g err
+  import-refuses files inputs t fault (ImportStarved s) told g err = inr (inl s.status_is)
+  import-refuses files inputs t fault (NoOpenStep own rec f s is ten none said same) told g err = shown-not-refused files names.shown before own inputs t rec fault told s g err
+  import-refuses files inputs t fault (NoLog own rec s is n none same) told g err = shown-not-refused files names.shown before own inputs t rec fault told s g err
+  import-refuses files inputs t fault (NotSettled own rec log why s is held e ten none said same) told g err = shown-not-refused files names.shown before own inputs t rec fault told s g err
+  import-refuses files inputs t fault (Settled own rec log new s is held ok of kept some d) told g err = shown-not-refused files names.shown before own inputs t rec fault told s g err
+
+  import-refuses_input : (files : List StoredFile) (why : Refusal) → ImportEnds names before after status found → before.files ≡ Some files → inputs_of files names.shown.inputs ≡ Err (Refused why) → IsOr 5 before status
+  import-refuses_input files why (NothingShown end none) told err = let v = verify-promises names.shown before after status found end in v.refuses_input files why told err
+  import-refuses_input files why (ImportStarved s) told err = inr (inl s.status_is)
+  import-refuses_input files why (NoOpenStep own rec f s is ten none said same) told err = shown-not-halted files names.shown before own rec why told s err
+  import-refuses_input files why (NoLog own rec s is n none same) told err = shown-not-halted files names.shown before own rec why told s err
+  import-refuses_input files why (NotSettled own rec log f s is held e ten none said same) told err = shown-not-halted files names.shown before own rec why told s err
+  import-refuses_input files why (Settled own rec log new s is held ok of kept some d) told err = shown-not-halted files names.shown before own rec why told s err
+
+  import-refuses_long : (files : List StoredFile) (inputs : Inputs) (bytes : List ℕ) → ImportEnds names before after status found → before.files ≡ Some files → inputs_of files names.shown.inputs ≡ Ok inputs → bytes_of files names.shown.transcript ≡ Some bytes → file_limit < length bytes → IsOr 5 before status
+  import-refuses_long files inputs bytes (NothingShown end none) told ok is more = let v = verify-promises names.shown before after status found end in v.refuses_long files inputs bytes told ok is more
+  import-refuses_long files inputs bytes (ImportStarved s) told ok is more = inr (inl s.status_is)
+  import-refuses_long files inputs bytes (NoOpenStep own rec f s at ten none said same) told ok is more = shown-not-long files names.shown before own rec bytes told s is more
+  import-refuses_long files inputs bytes (NoLog own rec s at n none same) told ok is more = shown-not-long files names.shown before own rec bytes told s is more
+  import-refuses_long files inputs bytes (NotSettled own rec log f s at held e ten none said same) told ok is more = shown-not-long files names.shown before own rec bytes told s is more
+  import-refuses_long files inputs bytes (Settled own rec log new s at held fine of kept some d) told ok is more = shown-not-long files names.shown before own rec bytes told s is more
+
+  -- a log that is held isn't too long
+  held-not-long : {X : Type 0} (files : List StoredFile) (own bytes : List ℕ) → before.files ≡ Some files → IsFileHeld names.proof before own → bytes_of files names.proof ≡ Some bytes → file_limit < length bytes → X
+  held-not-long files own bytes told held is more =
+      absurd (over file_limit (length own) (subst (λ z. file_limit < length z) (same-text bytes own (sym is ∙ (held files told).0)) more) (held files told).1)
+
+  import-refuses_long_log : (files : List StoredFile) (s : IsSoundIn files names.shown) (bytes : List ℕ) → ImportEnds names before after status found → before.files ≡ Some files → open_fault (step_at s.rec.steps names.step) ≡ None → bytes_of files names.proof ≡ Some bytes → file_limit < length bytes → IsOr 5 before status
+  import-refuses_long_log files s bytes (NothingShown end none) told f is more = unshown-or names.shown before after status 5 found files s.inputs s.text s.rec end none told s.given s.shown
+  import-refuses_long_log files s bytes (ImportStarved e) told f is more = inr (inl e.status_is)
+  import-refuses_long_log files s bytes (NoOpenStep inputs rec own o at ten none said same) told f is more = two-faults (step_at rec.steps names.step) own at (same-fault names rec s.rec (one-record files inputs rec s told o) ∙ f)
+  import-refuses_long_log files s bytes (NoLog inputs rec o at (Unloaded three rises absent said) none same) told f is more = inr (inr (three, λ steady. no-text bytes (bytes_of files names.proof) (absent files told steady) is))
+  import-refuses_long_log files s bytes (NoLog inputs rec o at (LongText five long said) none same) told f is more = inl five
+  import-refuses_long_log files s bytes (NotSettled inputs rec log own o at held e ten none said same) told f is more = held-not-long files log bytes told held is more
+  import-refuses_long_log files s bytes (Settled inputs rec log new o at held ok own kept some d) told f is more = held-not-long files log bytes told held is more
+
+  -- ---- the files
+
+  abbrev Others : List StoredFile → List StoredFile → Type 0
+  Others files now = AllOthersStand files now (names.result ∷ names.transcript ∷ [])
+
+  same-files : (files : List StoredFile) → before.files ≡ Some files → after.files ≡ before.files → MatchOption after.files ⊥ (Others files)
+  same-files files told same = subst (λ o. MatchOption o ⊥ (Others files)) (sym (same ∙ told)) (λ other k. refl)
+
+  import-others : (files : List StoredFile) → ImportEnds names before after status found → repeated_import names ≡ None → before.files ≡ Some files → MatchOption after.files ⊥ (Others files)
+  import-others files (NothingShown end none) once told = let v = verify-promises names.shown before after status found end in same-files files told v.untouched
+  import-others files (ImportStarved s) once told = same-files files told s.files
+  import-others files (NoOpenStep inputs rec fault s is ten none said same) once told = same-files files told same
+  import-others files (NoLog inputs rec s is n none same) once told = same-files files told same
+  import-others files (NotSettled inputs rec log fault s is held err ten none said same) once told = same-files files told same
+  import-others files (Settled inputs rec log new s is held ok own kept some d) once told = go (ended inputs new d)
+    where
+      apart : AreApart (import_texts names inputs new)
+      apart = own-imports names _ _ once
+
+      go : Ended (import_texts names inputs new) (summary_in new.order inputs (undecided_of new.steps)) (done_status (undecided_of new.steps)) before after status → MatchOption after.files ⊥ (Others files)
+      go (Both done all writes) = for-told after.files (λ now. AreStored files now (import_texts names inputs new)) (Others files) (λ now st. st.others) (all files told apart)
+      go (NotSaid four all rises less said) = for-told after.files (λ now. AreStored files now (import_texts names inputs new)) (Others files) (λ now st. st.others) (all files told apart)
+      go (NotStored y four part rises unsteady said) =
+          let p = part files told apart in
+          subst (λ o. MatchOption o ⊥ (Others files)) (sym p.now_told) (λ other k. others-up-to files p.new (import_texts names inputs new) p.part other k)
+      go (OutOfRoom y eight part said) =
+          let p = part files told apart in
+          subst (λ o. MatchOption o ⊥ (Others files)) (sym p.now_told) (λ other k. others-up-to files p.new (import_texts names inputs new) p.part other k)
+
+  import-untouched : ImportEnds names before after status found → IsTrue (is_in (3 ∷ 5 ∷ 9 ∷ 10 ∷ []) status) → after.files ≡ before.files
+  import-untouched end h = import-kept end (import-unrecorded end (within (3 ∷ 5 ∷ 9 ∷ 10 ∷ []) (2 ∷ 3 ∷ 5 ∷ 9 ∷ 10 ∷ []) status refl h))
+
+  -- ---- the outside's faults
+
+  pub import-unread : ImportEnds names before after status found → status ≡ 3 → HasRisen before.faults after.faults
+  import-unread (NothingShown end none) three = let v = verify-promises names.shown before after status found end in v.unread three
+  import-unread (ImportStarved s) three = let eight = s.status_is in absurd (omega arith)
+  import-unread (NoOpenStep inputs rec fault s is ten none said same) three = absurd (omega arith)
+  import-unread (NoLog inputs rec s is (Unloaded is_three rises absent said) none same) three = rises
+  import-unread (NoLog inputs rec s is (LongText five long said) none same) three = absurd (omega arith)
+  import-unread (NotSettled inputs rec log fault s is held err ten none said same) three = absurd (omega arith)
+  import-unread (Settled inputs rec log new s is held ok own kept some d) three = absurd (off (0 ∷ 1 ∷ 4 ∷ 8 ∷ []) status 3 (delivered-statuses inputs new d) three refl)
+
+  pub import-unwritten : ImportEnds names before after status found → status ≡ 4 → HasRisen before.faults after.faults ⊎ HasRisen before.cuts after.cuts
+  import-unwritten (NothingShown end none) four = absurd (off (3 ∷ 5 ∷ 8 ∷ 9 ∷ []) status 4 (unshown-statuses names.shown before after status found end none) four refl)
+  import-unwritten (ImportStarved s) four = let eight = s.status_is in absurd (omega arith)
+  import-unwritten (NoOpenStep inputs rec fault s is ten none said same) four = absurd (omega arith)
+  import-unwritten (NoLog inputs rec s is n none same) four = absurd (off (3 ∷ 5 ∷ []) status 4 (unloaded-statuses names.proof before after status n) four refl)
+  import-unwritten (NotSettled inputs rec log fault s is held err ten none said same) four = absurd (omega arith)
+  import-unwritten (Settled inputs rec log new s is held ok own kept some d) four = go (ended inputs new d)
+    where
+      go : Ended (import_texts names inputs new) (summary_in new.order inputs (undecided_of new.steps)) (done_status (undecided_of new.steps)) before after status → HasRisen before.faults after.faults ⊎ HasRisen before.cuts after.cuts
+      go (Both done all writes) = absurd (never (undecided_of new.steps) status 4 done four refl)
+      go (NotSaid is_four all rises less said) = inr rises
+      go (NotStored y is_four part rises unsteady said) = inl rises
+      go (OutOfRoom y eight part said) = absurd (omega arith)
+
+  pub import-memory : ImportEnds names before after status found → status ≡ 8 → IsSaid before after memory_line
+  import-memory (NothingShown end none) eight = verify-memory names.shown before after status found end eight
+  import-memory (ImportStarved s) eight = s.line
+  import-memory (NoOpenStep inputs rec fault s is ten none said same) eight = absurd (omega arith)
+  import-memory (NoLog inputs rec s is n none same) eight = absurd (off (3 ∷ 5 ∷ []) status 8 (unloaded-statuses names.proof before after status n) eight refl)
+  import-memory (NotSettled inputs rec log fault s is held err ten none said same) eight = absurd (omega arith)
+  import-memory (Settled inputs rec log new s is held ok own kept some d) eight = go (ended inputs new d)
+    where
+      go : Ended (import_texts names inputs new) (summary_in new.order inputs (undecided_of new.steps)) (done_status (undecided_of new.steps)) before after status → IsSaid before after memory_line
+      go (Both done all writes) = absurd (never (undecided_of new.steps) status 8 done eight refl)
+      go (NotSaid four all rises less said) = absurd (omega arith)
+      go (NotStored y four part rises unsteady said) = absurd (omega arith)
+      go (OutOfRoom y is_eight part said) = said
+
+  pub import-promises : ImportEnds names before after status found → repeated_import names ≡ None → ImportPromises names before after status found
+  import-promises end once = record {
+    statuses = import-statuses end;
+    done = λ files told h. import-done files end once told h;
+    recorded = import-recorded end;
+    unrecorded = λ h. import-unrecorded end (within (3 ∷ 5 ∷ 9 ∷ 10 ∷ []) (2 ∷ 3 ∷ 5 ∷ 9 ∷ 10 ∷ []) status refl h);
+    paid = λ files inputs rec f told is some zero bought. import-paid files inputs rec f is bought;
+    refused = λ files told ten. import-refused files end told ten;
+    refuses_step = λ files s fault told f. import-refuses_step files s fault end told f;
+    refuses_log = λ files s log fault told f l err. import-refuses_log files s log fault end told f l err;
+    complete = λ files s log new told f l ok. import-complete files s log new end told f l ok;
+    as_verify = import-as_verify end;
+    unloaded = import-unloaded end;
+    refuses = λ files inputs t fault told g err. import-refuses files inputs t fault end told g err;
+    refuses_input = λ files why told err. import-refuses_input files why end told err;
+    refuses_long = λ files inputs bytes told ok is more. import-refuses_long files inputs bytes end told ok is more;
+    refuses_long_log = λ files s bytes told f is more. import-refuses_long_log files s bytes end told f is more;
+    untouched = import-untouched end;
+    others = λ files told. import-others files end once told;
+    unread = import-unread end;
+    unwritten = import-unwritten end;
+  }

@@ -1,0 +1,123 @@
+-- What may be relied on of `import`, a clause each.
+use Rattle.std.specs.Prelude.{Contains, ◌≡◌, ◌⊎◌, ◌<◌, ◌≤◌, ℕ, true, List, [], ◌∷◌, length, map, Option, Some, None, Ok, Err, IsTrue, MatchOption}
+use Rattle.pack_defs.specs.Lists.{is_in}
+use Rattle.pack_defs.specs.ClockRule.{FrozenAt}
+use Rattle.pack_defs.specs.ResultRows.{result_rows}
+use Rattle.pack_defs.specs.Threshold.{IsThresholdPrice}
+use Rattle.outside_io.specs.Faults.{HasRisen}
+use Rattle.outside_io.specs.Files.{StoredFile, bytes_of}
+use Rattle.outside_io.specs.Loads.{Writes}
+use Rattle.auction_core.specs.declared.record.Record.{Record}
+use Rattle.auction_core.specs.declared.record.Step.{Step}
+use Rattle.auction_core.specs.Backed.{is_undecided, undecided_of}
+use Rattle.auction_core.specs.State.{test_of}
+use Rattle.transcript_text.specs.Spelling.{transcript_text}
+use Rattle.open_tests.specs.Queries.{step_at}
+use Rattle.open_tests.specs.Settled.{decided_row, without_test}
+use Rattle.open_tests.specs.Settling.{settled_text}
+use Rattle.open_tests.specs.declared.settle.SettleErr.{SettleErr}
+use Rattle.auction_cmd.specs.declared.fault.TranscriptFault.{TranscriptFault}
+use Rattle.auction_cmd.specs.declared.inputs.Inputs.{Inputs}
+use Rattle.auction_cmd.specs.declared.inputs.Stop.TheVariants.{Refused}
+use Rattle.auction_cmd.specs.declared.refusal.Refusal.{Refusal}
+use Rattle.auction_cmd.specs.declared.settling.StepFault.{StepFault}
+use Rattle.auction_cmd.specs.Delivery.{AllOthersStand, AreStored}
+use Rattle.auction_cmd.specs.Ends.{AreHeld, IsNotLoaded, import_texts}
+use Rattle.auction_cmd.specs.Inputs.{file_limit, inputs_of}
+use Rattle.auction_cmd.specs.Outside.{Outside, IsSaid}
+use Rattle.auction_cmd.specs.Records.{IsRecordIn, done_status, outcome, summary_in}
+use Rattle.auction_cmd.specs.Settling.{log_line, open_fault, step_line}
+use Rattle.auction_cmd.specs.Verified.{verified}
+use Rattle.auction_cmd.specs.VerifyPromises.{IsGiven, IsOr, VerifyPromises}
+use Rattle.auction_cmd.specs.Words.{ImportNames, VerifyNames}
+
+-- the transcript that the files hold is sound
+pub record IsSoundIn (files : List StoredFile) (names : VerifyNames) : Type 0 where
+  pub inputs : Inputs
+  pub text : List ℕ
+  pub given : IsGiven files names inputs text
+  pub rec : Record
+  pub shown : verified inputs text ≡ Ok rec
+
+-- the file of this name holds these bytes of a log, and no more than a file may have
+pub record IsLogIn (files : List StoredFile) (name log : List ℕ) : Type 0 where
+  pub told : bytes_of files name ≡ Some log
+  pub within : length log ≤ file_limit
+
+-- A step that the record of a sound transcript shows undecided is settled by the log that a file holds, and the record has the
+-- step shown by that proof. The new record is one of the inputs' auction; it leaves the tests open that the old one left, without
+-- the step's. The rows of its result are the old ones, that test's undecided made frozen. RESULT holds their text, NEWTRANSCRIPT
+-- that of the record, all other files stand, and the sink grew by the summary. Whoever verifies the new transcript beside the same
+-- inputs gets the new record.
+pub record IsImported (files : List StoredFile) (names : ImportNames) (before after : Outside) (status : ℕ) (found : Option Record) : Type 0 where
+  pub sound : IsSoundIn files names.shown
+  pub step : Step
+  pub there : step_at sound.rec.steps names.step ≡ Some step
+  pub open_before : is_undecided step.shown ≡ true
+  pub log : List ℕ
+  pub held : IsLogIn files names.proof log
+  pub new : Record
+  pub settled : settled_text sound.inputs.book sound.rec names.step log ≡ Ok new
+  pub recorded : found ≡ Some new
+  pub auction : IsRecordIn new.order sound.inputs new
+  pub left : undecided_of new.steps ≡ without_test (test_of step) (undecided_of sound.rec.steps)
+  pub rows : result_rows sound.inputs.scenario (outcome new.order sound.inputs (undecided_of new.steps)) (undecided_of new.steps)
+      ≡ map (decided_row (test_of step))
+      (result_rows sound.inputs.scenario (outcome sound.rec.order sound.inputs (undecided_of sound.rec.steps)) (undecided_of sound.rec.steps))
+  pub stored : MatchOption after.files ⊥ (λ now. AreStored files now (import_texts names sound.inputs new))
+  pub summary : Writes before.held after.held (summary_in new.order sound.inputs (undecided_of new.steps)) (Ok tt)
+  pub status_is : status ≡ done_status (undecided_of new.steps)
+  pub verifiable : verified sound.inputs (transcript_text sound.inputs.scenario sound.inputs.book new) ≡ Ok new
+
+pub record ImportPromises (names : ImportNames) (before after : Outside) (status : ℕ) (found : Option Record) : Type 0 where
+  pub statuses : IsTrue (is_in (0 ∷ 1 ∷ 3 ∷ 4 ∷ 5 ∷ 8 ∷ 9 ∷ 10 ∷ []) status)
+  -- At 0 and 1 the step is settled: 0 exactly where no other test is left open.
+  pub done : (files : List StoredFile) → before.files ≡ Some files → IsTrue (is_in (0 ∷ 1 ∷ []) status) →
+      IsImported files names before after status found
+  -- At 0, 1 and 4 there is a record, one of the auction of the inputs, also where the folder tells nothing; at 3, 5, 9 and 10 there
+  -- is none.
+  pub recorded : IsTrue (is_in (0 ∷ 1 ∷ 4 ∷ []) status) →
+      (inputs : Inputs) × (rec : Record) × AreHeld names.shown.inputs before inputs × (found ≡ Some rec) × IsRecordIn rec.order inputs rec
+  pub unrecorded : IsTrue (is_in (3 ∷ 5 ∷ 9 ∷ 10 ∷ []) status) → found ≡ None
+  -- Where every test is decided then, each station that is bought is paid the greatest admissible value with which it would have
+  -- been bought, by the rule in the transcript's order.
+  pub paid : (files : List StoredFile) (inputs : Inputs) (rec : Record) (f : FrozenAt) → before.files ≡ Some files →
+      inputs_of files names.shown.inputs ≡ Ok inputs → found ≡ Some rec → status ≡ 0 →
+      Contains (outcome rec.order inputs []).frozen f → IsThresholdPrice inputs.scenario inputs.book rec.order f.station f.price
+  -- Status 10 comes exactly where, of a sound transcript, there is no such step or it isn't undecided, or where it is and the text
+  -- of the log is refused, or the log doesn't refute the step's set. The line says which.
+  pub refused : (files : List StoredFile) → before.files ≡ Some files → status ≡ 10 →
+      (s : IsSoundIn files names.shown) × (
+        ((fault : StepFault) × (open_fault (step_at s.rec.steps names.step) ≡ Some fault) × IsSaid before after (step_line names.step fault))
+        ⊎ ((log : List ℕ) × (fault : SettleErr) × IsLogIn files names.proof log × (open_fault (step_at s.rec.steps names.step) ≡ None)
+        × (settled_text s.inputs.book s.rec names.step log ≡ Err fault) × IsSaid before after (log_line names.proof fault)))
+  pub refuses_step : (files : List StoredFile) (s : IsSoundIn files names.shown) (fault : StepFault) →
+      before.files ≡ Some files → open_fault (step_at s.rec.steps names.step) ≡ Some fault → IsOr 10 before status
+  pub refuses_log : (files : List StoredFile) (s : IsSoundIn files names.shown) (log : List ℕ) (fault : SettleErr) →
+      before.files ≡ Some files → open_fault (step_at s.rec.steps names.step) ≡ None → IsLogIn files names.proof log →
+      settled_text s.inputs.book s.rec names.step log ≡ Err fault → IsOr 10 before status
+  -- A log that settles an undecided step of a sound transcript is taken, but for want of memory and faults of the outside.
+  pub complete : (files : List StoredFile) (s : IsSoundIn files names.shown) (log : List ℕ) (new : Record) →
+      before.files ≡ Some files → open_fault (step_at s.rec.steps names.step) ≡ None → IsLogIn files names.proof log →
+      settled_text s.inputs.book s.rec names.step log ≡ Ok new →
+      IsOr (done_status (undecided_of new.steps)) before status ⊎ (status ≡ 4)
+  -- At 9 it ended as `verify` ends, and at 3 and 5 too, or since the log was not loaded. Where `verify` would end so it does.
+  pub as_verify : status ≡ 9 → VerifyPromises names.shown before after status found
+  pub unloaded : IsTrue (is_in (3 ∷ 5 ∷ []) status) →
+      VerifyPromises names.shown before after status found ⊎ IsNotLoaded names.proof before after status
+  pub refuses : (files : List StoredFile) (inputs : Inputs) (text : List ℕ) (fault : TranscriptFault) →
+      before.files ≡ Some files → IsGiven files names.shown inputs text → verified inputs text ≡ Err fault → IsOr 9 before status
+  pub refuses_input : (files : List StoredFile) (why : Refusal) →
+      before.files ≡ Some files → inputs_of files names.shown.inputs ≡ Err (Refused why) → IsOr 5 before status
+  pub refuses_long : (files : List StoredFile) (inputs : Inputs) (bytes : List ℕ) →
+      before.files ≡ Some files → inputs_of files names.shown.inputs ≡ Ok inputs → bytes_of files names.shown.transcript ≡ Some bytes →
+      file_limit < length bytes → IsOr 5 before status
+  pub refuses_long_log : (files : List StoredFile) (s : IsSoundIn files names.shown) (bytes : List ℕ) →
+      before.files ≡ Some files → open_fault (step_at s.rec.steps names.step) ≡ None → bytes_of files names.proof ≡ Some bytes →
+      file_limit < length bytes → IsOr 5 before status
+  -- Nothing is stored at 3, 5, 9 and 10, and no other file is touched at any status.
+  pub untouched : IsTrue (is_in (3 ∷ 5 ∷ 9 ∷ 10 ∷ []) status) → after.files ≡ before.files
+  pub others : (files : List StoredFile) → before.files ≡ Some files →
+      MatchOption after.files ⊥ (λ now. AllOthersStand files now (names.result ∷ names.transcript ∷ []))
+  pub unread : status ≡ 3 → HasRisen before.faults after.faults
+  pub unwritten : status ≡ 4 → HasRisen before.faults after.faults ⊎ HasRisen before.cuts after.cuts
