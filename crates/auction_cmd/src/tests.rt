@@ -5,6 +5,7 @@
 mod bad_files;
 mod checked;
 mod made;
+mod proofs;
 mod refused;
 mod scene;
 mod settled;

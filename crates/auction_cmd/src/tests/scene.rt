@@ -1,6 +1,6 @@
 //! What a run is given, and the run.
 
-use super::told::{faults_text, held_text, told};
+use super::told::{faults_text, held_text, proof_text, told};
 use super::{CLOCK, COMMAND, DOMAINS, MANY_LINES, ROWS, THREE, VERIFY};
 use crate::auction::auction_main;
 use outside_io::memory_folder::{MemoryFile, MemoryFolder};
@@ -40,7 +40,7 @@ pub enum Change<'a> {
 }
 
 // What a run is given: the words with a blank between each two, the texts of two inputs, the parts of the third, a
-// transcript, if there is one, and a change.
+// transcript and a log, if there are such, and a change.
 #[derive(Clone, Copy)]
 pub struct Scene<'a> {
     pub command: &'a str,
@@ -50,6 +50,7 @@ pub struct Scene<'a> {
     pub stations: &'a str,
     pub workers: &'a str,
     pub transcript: Option<&'a str>,
+    pub log: Option<&'a str>,
     pub change: Change<'a>,
 }
 
@@ -62,6 +63,7 @@ pub const RUN: Scene<'static> = Scene {
     stations: THREE,
     workers: MANY_LINES,
     transcript: None,
+    log: None,
     change: Change::Nothing,
 };
 
@@ -135,6 +137,9 @@ fn files_of(alloc: Global, scene: &Scene<'_>) -> Result<Vec<MemoryFile>, NoMemor
     add(&mut files, scene.change, "s.json", &scenario)?;
     if let Some(text) = scene.transcript {
         add(&mut files, scene.change, "tr.txt", text)?;
+    }
+    if let Some(text) = scene.log {
+        add(&mut files, scene.change, "p.lrat", text)?;
     }
     add_outputs(&mut files, scene.change)?;
     Ok(files)
@@ -254,7 +259,8 @@ fn run_words<W: Threads + Wait + Sync>(
     let inputs = inputs_text(alloc, scene, &folder)?;
     let counted = counted_text(alloc, scene, &folder)?;
     let held = held_text(alloc, &folder)?;
-    format!(in alloc; "{left}; {inputs}; {counted}; {held}")
+    let proof = proof_text(alloc, &folder)?;
+    format!(in alloc; "{left}; {inputs}; {counted}; {held}; {proof}")
 }
 
 // The facts of a run in this folder.

@@ -265,6 +265,13 @@ pub fn held_text(alloc: Global, folder: &MemoryFolder) -> Result<String, NoMemor
     format!(in alloc; "{domains}; {rows}; {scenario}")
 }
 
+/// What the files of a formula and of a new transcript hold, with "; " between both.
+pub fn proof_text(alloc: Global, folder: &MemoryFolder) -> Result<String, NoMemory> {
+    let formula = short_text(alloc, folder, "f.cnf")?;
+    let transcript = short_text(alloc, folder, "new.txt")?;
+    format!(in alloc; "{formula}; {transcript}")
+}
+
 /// How many faults the folder has counted.
 pub fn faults_text(alloc: Global, folder: &MemoryFolder) -> Result<String, NoMemory> {
     let text = format!(in alloc; "{folder:?}")?;
