@@ -14,8 +14,8 @@ use Rattle.open_tests.specs.Queries.{step_at}
 use Rattle.open_tests.specs.Settled.{IsLeftOpen, RefutesStep, decided_row, settled_by, without_test}
 use Rattle.open_tests.specs.Settling.{cut_proof, settled_text}
 use Rattle.open_tests.proofs.SettleLemmas.{said-refutes, settled-said}
-use Rattle.open_tests.proofs.RowLemmas.{one-row}
-use Rattle.open_tests.proofs.SettledLemmas.{clock-same, left-open}
+use Rattle.open_tests.proofs.RecordLemmas.{settled-clock, settled-left}
+use Rattle.open_tests.proofs.RowLemmas.{rows-decided}
 use Rattle.auction_cmd.specs.declared.inputs.Inputs.{Inputs}
 use Rattle.auction_cmd.specs.declared.settling.StepFault.{StepFault}
 use Rattle.auction_cmd.specs.Records.{IsRecordIn, outcome}
@@ -57,11 +57,11 @@ changed inputs rec new step text x a own there open settled =
     let U = undecided_of rec.steps in
     let left = open-left rec step x there open in
     let refutes : RefutesStep book rec step proof = said-refutes book rec step proof x there said.refutes in
-    let clock : clock_rule sc book rec.order (undecided_of (settled_by rec step proof).steps) ≡ clock_rule sc book rec.order U = clock-same sc book rec step proof a own.backed left refutes in
+    let clock : clock_rule sc book rec.order (undecided_of (settled_by rec step proof).steps) ≡ clock_rule sc book rec.order U = settled-clock sc book rec step proof a own.backed left refutes in
     let open_now : undecided_of (settled_by rec step proof).steps ≡ without_test (test_of x) U =
-    subst (λ o. MatchOption o ⊤ (λ y. undecided_of (settled_by rec step proof).steps ≡ without_test (test_of y) U)) there (left-open sc book rec step proof a own.backed left) in
+    subst (λ o. MatchOption o ⊤ (λ y. undecided_of (settled_by rec step proof).steps ≡ without_test (test_of y) U)) there (settled-left sc book rec step proof a own.backed left) in
     let rows : result_rows sc (clock_rule sc book rec.order (undecided_of (settled_by rec step proof).steps)) (undecided_of (settled_by rec step proof).steps) ≡ map (decided_row (test_of x)) (result_rows sc (clock_rule sc book rec.order U) U) =
     ap (λ st. result_rows sc st (undecided_of (settled_by rec step proof).steps)) clock
     ∙ ap (result_rows sc (clock_rule sc book rec.order U)) open_now
-    ∙ one-row sc (clock_rule sc book rec.order U) U (test_of x) in
+    ∙ rows-decided sc (clock_rule sc book rec.order U) U (test_of x) in
     subst (λ (r : Record). IsChanged inputs rec r x) (sym said.same) (record { left = open_now; rows = rows })

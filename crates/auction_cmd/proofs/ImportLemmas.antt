@@ -65,6 +65,14 @@ same-ok r a b p q = cc (sym p ∙ q)
 over : (limit n : ℕ) → limit < n → n ≤ limit → ⊥
 over limit n more most = omega arith
 
+-- where there is a record, no output name is given twice
+abbrev pub IsOnce : ImportNames → Option Record → Type 0
+IsOnce names found = (found ≡ None) ⊎ (repeated_import names ≡ None)
+
+once-named : (names : ImportNames) (found : Option Record) (rec : Record) → found ≡ Some rec → IsOnce names found → repeated_import names ≡ None
+once-named names found rec some (inl none) = cc (sym some ∙ none)
+once-named names found rec some (inr once) = once
+
 module _ (names : ImportNames) (before after : Outside) (status : ℕ) (found : Option Record) where
   -- how the delivery of an import ended
   ended : (inputs : Inputs) (new : Record) → Delivers (import_texts names inputs new) (summary_in new.order inputs (undecided_of new.steps)) (done_status (undecided_of new.steps)) before after status
@@ -124,7 +132,7 @@ module _ (names : ImportNames) (before after : Outside) (status : ℕ) (found : 
   log-in : (files : List StoredFile) (log : List ℕ) → before.files ≡ Some files → IsFileHeld names.proof before log → IsLogIn files names.proof log
   log-in files log told held = record { told = (held files told).0; within = (held files told).1 }
 
-  import-done : (files : List StoredFile) → ImportEnds names before after status found → repeated_import names ≡ None → before.files ≡ Some files → IsTrue (is_in (0 ∷ 1 ∷ []) status) → IsImported files names before after status found
+  import-done : (files : List StoredFile) → ImportEnds names before after status found → IsOnce names found → before.files ≡ Some files → IsTrue (is_in (0 ∷ 1 ∷ []) status) → IsImported files names before after status found
   import-done files (NothingShown end none) once told h = absurd (apart-lists (0 ∷ 1 ∷ []) (3 ∷ 5 ∷ 8 ∷ 9 ∷ []) status refl h (unshown-statuses names.shown before after status found end none))
   import-done files (ImportStarved s) once told h = absurd (off (0 ∷ 1 ∷ []) status 8 h s.status_is refl)
   import-done files (NoOpenStep inputs rec fault s is ten none said same) once told h = absurd (off (0 ∷ 1 ∷ []) status 10 h ten refl)
@@ -152,7 +160,7 @@ module _ (names : ImportNames) (before after : Outside) (status : ℕ) (found : 
             auction = own;
             left = c.left;
             rows = c.rows;
-            stored = all files told (own-imports names _ _ once);
+            stored = all files told (own-imports names _ _ (once-named names found new some once));
             summary = writes;
             status_is = done;
             verifiable = record-verified files names.shown.inputs inputs new accepted s.named own.backed own.ending kept;
@@ -300,7 +308,7 @@ module _ (names : ImportNames) (before after : Outside) (status : ℕ) (found : 
   same-files : (files : List StoredFile) → before.files ≡ Some files → after.files ≡ before.files → MatchOption after.files ⊥ (Others files)
   same-files files told same = subst (λ o. MatchOption o ⊥ (Others files)) (sym (same ∙ told)) (λ other k. refl)
 
-  import-others : (files : List StoredFile) → ImportEnds names before after status found → repeated_import names ≡ None → before.files ≡ Some files → MatchOption after.files ⊥ (Others files)
+  import-others : (files : List StoredFile) → ImportEnds names before after status found → IsOnce names found → before.files ≡ Some files → MatchOption after.files ⊥ (Others files)
   import-others files (NothingShown end none) once told = let v = verify-promises names.shown before after status found end in same-files files told v.untouched
   import-others files (ImportStarved s) once told = same-files files told s.files
   import-others files (NoOpenStep inputs rec fault s is ten none said same) once told = same-files files told same
@@ -309,7 +317,7 @@ module _ (names : ImportNames) (before after : Outside) (status : ℕ) (found : 
   import-others files (Settled inputs rec log new s is held ok own kept some d) once told = go (ended inputs new d)
     where
       apart : AreApart (import_texts names inputs new)
-      apart = own-imports names _ _ once
+      apart = own-imports names _ _ (once-named names found new some once)
 
       go : Ended (import_texts names inputs new) (summary_in new.order inputs (undecided_of new.steps)) (done_status (undecided_of new.steps)) before after status → MatchOption after.files ⊥ (Others files)
       go (Both done all writes) = for-told after.files (λ now. AreStored files now (import_texts names inputs new)) (Others files) (λ now st. st.others) (all files told apart)
@@ -363,7 +371,7 @@ module _ (names : ImportNames) (before after : Outside) (status : ℕ) (found : 
       go (NotStored y four part rises unsteady said) = absurd (omega arith)
       go (OutOfRoom y is_eight part said) = said
 
-  pub import-promises : ImportEnds names before after status found → repeated_import names ≡ None → ImportPromises names before after status found
+  pub import-promises : ImportEnds names before after status found → IsOnce names found → ImportPromises names before after status found
   import-promises end once = record {
     statuses = import-statuses end;
     done = λ files told h. import-done files end once told h;

@@ -1,8 +1,11 @@
 pub mod CheckLemmas
 pub mod DeliveryLemmas
 pub mod EndLemmas
+pub mod ExportLemmas
 pub mod FeedLemmas
 pub mod Halts
+pub mod ImportEndLemmas
+pub mod ImportLemmas
 pub mod MadeLemmas
 pub mod MakeEndLemmas
 pub mod MakeLemmas

@@ -8,8 +8,8 @@ use Rattle.std.proofs.lemmas.List.Sums.{sum_by-append, sum_by-cons}
 use Rattle.std.proofs.lemmas.Slice.Eq.{bytes_eq-Decides}
 use Rattle.auction_core.proofs.Finds.{find_cases}
 use Rattle.pack_defs.proofs.Members.{Contains-here, Contains-there, list_any-from}
-use Rattle.auction_cmd.specs.Words.{MakeNames, RunNames, is_repeated_among, is_repeated_in, made_names, names_given, output_names, repeated_made, repeated_output}
-use Rattle.auction_cmd.specs.Ends.{output_texts}
+use Rattle.auction_cmd.specs.Words.{ImportNames, MakeNames, RunNames, imported_names, is_repeated_among, is_repeated_in, made_names, names_given, output_names, repeated_import, repeated_made, repeated_output}
+use Rattle.auction_cmd.specs.Ends.{output_texts, pair_of_texts}
 use Rattle.auction_cmd.specs.Made.{texts_under}
 use Rattle.auction_cmd.proofs.DeliveryLemmas.{AreApart}
 
@@ -80,3 +80,15 @@ own-made names domain_file row_file scenario_file once =
         (All-nil (λ name. s ≢ name), tt),
       ),
     )
+
+-- ---- the files of `import`
+
+pub own-imports : (names : ImportNames) (result transcript : List ℕ) → repeated_import names ≡ None → AreApart (pair_of_texts names result transcript)
+unfolding repeated_import
+own-imports names result transcript once =
+    let given = imported_names names in
+    let stored = names.result ∷ names.transcript ∷ [] in
+    let inputs = names.shown.inputs in
+    let first : names.result ≢ names.transcript = λ same. not-found (is_repeated_among given) stored names.result once (Contains-here names.result (names.transcript ∷ []))
+    (twice-among given (inputs.domains ∷ inputs.rows ∷ inputs.scenario ∷ names.shown.transcript ∷ names.proof ∷ []) [] [] names.result names.transcript refl same) in
+    (All-cons (λ name. names.result ≢ name) names.transcript [] first (All-nil (λ name. names.result ≢ name)), (All-nil (λ name. names.transcript ≢ name), tt))

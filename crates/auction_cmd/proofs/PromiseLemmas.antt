@@ -5,19 +5,24 @@ use Rattle.std.proofs.lemmas.Bool.{false≢true}
 use Rattle.pack_defs.specs.Lists.{is_in}
 use Rattle.outside_io.specs.Faults.{HasRisen}
 use Rattle.auction_core.specs.declared.record.Record.{Record}
-use Rattle.auction_cmd.specs.Ends.{CheckEnds, Ends, MakeEnds, RunEnds, VerifyEnds}
+use Rattle.auction_cmd.specs.Ends.{CheckEnds, Ends, ExportEnds, ImportEnds, MakeEnds, RunEnds, VerifyEnds}
 use Rattle.auction_cmd.specs.Ends.CheckEnds.{CheckStarved}
-use Rattle.auction_cmd.specs.Ends.Ends.{Starved, Usage, Repeated, Ran, Checked, Verified, Made}
+use Rattle.auction_cmd.specs.Ends.Ends.{Starved, Usage, Repeated, Ran, Checked, Verified, Made, Exported, Imported}
+use Rattle.auction_cmd.specs.Ends.ExportEnds.{ExportStarved}
+use Rattle.auction_cmd.specs.Ends.ImportEnds.{ImportStarved}
 use Rattle.auction_cmd.specs.Ends.RunEnds.{RunStarved}
 use Rattle.auction_cmd.specs.Ends.VerifyEnds.{VerifyStarved}
+use Rattle.auction_cmd.specs.ImportPromises.{ImportPromises}
 use Rattle.auction_cmd.specs.MakePromises.{MakePromises}
 use Rattle.auction_cmd.specs.Outside.{Outside, IsSaid}
-use Rattle.auction_cmd.specs.Plan.{Plan, no_command, repeats, runs, checks, verifies, makes}
-use Rattle.auction_cmd.specs.Promises.{IsSomeRecord, Promises, asks_nothing, inputs_read, records_first}
+use Rattle.auction_cmd.specs.Plan.{Plan, no_command, repeats, runs, checks, verifies, makes, exports, imports}
+use Rattle.auction_cmd.specs.Promises.{IsSomeRecord, Promises, asks_nothing, asks_step, inputs_read, records_first, verifies_first}
 use Rattle.auction_cmd.specs.Says.{memory_line, twice_line}
 use Rattle.auction_cmd.specs.VerifyPromises.{VerifyPromises}
-use Rattle.auction_cmd.specs.Words.{InputNames, MakeNames, RunNames, VerifyNames, repeated_made, repeated_output}
+use Rattle.auction_cmd.specs.Words.{ExportNames, ImportNames, InputNames, MakeNames, RunNames, VerifyNames, repeated_made, repeated_output}
 use Rattle.auction_cmd.proofs.CheckLemmas.{check-complete, check-counted, check-cut, check-files, check-memory, check-none, check-reading, check-statuses, check-surely, check-unread, check-unwritten}
+use Rattle.auction_cmd.proofs.ExportLemmas.{export-memory, export-none, export-promises, export-statuses, export-unread, export-unwritten}
+use Rattle.auction_cmd.proofs.ImportLemmas.{import-backed, import-kept, import-memory, import-promises, import-statuses, import-unread, import-unrecorded, import-unwritten}
 use Rattle.auction_cmd.proofs.Halts.{Reading, missing-one, read-there, refused-cause, stops-at, unread-line}
 use Rattle.auction_cmd.proofs.MakeEndLemmas.{Reached, reached}
 use Rattle.auction_cmd.proofs.MakeEndLemmas.Reached.{Nothing}
@@ -30,7 +35,7 @@ use Rattle.auction_cmd.proofs.VerifyLemmas.{verify-promises}
 
 -- each status that there is
 abbrev all : List ℕ
-all = 0 ∷ 1 ∷ 2 ∷ 3 ∷ 4 ∷ 5 ∷ 6 ∷ 7 ∷ 8 ∷ 9 ∷ []
+all = 0 ∷ 1 ∷ 2 ∷ 3 ∷ 4 ∷ 5 ∷ 6 ∷ 7 ∷ 8 ∷ 9 ∷ 10 ∷ []
 
 same-runs : (a b : RunNames) → runs a ≡ runs b → a ≡ b
 same-runs a b e = cc
@@ -43,6 +48,12 @@ same-verifies a b e = cc
 
 same-makes : (a b : MakeNames) → makes a ≡ makes b → a ≡ b
 same-makes a b e = cc
+
+same-exports : (a b : ExportNames) → exports a ≡ exports b → a ≡ b
+same-exports a b e = cc
+
+same-imports : (a b : ImportNames) → imports a ≡ imports b → a ≡ b
+same-imports a b e = cc
 
 same-name : (a b : List ℕ) → repeats a ≡ repeats b → a ≡ b
 same-name a b e = cc
@@ -58,6 +69,8 @@ module _ (plan : Plan) (before after : Outside) (status : ℕ) (found : Option R
   ran names (Checked own is_own end) is = cc
   ran names (Verified own is_own end) is = cc
   ran names (Made own is_own single end) is = cc
+  ran names (Exported own is_own single end) is = cc
+  ran names (Imported own is_own single end) is = cc
 
   once : (names : RunNames) → Ends plan before after status found → plan ≡ runs names → IsOnce names found
   once names (Starved s still) is = inl s.found_is
@@ -67,6 +80,8 @@ module _ (plan : Plan) (before after : Outside) (status : ℕ) (found : Option R
   once names (Checked own is_own end) is = cc
   once names (Verified own is_own end) is = cc
   once names (Made own is_own apart end) is = cc
+  once names (Exported own is_own single end) is = cc
+  once names (Imported own is_own single end) is = cc
 
   checked : (names : InputNames) → Ends plan before after status found → plan ≡ checks names → CheckEnds names before after status found
   checked names (Starved s still) is = CheckStarved s
@@ -76,6 +91,8 @@ module _ (plan : Plan) (before after : Outside) (status : ℕ) (found : Option R
   checked names (Checked own is_own end) is = subst (λ z. CheckEnds z before after status found) (same-checks own names (sym is_own ∙ is)) end
   checked names (Verified own is_own end) is = cc
   checked names (Made own is_own single end) is = cc
+  checked names (Exported own is_own single end) is = cc
+  checked names (Imported own is_own single end) is = cc
 
   verified : (names : VerifyNames) → Ends plan before after status found → plan ≡ verifies names → VerifyEnds names before after status found
   verified names (Starved s still) is = VerifyStarved s
@@ -85,6 +102,8 @@ module _ (plan : Plan) (before after : Outside) (status : ℕ) (found : Option R
   verified names (Checked own is_own end) is = cc
   verified names (Verified own is_own end) is = subst (λ z. VerifyEnds z before after status found) (same-verifies own names (sym is_own ∙ is)) end
   verified names (Made own is_own single end) is = cc
+  verified names (Exported own is_own single end) is = cc
+  verified names (Imported own is_own single end) is = cc
 
   -- what may be relied on of `verify`
   of-verify : (names : VerifyNames) → VerifyEnds names before after status found → VerifyPromises names before after status found
@@ -99,6 +118,32 @@ module _ (plan : Plan) (before after : Outside) (status : ℕ) (found : Option R
   made names (Verified own is_own end) is = cc
   made names (Made own is_own single end) is =
       subst (λ z. Reached z before after status found) (same-makes own names (sym is_own ∙ is)) (reached own before after status found end single)
+  made names (Exported own is_own single end) is = cc
+  made names (Imported own is_own single end) is = cc
+
+  exported : (names : ExportNames) → Ends plan before after status found → plan ≡ exports names → ExportEnds names before after status found
+  exported names (Starved s still) is = ExportStarved s
+  exported names (Usage text is_none two none said files still) is = cc
+  exported names (Repeated name is_name five none said files still) is = cc
+  exported names (Ran own is_own apart end) is = cc
+  exported names (Checked own is_own end) is = cc
+  exported names (Verified own is_own end) is = cc
+  exported names (Made own is_own single end) is = cc
+  exported names (Exported own is_own single end) is = subst (λ z. ExportEnds z before after status found) (same-exports own names (sym is_own ∙ is)) end
+  exported names (Imported own is_own single end) is = cc
+
+  -- an import ended so; its outputs have names of their own, unless it had none
+  imported : (names : ImportNames) → Ends plan before after status found → plan ≡ imports names → ImportPromises names before after status found
+  imported names (Starved s still) is = import-promises names before after status found (ImportStarved s) (inl s.found_is)
+  imported names (Usage text is_none two none said files still) is = cc
+  imported names (Repeated name is_name five none said files still) is = cc
+  imported names (Ran own is_own apart end) is = cc
+  imported names (Checked own is_own end) is = cc
+  imported names (Verified own is_own end) is = cc
+  imported names (Made own is_own single end) is = cc
+  imported names (Exported own is_own single end) is = cc
+  imported names (Imported own is_own single end) is =
+      subst (λ z. ImportPromises z before after status found) (same-imports own names (sym is_own ∙ is)) (import-promises own before after status found end (inr single))
 
   -- how far `make` came
   way : (names : MakeNames) → repeated_made names ≡ None → MakeEnds names before after status found → Reached names before after status found
@@ -125,6 +170,8 @@ module _ (plan : Plan) (before after : Outside) (status : ℕ) (found : Option R
   all-statuses (Checked names is end) = within (0 ∷ 3 ∷ 4 ∷ 5 ∷ 8 ∷ []) all status refl (check-statuses names before after status found end)
   all-statuses (Verified names is end) = let v = of-verify names end in within (0 ∷ 1 ∷ 3 ∷ 4 ∷ 5 ∷ 8 ∷ 9 ∷ []) all status refl v.statuses
   all-statuses (Made names is single end) = within (0 ∷ 1 ∷ 4 ∷ 8 ∷ []) all status refl (made-statuses (way names single end))
+  all-statuses (Exported names is single end) = within (0 ∷ 3 ∷ 4 ∷ 5 ∷ 8 ∷ 9 ∷ 10 ∷ []) all status refl (export-statuses names before after status found end)
+  all-statuses (Imported names is single end) = within (0 ∷ 1 ∷ 3 ∷ 4 ∷ 5 ∷ 8 ∷ 9 ∷ 10 ∷ []) all status refl (import-statuses names before after status found end)
 
   -- words that are no command
   no-plan : Ends plan before after status found → plan ≡ no_command → (status ≡ 2) ⊎ (status ≡ 8)
@@ -135,6 +182,8 @@ module _ (plan : Plan) (before after : Outside) (status : ℕ) (found : Option R
   no-plan (Checked names is end) none = cc (sym is ∙ none)
   no-plan (Verified names is end) none = cc (sym is ∙ none)
   no-plan (Made names is single end) none = cc (sym is ∙ none)
+  no-plan (Exported names is single end) none = cc (sym is ∙ none)
+  no-plan (Imported names is single end) none = cc (sym is ∙ none)
 
   only-no_plan : Ends plan before after status found → status ≡ 2 → plan ≡ no_command
   only-no_plan (Starved s still) two = let eight = s.status_is in absurd (omega arith)
@@ -144,15 +193,30 @@ module _ (plan : Plan) (before after : Outside) (status : ℕ) (found : Option R
   only-no_plan (Checked names is end) two = absurd (off (0 ∷ 3 ∷ 4 ∷ 5 ∷ 8 ∷ []) status 2 (check-statuses names before after status found end) two refl)
   only-no_plan (Verified names is end) two = let v = of-verify names end in absurd (off (0 ∷ 1 ∷ 3 ∷ 4 ∷ 5 ∷ 8 ∷ 9 ∷ []) status 2 v.statuses two refl)
   only-no_plan (Made names is single end) two = absurd (off (0 ∷ 1 ∷ 4 ∷ 8 ∷ []) status 2 (made-statuses (way names single end)) two refl)
+  only-no_plan (Exported names is single end) two = absurd (off (0 ∷ 3 ∷ 4 ∷ 5 ∷ 8 ∷ 9 ∷ 10 ∷ []) status 2 (export-statuses names before after status found end) two refl)
+  only-no_plan (Imported names is single end) two = absurd (off (0 ∷ 1 ∷ 3 ∷ 4 ∷ 5 ∷ 8 ∷ 9 ∷ 10 ∷ []) status 2 (import-statuses names before after status found end) two refl)
 
-  only-verifies : Ends plan before after status found → status ≡ 9 → (names : VerifyNames) × (plan ≡ verifies names)
+  only-verifies : Ends plan before after status found → status ≡ 9 → IsTrue (verifies_first plan)
   only-verifies (Starved s still) nine = let eight = s.status_is in absurd (omega arith)
   only-verifies (Usage text is two none said files still) nine = absurd (omega arith)
   only-verifies (Repeated name is five none said files still) nine = absurd (omega arith)
   only-verifies (Ran names is apart end) nine = absurd (off (0 ∷ 1 ∷ 3 ∷ 4 ∷ 5 ∷ 6 ∷ 7 ∷ 8 ∷ []) status 9 (run-statuses names before after status found end) nine refl)
   only-verifies (Checked names is end) nine = absurd (off (0 ∷ 3 ∷ 4 ∷ 5 ∷ 8 ∷ []) status 9 (check-statuses names before after status found end) nine refl)
-  only-verifies (Verified names is end) nine = (names, is)
+  only-verifies (Verified names is end) nine = ap verifies_first is
   only-verifies (Made names is single end) nine = absurd (off (0 ∷ 1 ∷ 4 ∷ 8 ∷ []) status 9 (made-statuses (way names single end)) nine refl)
+  only-verifies (Exported names is single end) nine = ap verifies_first is
+  only-verifies (Imported names is single end) nine = ap verifies_first is
+
+  only-steps : Ends plan before after status found → status ≡ 10 → IsTrue (asks_step plan)
+  only-steps (Starved s still) ten = let eight = s.status_is in absurd (omega arith)
+  only-steps (Usage text is two none said files still) ten = absurd (omega arith)
+  only-steps (Repeated name is five none said files still) ten = absurd (omega arith)
+  only-steps (Ran names is apart end) ten = absurd (off (0 ∷ 1 ∷ 3 ∷ 4 ∷ 5 ∷ 6 ∷ 7 ∷ 8 ∷ []) status 10 (run-statuses names before after status found end) ten refl)
+  only-steps (Checked names is end) ten = absurd (off (0 ∷ 3 ∷ 4 ∷ 5 ∷ 8 ∷ []) status 10 (check-statuses names before after status found end) ten refl)
+  only-steps (Verified names is end) ten = let v = of-verify names end in absurd (off (0 ∷ 1 ∷ 3 ∷ 4 ∷ 5 ∷ 8 ∷ 9 ∷ []) status 10 v.statuses ten refl)
+  only-steps (Made names is single end) ten = absurd (off (0 ∷ 1 ∷ 4 ∷ 8 ∷ []) status 10 (made-statuses (way names single end)) ten refl)
+  only-steps (Exported names is single end) ten = ap asks_step is
+  only-steps (Imported names is single end) ten = ap asks_step is
 
   named-twice : (name : List ℕ) → Ends plan before after status found → plan ≡ repeats name → ((status ≡ 5) × IsSaid before after (twice_line name)) ⊎ (status ≡ 8)
   named-twice name (Starved s still) twice = inr s.status_is
@@ -164,15 +228,19 @@ module _ (plan : Plan) (before after : Outside) (status : ℕ) (found : Option R
   named-twice name (Checked names is end) twice = cc (sym is ∙ twice)
   named-twice name (Verified names is end) twice = cc (sym is ∙ twice)
   named-twice name (Made names is single end) twice = cc (sym is ∙ twice)
+  named-twice name (Exported names is single end) twice = cc (sym is ∙ twice)
+  named-twice name (Imported names is single end) twice = cc (sym is ∙ twice)
 
-  all-unrecorded : Ends plan before after status found → IsTrue (is_in (2 ∷ 3 ∷ 5 ∷ 9 ∷ []) status) → found ≡ None
+  all-unrecorded : Ends plan before after status found → IsTrue (is_in (2 ∷ 3 ∷ 5 ∷ 9 ∷ 10 ∷ []) status) → found ≡ None
   all-unrecorded (Starved s still) h = s.found_is
   all-unrecorded (Usage text is two none said files still) h = none
   all-unrecorded (Repeated name is five none said files still) h = none
   all-unrecorded (Ran names is apart end) h = run-unrecorded names before after status found end h
   all-unrecorded (Checked names is end) h = check-none names before after status found end
   all-unrecorded (Verified names is end) h = verify-none names before after status found end h
-  all-unrecorded (Made names is single end) h = absurd (apart-lists (2 ∷ 3 ∷ 5 ∷ 9 ∷ []) (0 ∷ 1 ∷ 4 ∷ 8 ∷ []) status refl h (made-statuses (way names single end)))
+  all-unrecorded (Made names is single end) h = absurd (apart-lists (2 ∷ 3 ∷ 5 ∷ 9 ∷ 10 ∷ []) (0 ∷ 1 ∷ 4 ∷ 8 ∷ []) status refl h (made-statuses (way names single end)))
+  all-unrecorded (Exported names is single end) h = export-none names before after status found end
+  all-unrecorded (Imported names is single end) h = import-unrecorded names before after status found end h
 
   all-backed : Ends plan before after status found → MatchOption found ⊤ IsSomeRecord
   all-backed (Starved s still) = absent found s.found_is
@@ -182,6 +250,8 @@ module _ (plan : Plan) (before after : Outside) (status : ℕ) (found : Option R
   all-backed (Checked names is end) = absent found (check-none names before after status found end)
   all-backed (Verified names is end) = verify-backed names before after status found end
   all-backed (Made names is single end) = make-backed names before after status found (way names single end)
+  all-backed (Exported names is single end) = absent found (export-none names before after status found end)
+  all-backed (Imported names is single end) = import-backed names before after status found end
 
   all-unread : Ends plan before after status found → status ≡ 3 → HasRisen before.faults after.faults
   all-unread (Starved s still) three = let eight = s.status_is in absurd (omega arith)
@@ -191,6 +261,8 @@ module _ (plan : Plan) (before after : Outside) (status : ℕ) (found : Option R
   all-unread (Checked names is end) three = check-unread names before after status found end three
   all-unread (Verified names is end) three = let v = of-verify names end in v.unread three
   all-unread (Made names is single end) three = absurd (off (0 ∷ 1 ∷ 4 ∷ 8 ∷ []) status 3 (made-statuses (way names single end)) three refl)
+  all-unread (Exported names is single end) three = export-unread names before after status found end three
+  all-unread (Imported names is single end) three = import-unread names before after status found end three
 
   all-unwritten : Ends plan before after status found → status ≡ 4 → HasRisen before.faults after.faults ⊎ HasRisen before.cuts after.cuts
   all-unwritten (Starved s still) four = let eight = s.status_is in absurd (omega arith)
@@ -200,6 +272,8 @@ module _ (plan : Plan) (before after : Outside) (status : ℕ) (found : Option R
   all-unwritten (Checked names is end) four = check-unwritten names before after status found end four
   all-unwritten (Verified names is end) four = let v = of-verify names end in inr (v.unwritten four)
   all-unwritten (Made names is single end) four = made-unwritten (way names single end) four
+  all-unwritten (Exported names is single end) four = inl (export-unwritten names before after status found end four).0
+  all-unwritten (Imported names is single end) four = import-unwritten names before after status found end four
 
   all-untouched : Ends plan before after status found → records_first plan ≡ true → found ≡ None → after.files ≡ before.files
   all-untouched (Starved s still) first none = s.files
@@ -209,6 +283,8 @@ module _ (plan : Plan) (before after : Outside) (status : ℕ) (found : Option R
   all-untouched (Checked names is end) first none = check-files names before after status found end
   all-untouched (Verified names is end) first none = let v = of-verify names end in v.untouched
   all-untouched (Made names is single end) first none = absurd (false≢true (sym (ap records_first is) ∙ first))
+  all-untouched (Exported names is single end) first none = absurd (false≢true (sym (ap records_first is) ∙ first))
+  all-untouched (Imported names is single end) first none = import-kept names before after status found end none
 
   all-ended : Ends plan before after status found → IsTrue (is_in (6 ∷ 7 ∷ []) status) → after.files ≡ before.files
   all-ended (Starved s still) h = s.files
@@ -218,6 +294,8 @@ module _ (plan : Plan) (before after : Outside) (status : ℕ) (found : Option R
   all-ended (Checked names is end) h = check-files names before after status found end
   all-ended (Verified names is end) h = let v = of-verify names end in v.untouched
   all-ended (Made names is single end) h = absurd (apart-lists (6 ∷ 7 ∷ []) (0 ∷ 1 ∷ 4 ∷ 8 ∷ []) status refl h (made-statuses (way names single end)))
+  all-ended (Exported names is single end) h = absurd (apart-lists (6 ∷ 7 ∷ []) (0 ∷ 3 ∷ 4 ∷ 5 ∷ 8 ∷ 9 ∷ 10 ∷ []) status refl h (export-statuses names before after status found end))
+  all-ended (Imported names is single end) h = absurd (apart-lists (6 ∷ 7 ∷ []) (0 ∷ 1 ∷ 3 ∷ 4 ∷ 5 ∷ 8 ∷ 9 ∷ 10 ∷ []) status refl h (import-statuses names before after status found end))
 
   all-memory : Ends plan before after status found → status ≡ 8 → IsSaid before after memory_line
   all-memory (Starved s still) eight = s.line
@@ -227,6 +305,8 @@ module _ (plan : Plan) (before after : Outside) (status : ℕ) (found : Option R
   all-memory (Checked names is end) eight = check-memory names before after status found end eight
   all-memory (Verified names is end) eight = verify-memory names before after status found end eight
   all-memory (Made names is single end) eight = make-memory names before after status found (way names single end) eight
+  all-memory (Exported names is single end) eight = export-memory names before after status found end eight
+  all-memory (Imported names is single end) eight = import-memory names before after status found end eight
 
   -- where no command is carried out
   no-folder : Ends plan before after status found → asks_nothing plan ≡ true → after.faults ≡ before.faults
@@ -237,6 +317,8 @@ module _ (plan : Plan) (before after : Outside) (status : ℕ) (found : Option R
   no-folder (Checked names is end) none = absurd (false≢true (sym (ap asks_nothing is) ∙ none))
   no-folder (Verified names is end) none = absurd (false≢true (sym (ap asks_nothing is) ∙ none))
   no-folder (Made names is single end) none = absurd (false≢true (sym (ap asks_nothing is) ∙ none))
+  no-folder (Exported names is single end) none = absurd (false≢true (sym (ap asks_nothing is) ∙ none))
+  no-folder (Imported names is single end) none = absurd (false≢true (sym (ap asks_nothing is) ∙ none))
 
 -- the reading of the inputs that a plan reads
 read-by : (plan : Plan) (names : InputNames) (before after : Outside) (status : ℕ) (found : Option Record) → Ends plan before after status found → inputs_read plan ≡ Some names → Reading names before after status
@@ -250,6 +332,8 @@ read-by (checks own) names before after status found end is =
     subst (λ z. Reading z before after status) same (check-reading own before after status found (checked (checks own) before after status found own end refl))
 read-by (verifies own) names before after status found end is = cc
 read-by (makes own) names before after status found end is = cc
+read-by (exports own) names before after status found end is = cc
+read-by (imports own) names before after status found end is = cc
 
 -- what may be relied on
 pub promises-of : (plan : Plan) (before after : Outside) (status : ℕ) (found : Option Record) → Ends plan before after status found → Promises plan before after status found
@@ -279,7 +363,7 @@ promises-of plan before after status found end = record {
   unfits = λ files names inputs told is held unfit. run-unfits names before after status found files inputs (ran plan before after status found names end is) told held unfit;
   left_open = λ files names told is seven. run-open names before after status found files (ran plan before after status found names end is) told seven;
   nobody = λ files names inputs told is held none. run-nobody names before after status found files inputs (ran plan before after status found names end is) told held none;
-  run_only = λ names is. not-in (0 ∷ 3 ∷ 4 ∷ 5 ∷ 8 ∷ []) (1 ∷ 6 ∷ 7 ∷ 9 ∷ []) status refl (check-statuses names before after status found (checked plan before after status found names end is));
+  run_only = λ names is. not-in (0 ∷ 3 ∷ 4 ∷ 5 ∷ 8 ∷ []) (1 ∷ 6 ∷ 7 ∷ 9 ∷ 10 ∷ []) status refl (check-statuses names before after status found (checked plan before after status found names end is));
   unwritten = all-unwritten plan before after status found end;
   stored = λ files names told is four. run-stored names before after status found files (ran plan before after status found names end is) (once plan before after status found names end is) told four;
   part_stored = λ files names told is eight some. run-part names before after status found files (ran plan before after status found names end is) (once plan before after status found names end is) told eight some;
@@ -293,6 +377,9 @@ promises-of plan before after status found end = record {
   counts = λ files names inputs told is held. check-complete names before after status found files inputs (checked plan before after status found names end is) told held;
   verify = λ names is. verify-promises names before after status found (verified plan before after status found names end is);
   make = λ names is. make-promises names before after status found (made plan before after status found names end is);
+  export = λ names is. export-promises names before after status found (exported plan before after status found names end is);
+  import = λ names is. imported plan before after status found names end is;
   verify_only = only-verifies plan before after status found end;
+  proofs_only = only-steps plan before after status found end;
   memory = all-memory plan before after status found end;
 }

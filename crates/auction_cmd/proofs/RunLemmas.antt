@@ -327,13 +327,13 @@ module _ (names : RunNames) (before after : Outside) (status : ℕ) (found : Opt
   pub run-recorded : RunEnds names before after status found → IsTrue (is_in (0 ∷ 1 ∷ 4 ∷ []) status) → IsRecordAt names before Done found
   run-recorded end h = let c = carried end h in record { inputs = c.inputs; held = c.held; rec = c.rec; recorded = c.recorded; auction = c.auction }
 
-  pub run-unrecorded : RunEnds names before after status found → IsTrue (is_in (2 ∷ 3 ∷ 5 ∷ 9 ∷ []) status) → found ≡ None
+  pub run-unrecorded : RunEnds names before after status found → IsTrue (is_in (2 ∷ 3 ∷ 5 ∷ 9 ∷ 10 ∷ []) status) → found ≡ None
   run-unrecorded end h = go (came end)
     where
       go : Came names before after status found → found ≡ None
       go (Nowhere s none same) = none
-      go (ToStart s some same) = absurd (apart-lists (2 ∷ 3 ∷ 5 ∷ 9 ∷ []) (6 ∷ 7 ∷ []) status refl h s)
-      go (Through c) = absurd (apart-lists (2 ∷ 3 ∷ 5 ∷ 9 ∷ []) (0 ∷ 1 ∷ 4 ∷ 8 ∷ []) status refl h (carried-statuses c))
+      go (ToStart s some same) = absurd (apart-lists (2 ∷ 3 ∷ 5 ∷ 9 ∷ 10 ∷ []) (6 ∷ 7 ∷ []) status refl h s)
+      go (Through c) = absurd (apart-lists (2 ∷ 3 ∷ 5 ∷ 9 ∷ 10 ∷ []) (0 ∷ 1 ∷ 4 ∷ 8 ∷ []) status refl h (carried-statuses c))
 
   pub run-backed : RunEnds names before after status found → MatchOption found ⊤ IsSomeRecord
   run-backed end = go (came end)

@@ -16,8 +16,8 @@ use Rattle.transcript_check.specs.NotShown.{NotShown, not_shown}
 use Rattle.transcript_check.specs.Sound.{IsSound, transcript_record}
 use Rattle.auction_cmd.specs.declared.fault.TranscriptFault.TheVariants.{Unshown}
 use Rattle.auction_cmd.specs.declared.inputs.Inputs.{Inputs}
-use Rattle.auction_cmd.specs.declared.verify.Denied.{Denied}
-use Rattle.auction_cmd.specs.declared.verify.Denied.TheVariants.{Fault, NoMemory}
+use Rattle.auction_cmd.specs.declared.shown.Denied.{Denied}
+use Rattle.auction_cmd.specs.declared.shown.Denied.TheVariants.{Fault, NoMemory}
 use Rattle.auction_cmd.specs.Ends.{AreHeld, IsTextHeld, VerifyEnds}
 use Rattle.auction_cmd.specs.Ends.IsNotLoaded.{Unloaded, LongText}
 use Rattle.auction_cmd.specs.Ends.VerifyEnds.{NotLoaded, NotSound, VerifyStarved}

@@ -16,13 +16,13 @@ use Rattle.auction_cmd.proofs.Statuses.{apart-lists, off}
 use Rattle.auction_cmd.proofs.VerifyEndLemmas.{printed-statuses, unloaded-statuses}
 
 module _ (names : VerifyNames) (before after : Outside) (status : ℕ) (found : Option Record) where
-  pub verify-none : VerifyEnds names before after status found → IsTrue (is_in (2 ∷ 3 ∷ 5 ∷ 9 ∷ []) status) → found ≡ None
+  pub verify-none : VerifyEnds names before after status found → IsTrue (is_in (2 ∷ 3 ∷ 5 ∷ 9 ∷ 10 ∷ []) status) → found ≡ None
   verify-none (VerifyStopped s none) h = none
   verify-none (VerifyStarved s) h = s.found_is
   verify-none (NotLoaded inputs are why none same) h = none
   verify-none (NotSound inputs text fault are can held is nine none said same) h = none
   verify-none (Sound inputs text rec are can held is of some printed) h =
-      absurd (apart-lists (2 ∷ 3 ∷ 5 ∷ 9 ∷ []) (0 ∷ 1 ∷ 4 ∷ []) status refl h (printed-statuses _ (undecided_of rec.steps) before after status printed))
+      absurd (apart-lists (2 ∷ 3 ∷ 5 ∷ 9 ∷ 10 ∷ []) (0 ∷ 1 ∷ 4 ∷ []) status refl h (printed-statuses _ (undecided_of rec.steps) before after status printed))
 
   pub verify-backed : VerifyEnds names before after status found → MatchOption found ⊤ IsSomeRecord
   verify-backed (VerifyStopped s none) = absent found none

@@ -1,7 +1,7 @@
 use Rattle.std.proofs.Common.{◌≡◌, ◌≤◌, ◌-◌}
 use Rattle.auction_cmd.specs.Inputs.{file_limit}
 use Rattle.auction_cmd.proofs.TextReading.{IsReading}
-use Rattle.auction_cmd.proofs.verify.read_text.Given as goal
+use Rattle.auction_cmd.proofs.shown.read_text.Given as goal
 
 abbrev pub invariant-loop-piece : goal.invariant-loop-piece
 invariant-loop-piece g l = record {

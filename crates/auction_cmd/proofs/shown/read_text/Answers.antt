@@ -4,7 +4,7 @@ use Rattle.std.proofs.lemmas.Bool.Decides.{nat_tests}
 use Rattle.std.proofs.lemmas.Result.{err_from_is_err_and}
 use Rattle.transcript_text.specs.Pieces.{HasRead}
 use Rattle.auction_cmd.proofs.TextReading.{reading-begins, reading-ends, reading-fails, reading-goes-on}
-use Rattle.auction_cmd.proofs.verify.read_text.Goals as goal
+use Rattle.auction_cmd.proofs.shown.read_text.Goals as goal
 
 pub loop-piece-init : goal.loop-piece-init
 loop-piece-init g c = record {

@@ -1,7 +1,7 @@
 -- The record of a sound transcript is that of the auction.
 use Rattle.auction_core.proofs.AuctionLemmas.{is-auction}
 use Rattle.auction_cmd.proofs.TranscriptLemmas.{shown-verdict}
-use Rattle.auction_cmd.proofs.verify.record_from.Goals as goal
+use Rattle.auction_cmd.proofs.shown.record_from.Goals as goal
 
 pub returns-in-Ok : goal.returns-in-Ok
 returns-in-Ok c =
