@@ -7,4 +7,8 @@
 pub mod cut;
 pub mod laws;
 pub mod replace;
+#[cfg(test)]
+mod replace_tests;
+#[cfg(test)]
+mod samples;
 pub mod task;
