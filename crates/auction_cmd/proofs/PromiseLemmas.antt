@@ -12,7 +12,7 @@ use Rattle.auction_cmd.specs.Ends.RunEnds.{RunStarved}
 use Rattle.auction_cmd.specs.Ends.VerifyEnds.{VerifyStarved}
 use Rattle.auction_cmd.specs.MakePromises.{MakePromises}
 use Rattle.auction_cmd.specs.Outside.{Outside, IsSaid}
-use Rattle.auction_cmd.specs.Plan.{Plan, no_command, repeats, runs, checks, verifies, makes}
+use Rattle.auction_cmd.specs.Plan.{Plan, no_command, repeats, runs, checks, verifies, makes, exports, imports}
 use Rattle.auction_cmd.specs.Promises.{IsSomeRecord, Promises, asks_nothing, inputs_read, records_first}
 use Rattle.auction_cmd.specs.Says.{memory_line, twice_line}
 use Rattle.auction_cmd.specs.VerifyPromises.{VerifyPromises}
@@ -250,6 +250,8 @@ read-by (checks own) names before after status found end is =
     subst (λ z. Reading z before after status) same (check-reading own before after status found (checked (checks own) before after status found own end refl))
 read-by (verifies own) names before after status found end is = cc
 read-by (makes own) names before after status found end is = cc
+read-by (exports own) names before after status found end is = cc
+read-by (imports own) names before after status found end is = cc
 
 -- what may be relied on
 pub promises-of : (plan : Plan) (before after : Outside) (status : ℕ) (found : Option Record) → Ends plan before after status found → Promises plan before after status found

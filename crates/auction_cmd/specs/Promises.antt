@@ -24,7 +24,7 @@ use Rattle.auction_cmd.specs.Ends.{AreHeld, run_texts}
 use Rattle.auction_cmd.specs.Inputs.{inputs_of}
 use Rattle.auction_cmd.specs.MakePromises.{MakePromises}
 use Rattle.auction_cmd.specs.Outside.{Outside, IsSaid}
-use Rattle.auction_cmd.specs.Plan.{Plan, no_command, repeats, runs, checks, verifies, makes}
+use Rattle.auction_cmd.specs.Plan.{Plan, no_command, repeats, runs, checks, verifies, makes, exports, imports}
 use Rattle.auction_cmd.specs.Records.{IsOpenRecordOf, IsRecordBy, IsRecordOf, StartFits, StartUnfit, done_status, outcome, result_of, run_order, summary_of}
 use Rattle.auction_cmd.specs.Refusals.{line_of, name_of}
 use Rattle.auction_cmd.specs.Says.{memory_line, open_line, twice_line, unfit_line, unread_line, unwritten_line}
@@ -40,6 +40,8 @@ inputs_read (runs names) = Some names.inputs
 inputs_read (checks names) = Some names
 inputs_read (verifies names) = None
 inputs_read (makes names) = None
+inputs_read (exports names) = None
+inputs_read (imports names) = None
 
 -- the plan reads no file and stores none
 abbrev pub asks_nothing : Plan → Bool
@@ -49,6 +51,8 @@ asks_nothing (runs names) = false
 asks_nothing (checks names) = false
 asks_nothing (verifies names) = false
 asks_nothing (makes names) = false
+asks_nothing (exports names) = false
+asks_nothing (imports names) = false
 
 -- the plan stores no file before there is a record
 abbrev pub records_first : Plan → Bool
@@ -58,6 +62,8 @@ records_first (runs names) = true
 records_first (checks names) = true
 records_first (verifies names) = true
 records_first (makes names) = false
+records_first (exports names) = false
+records_first (imports names) = false
 
 -- the three input files are there
 pub record AreThere (files : List StoredFile) (names : InputNames) : Type 0 where

@@ -10,6 +10,7 @@ pub mod finish;
 pub mod inputs;
 mod make;
 pub mod make_words;
+pub mod proof_words;
 pub mod refusal;
 mod run;
 mod says;
