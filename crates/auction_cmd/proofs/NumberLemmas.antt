@@ -1,6 +1,6 @@
--- The number that a text is, from what its parsing answered; and the bounds of the size that the words ask for.
-use Rattle.std.proofs.Common.{◌≡◌, ◌<◌, ◌≤◌, ◌⊎◌, ◌∙◌, ◌^◌, ℕ, Bool, true, false, inl, inr, List, Option, Some, None, if◌then◌else◌, sym, ap, subst, arith}
-use Rattle.std.specs.Prelude.{Result, Ok, Err, codes, option_and_then, option_map}
+-- The number that a text is, from what its parsing answered; and the bounds of the numbers that the words ask for.
+use Rattle.std.proofs.Common.{◌≡◌, ◌<◌, ◌≤◌, ◌⊎◌, ◌∙◌, ◌^◌, ℕ, Bool, true, false, inl, inr, List, Option, Some, None, if◌then◌else◌, refl, sym, ap, subst, arith}
+use Rattle.std.specs.Prelude.{MatchOption, Result, Ok, Err, codes, option_and_then, option_map, ⊤}
 use Rattle.std.specs.Str.{bytes_eq}
 use Rattle.std.specs.Str.Parse.{ParsesUnsigned, digits_value, without_leading_plus}
 use Rattle.std.proofs.lemmas.Bool.{cases_Bool}
@@ -9,7 +9,7 @@ use Rattle.clap.specs.Walk.{is_empty}
 use Rattle.clap.specs.ValueTests.{is_unsigned_in}
 use Rattle.clap.specs.declared.builder.value_parser.ValueParser.TheVariants.{Unsigned}
 use Rattle.clap.proofs.ValueTestLemmas.{Accepts-accepts, accepts-Accepts}
-use Rattle.auction_cmd.specs.Words.{run, check, verify, make, InputNames, MakeNames, RunNames, VerifyNames, command_of, input_names, make_names, named_command, number_within, program_app, run_names, seed_limit, size_limit, verify_names, with_value}
+use Rattle.auction_cmd.specs.Words.{Command, run, check, verify, make, export, import, ExportNames, ImportNames, MakeNames, command_of, export_names, import_names, input_names, make_names, named_command, number_within, program_app, run_names, seed_limit, size_limit, step_limit, step_named, verify_names, with_value}
 
 number-in : (least most : ℕ) (text : List ℕ) → IsUnsignedIn least most text → number_within least most text ≡ Some (digits_value 10 (without_leading_plus text))
 number-in least most text h =
@@ -66,48 +66,79 @@ parsed-fits k n text (Ok x) p is =
     subst (λ z. z < 2 ^ k) (sym p.1 ∙ own) p.0.1
 parsed-fits k n text (Err e) p is = cc
 
--- ---- the size that the words ask for
+-- ---- the numbers that the words ask for
 
-within-bounds : (text : Option Text) (n : ℕ) → option_and_then (number_within 1 size_limit) text ≡ Some n → (1 ≤ n) × (n ≤ size_limit)
-within-bounds (Some text) n is = number-bounds 1 size_limit n text is
-within-bounds None n is = cc
+within-bounds : (most : ℕ) (text : Option Text) (n : ℕ) → option_and_then (number_within 1 most) text ≡ Some n → (1 ≤ n) × (n ≤ most)
+within-bounds most (Some text) n is = number-bounds 1 most n text is
+within-bounds most None n is = cc
 
-sized : (seed size : Option ℕ) (outputs : Option InputNames) (names : MakeNames) →
-    option_and_then (λ s. option_and_then (λ n. option_and_then (λ o. Some (record { seed = s; size = n; outputs = o })) outputs) size) seed ≡ Some names → size ≡ Some names.size
-sized (Some s) (Some n) (Some o) names is =
-    let same : record { seed = s; size = n; outputs = o } ≡ names = cc in
-    ap (λ (m : MakeNames). Some m.size) same
-sized (Some s) (Some n) None names is = cc
-sized (Some s) None outputs names is = cc
-sized None size outputs names is = cc
+-- the size that a command asks for, or its step, is in its bounds
+abbrev IsBounded : Command → Type 0
+IsBounded (run names) = ⊤
+IsBounded (check names) = ⊤
+IsBounded (verify names) = ⊤
+IsBounded (make names) = (1 ≤ names.size) × (names.size ≤ size_limit)
+IsBounded (export names) = (1 ≤ names.step) × (names.step ≤ step_limit)
+IsBounded (import names) = (1 ≤ names.step) × (names.step ≤ step_limit)
 
--- of the four commands the one that makes
-made-one : (r c v m : Bool) (rn : Option RunNames) (cn : Option InputNames) (vn : Option VerifyNames) (mn : Option MakeNames) (names : MakeNames) →
-    (if r then option_map run rn else (if c then option_map check cn else (if v then option_map verify vn else (if m then option_map make mn else None)))) ≡ Some (make names) → mn ≡ Some names
-made-one true c v m (Some x) cn vn mn names is = cc
-made-one true c v m None cn vn mn names is = cc
-made-one false true v m rn (Some x) vn mn names is = cc
-made-one false true v m rn None vn mn names is = cc
-made-one false false true m rn cn (Some x) mn names is = cc
-made-one false false true m rn cn None mn names is = cc
-made-one false false false true rn cn vn (Some x) names is =
-    let same : x ≡ names = cc in
-    ap Some same
-made-one false false false true rn cn vn None names is = cc
-made-one false false false false rn cn vn mn names is = cc
+then-all : {A B : Type 0} (P : B → Type 0) (f : A → Option B) (o : Option A) → ((x : A) → o ≡ Some x → MatchOption (f x) ⊤ P) → MatchOption (option_and_then f o) ⊤ P
+then-all P f (Some x) h = h x refl
+then-all P f None h = tt
 
-sized-found : (found : Text × List Row) (names : MakeNames) → named_command found ≡ Some (make names) → (1 ≤ names.size) × (names.size ≤ size_limit)
-sized-found found names is =
+map-all : {A : Type 0} (P : Command → Type 0) (f : A → Command) (o : Option A) → MatchOption o ⊤ (λ x. P (f x)) → MatchOption (option_map f o) ⊤ P
+map-all P f (Some x) h = h
+map-all P f None h = tt
+
+if-all : (P : Command → Type 0) (b : Bool) (x y : Option Command) → MatchOption x ⊤ P → MatchOption y ⊤ P → MatchOption (if b then x else y) ⊤ P
+if-all P true x y h k = h
+if-all P false x y h k = k
+
+-- what holds of each value holds where there is one
+each : {A : Type 0} (P : A → Type 0) (o : Option A) → ((x : A) → P x) → MatchOption o ⊤ P
+each P (Some x) h = h x
+each P None h = tt
+
+make-bounded : (rows : List Row) → MatchOption (make_names rows) ⊤ (λ names. IsBounded (make names))
+make-bounded rows =
+    then-all _ _ (with_value rows (codes "SEED") (number_within 0 seed_limit)) (λ seed seed_is.
+    then-all _ _ (with_value rows (codes "SIZE") (number_within 1 size_limit)) (λ size size_is.
+    then-all _ _ (input_names rows) (λ outputs outputs_are. within-bounds size_limit (first_of (codes "SIZE") rows) size size_is)))
+
+export-bounded : (rows : List Row) → MatchOption (export_names rows) ⊤ (λ names. IsBounded (export names))
+export-bounded rows =
+    then-all _ _ (verify_names rows) (λ shown shown_are.
+    then-all _ _ (step_named rows) (λ step step_is.
+    then-all _ _ (first_of (codes "CNF") rows) (λ formula formula_is. within-bounds step_limit (first_of (codes "STEP") rows) step step_is)))
+
+import-bounded : (rows : List Row) → MatchOption (import_names rows) ⊤ (λ names. IsBounded (import names))
+import-bounded rows =
+    then-all _ _ (verify_names rows) (λ shown shown_are.
+    then-all _ _ (step_named rows) (λ step step_is.
+    then-all _ _ (first_of (codes "LRAT") rows) (λ proof proof_is.
+    then-all _ _ (first_of (codes "RESULT") rows) (λ result result_is.
+    then-all _ _ (first_of (codes "NEWTRANSCRIPT") rows) (λ transcript transcript_is. within-bounds step_limit (first_of (codes "STEP") rows) step step_is)))))
+
+found-bounded : (found : Text × List Row) → MatchOption (named_command found) ⊤ IsBounded
+found-bounded found =
     let rows = found.1 in
-    let one = made-one (bytes_eq found.0 (codes "run")) (bytes_eq found.0 (codes "check")) (bytes_eq found.0 (codes "verify")) (bytes_eq found.0 (codes "make")) (run_names rows) (input_names rows) (verify_names rows) (make_names rows) names is in
-    let size = sized (with_value rows (codes "SEED") (number_within 0 seed_limit)) (with_value rows (codes "SIZE") (number_within 1 size_limit)) (input_names rows) names one in
-    within-bounds (first_of (codes "SIZE") rows) names.size size
+    if-all IsBounded (bytes_eq found.0 (codes "run")) _ _ (map-all IsBounded run (run_names rows) (each _ (run_names rows) (λ names. tt)))
+    (if-all IsBounded (bytes_eq found.0 (codes "check")) _ _ (map-all IsBounded check (input_names rows) (each _ (input_names rows) (λ names. tt)))
+    (if-all IsBounded (bytes_eq found.0 (codes "verify")) _ _ (map-all IsBounded verify (verify_names rows) (each _ (verify_names rows) (λ names. tt)))
+    (if-all IsBounded (bytes_eq found.0 (codes "make")) _ _ (map-all IsBounded make (make_names rows) (make-bounded rows))
+    (if-all IsBounded (bytes_eq found.0 (codes "export")) _ _ (map-all IsBounded export (export_names rows) (export-bounded rows))
+    (if-all IsBounded (bytes_eq found.0 (codes "import")) _ None (map-all IsBounded import (import_names rows) (import-bounded rows)) tt)))))
 
-sized-if : (b : Bool) (o : Option (Text × List Row)) (names : MakeNames) → (if b then option_and_then named_command o else None) ≡ Some (make names) → (1 ≤ names.size) × (names.size ≤ size_limit)
-sized-if true (Some found) names is = sized-found found names is
-sized-if true None names is = cc
-sized-if false o names is = cc
+command-bounded : (words : List (List ℕ)) → MatchOption (command_of words) ⊤ IsBounded
+unfolding command_of
+command-bounded words =
+    if-all IsBounded (is_empty (fault_of program_app words)) (option_and_then named_command (subcommand_of program_app words)) None
+    (then-all IsBounded named_command (subcommand_of program_app words) (λ found found_is. found-bounded found)) tt
 
 pub command-sized : (words : List (List ℕ)) (names : MakeNames) → command_of words ≡ Some (make names) → (1 ≤ names.size) × (names.size ≤ size_limit)
-unfolding command_of
-command-sized words names is = sized-if (is_empty (fault_of program_app words)) (subcommand_of program_app words) names is
+command-sized words names is = subst (λ command. MatchOption command ⊤ IsBounded) is (command-bounded words)
+
+pub export-placed : (words : List (List ℕ)) (names : ExportNames) → command_of words ≡ Some (export names) → (1 ≤ names.step) × (names.step ≤ step_limit)
+export-placed words names is = subst (λ command. MatchOption command ⊤ IsBounded) is (command-bounded words)
+
+pub import-placed : (words : List (List ℕ)) (names : ImportNames) → command_of words ≡ Some (import names) → (1 ≤ names.step) × (names.step ≤ step_limit)
+import-placed words names is = subst (λ command. MatchOption command ⊤ IsBounded) is (command-bounded words)

@@ -1,7 +1,7 @@
 -- What the words ask for, from the command that they are.
 use Rattle.std.proofs.Common.{◌≡◌, ◌∙◌, ℕ, List, Option, Some, None, sym, ap}
-use Rattle.auction_cmd.specs.Plan.{no_command, repeats, runs, checks, verifies, makes, command_plan, make_plan, run_plan}
-use Rattle.auction_cmd.specs.Words.{Command, run, check, verify, make, InputNames, MakeNames, RunNames, VerifyNames, repeated_made, repeated_output}
+use Rattle.auction_cmd.specs.Plan.{no_command, repeats, runs, checks, verifies, makes, exports, imports, command_plan, export_plan, import_plan, make_plan, run_plan}
+use Rattle.auction_cmd.specs.Words.{Command, run, check, verify, make, export, import, ExportNames, ImportNames, InputNames, MakeNames, RunNames, VerifyNames, repeated_export, repeated_import, repeated_made, repeated_output}
 
 pub plan-none : (command : Option Command) → command ≡ None → command_plan command ≡ no_command
 plan-none command is = ap command_plan is
@@ -23,3 +23,15 @@ plan-made_twice command names name is twice = ap command_plan is ∙ ap (make_pl
 
 pub plan-makes : (command : Option Command) (names : MakeNames) → command ≡ Some (make names) → None ≡ repeated_made names → command_plan command ≡ makes names
 plan-makes command names is once = ap command_plan is ∙ ap (make_plan names) (sym once)
+
+pub plan-exported_twice : (command : Option Command) (names : ExportNames) (name : List ℕ) → command ≡ Some (export names) → Some name ≡ repeated_export names → command_plan command ≡ repeats name
+plan-exported_twice command names name is twice = ap command_plan is ∙ ap (export_plan names) (sym twice)
+
+pub plan-exports : (command : Option Command) (names : ExportNames) → command ≡ Some (export names) → None ≡ repeated_export names → command_plan command ≡ exports names
+plan-exports command names is once = ap command_plan is ∙ ap (export_plan names) (sym once)
+
+pub plan-imported_twice : (command : Option Command) (names : ImportNames) (name : List ℕ) → command ≡ Some (import names) → Some name ≡ repeated_import names → command_plan command ≡ repeats name
+plan-imported_twice command names name is twice = ap command_plan is ∙ ap (import_plan names) (sym twice)
+
+pub plan-imports : (command : Option Command) (names : ImportNames) → command ≡ Some (import names) → None ≡ repeated_import names → command_plan command ≡ imports names
+plan-imports command names is once = ap command_plan is ∙ ap (import_plan names) (sym once)

@@ -1,6 +1,6 @@
 -- What the words of the command line have the program do.
 use Rattle.std.specs.Prelude.{ℕ, List, Option, Some, None}
-use Rattle.auction_cmd.specs.Words.{Command, run, check, verify, make, InputNames, RunNames, VerifyNames, MakeNames, command_of, repeated_made, repeated_output}
+use Rattle.auction_cmd.specs.Words.{Command, run, check, verify, make, export, import, InputNames, RunNames, VerifyNames, MakeNames, ExportNames, ImportNames, command_of, repeated_export, repeated_import, repeated_made, repeated_output}
 
 -- nothing, where they are no command; to refuse an output name that is given twice; or a command
 pub data Plan : Type 0 where
@@ -10,6 +10,8 @@ pub data Plan : Type 0 where
   checks : InputNames → Plan
   verifies : VerifyNames → Plan
   makes : MakeNames → Plan
+  exports : ExportNames → Plan
+  imports : ImportNames → Plan
 
 -- a run, unless an output name is given twice
 abbrev pub run_plan : RunNames → Option (List ℕ) → Plan
@@ -21,12 +23,24 @@ abbrev pub make_plan : MakeNames → Option (List ℕ) → Plan
 make_plan names (Some name) = repeats name
 make_plan names None = makes names
 
+-- a formula to store, unless its name is given twice
+abbrev pub export_plan : ExportNames → Option (List ℕ) → Plan
+export_plan names (Some name) = repeats name
+export_plan names None = exports names
+
+-- a step to settle, unless the name of a file to store is given twice
+abbrev pub import_plan : ImportNames → Option (List ℕ) → Plan
+import_plan names (Some name) = repeats name
+import_plan names None = imports names
+
 abbrev pub command_plan : Option Command → Plan
 command_plan None = no_command
 command_plan (Some (run names)) = run_plan names (repeated_output names)
 command_plan (Some (check names)) = checks names
 command_plan (Some (verify names)) = verifies names
 command_plan (Some (make names)) = make_plan names (repeated_made names)
+command_plan (Some (export names)) = export_plan names (repeated_export names)
+command_plan (Some (import names)) = import_plan names (repeated_import names)
 
 -- what the words ask for
 abbrev pub plan_of : List (List ℕ) → Plan

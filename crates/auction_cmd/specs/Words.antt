@@ -8,11 +8,13 @@ use Rattle.clap.specs.Walk.{is_empty}
 use Rattle.clap.specs.ValueTests.{is_unsigned_in}
 use Rattle.clap.specs.declared.builder.value_parser.ValueParser.TheVariants.{Unsigned}
 use Rattle.auction_cmd.specs.declared.make_words.MakeArgs.{MakeArgs}
+use Rattle.auction_cmd.specs.declared.proof_words.ExportArgs.{ExportArgs}
+use Rattle.auction_cmd.specs.declared.proof_words.ImportArgs.{ImportArgs}
 use Rattle.auction_cmd.specs.declared.words.InputArgs.{InputArgs}
 use Rattle.auction_cmd.specs.declared.words.RunArgs.{RunArgs}
 use Rattle.auction_cmd.specs.declared.words.VerifyArgs.{VerifyArgs}
 use Rattle.auction_cmd.specs.declared.words.Order.{Order}
-use Rattle.auction_cmd.specs.declared.words.Order.TheVariants.{Run, Check, Verify, Make}
+use Rattle.auction_cmd.specs.declared.words.Order.TheVariants.{Run, Check, Verify, Make, Export, Import}
 use Rattle.auction_cmd.specs.declared.words.WordsFault.{WordsFault}
 use Rattle.auction_cmd.specs.declared.words.WordsFault.TheVariants.{NoMemory, Refused}
 
@@ -40,12 +42,29 @@ pub record MakeNames : Type 0 where
   pub size : ℕ
   pub outputs : InputNames
 
+-- the names of the files of `export`: the auction's and the formula that it stores; and the step that is asked about
+pub record ExportNames : Type 0 where
+  pub shown : VerifyNames
+  pub step : ℕ
+  pub formula : List ℕ
+
+-- the names of the files of `import`: the auction's, the proof that it reads, and the result and the transcript that it
+-- stores; and the step that is settled
+pub record ImportNames : Type 0 where
+  pub shown : VerifyNames
+  pub step : ℕ
+  pub proof : List ℕ
+  pub result : List ℕ
+  pub transcript : List ℕ
+
 -- a command with its arguments
 pub data Command : Type 0 where
   run : RunNames → Command
   check : InputNames → Command
   verify : VerifyNames → Command
   make : MakeNames → Command
+  export : ExportNames → Command
+  import : ImportNames → Command
 
 -- ---- what `clap` is asked to read
 
@@ -72,15 +91,22 @@ output_ids = codes "RESULT" ∷ codes "CHANNELS" ∷ codes "TRANSCRIPT" ∷ []
 abbrev pub run_app : App
 run_app = with_required (new_app (codes "run")) (input_ids ++ output_ids)
 
-abbrev pub verify_app : App
-verify_app = with_required (new_app (codes "verify")) (input_ids ++ codes "TRANSCRIPT" ∷ [])
+-- the arguments that name the files of an auction that was carried out
+abbrev pub shown_ids : List Text
+shown_ids = input_ids ++ codes "TRANSCRIPT" ∷ []
 
--- the greatest seed, and the most stations of a made auction
+abbrev pub verify_app : App
+verify_app = with_required (new_app (codes "verify")) shown_ids
+
+-- the greatest seed, the most stations of a made auction, and the last step that can be asked about
 abbrev pub seed_limit : ℕ
 seed_limit = 18446744073709551615
 
 abbrev pub size_limit : ℕ
 size_limit = 4096
+
+abbrev pub step_limit : ℕ
+step_limit = 4294967295
 
 -- an argument that has to be given, and is a number from the least to the most
 abbrev pub number_rule : Text → ℕ → ℕ → Rule
@@ -93,16 +119,26 @@ numbers_app = with_rule (with_rule (new_app (codes "make")) (number_rule (codes 
 abbrev pub make_app : App
 make_app = with_required numbers_app input_ids
 
+-- the command of this name, which takes the files of an auction and the number of one of its steps
+abbrev pub step_app : Text → App
+step_app name = with_rule (with_required (new_app name) shown_ids) (number_rule (codes "STEP") 1 step_limit)
+
+abbrev pub export_app : App
+export_app = with_required (step_app (codes "export")) (codes "CNF" ∷ [])
+
+abbrev pub import_app : App
+import_app = with_required (step_app (codes "import")) (codes "LRAT" ∷ codes "RESULT" ∷ codes "NEWTRANSCRIPT" ∷ [])
+
 -- the program without its commands: it has a version, and a command is required
 abbrev pub bare_app : App
 bare_app = on_top (λ s. record s { has_version = true; subcommand_required = true }) (new_app (codes "repack"))
 
--- the program with the commands that read files
+-- the program with the commands that read an auction's files and ask about no step
 abbrev pub reading_app : App
 reading_app = with_subcommand (with_subcommand (with_subcommand bare_app run_app.top) check_app.top) verify_app.top
 
 abbrev pub program_app : App
-program_app = with_subcommand reading_app make_app.top
+program_app = with_subcommand (with_subcommand (with_subcommand reading_app make_app.top) export_app.top) import_app.top
 
 -- ---- what was read
 
@@ -150,13 +186,40 @@ make_names rows =
     (with_value rows (codes "SIZE") (number_within 1 size_limit)))
     (with_value rows (codes "SEED") (number_within 0 seed_limit))
 
+-- the step of `export` and `import`, where it is there and in its bounds
+abbrev pub step_named : List Row → Option ℕ
+step_named rows = with_value rows (codes "STEP") (number_within 1 step_limit)
+
+-- the names of the files of `export` and its step, where each is there
+abbrev pub export_names : List Row → Option ExportNames
+export_names rows =
+    option_and_then (λ shown.
+    option_and_then (λ step.
+    with_value rows (codes "CNF") (λ formula. Some (record { shown = shown; step = step; formula = formula })))
+    (step_named rows))
+    (verify_names rows)
+
+-- the names of the files of `import` and its step, where each is there
+abbrev pub import_names : List Row → Option ImportNames
+import_names rows =
+    option_and_then (λ shown.
+    option_and_then (λ step.
+    with_value rows (codes "LRAT") (λ proof.
+    with_value rows (codes "RESULT") (λ result.
+    with_value rows (codes "NEWTRANSCRIPT") (λ transcript.
+    Some (record { shown = shown; step = step; proof = proof; result = result; transcript = transcript })))))
+    (step_named rows))
+    (verify_names rows)
+
 -- the command of this name, where each of its arguments is there
 abbrev pub named_command : Text × List Row → Option Command
 named_command found =
     if bytes_eq found.0 (codes "run") then option_map run (run_names found.1)
     else (if bytes_eq found.0 (codes "check") then option_map check (input_names found.1)
     else (if bytes_eq found.0 (codes "verify") then option_map verify (verify_names found.1)
-    else (if bytes_eq found.0 (codes "make") then option_map make (make_names found.1) else None)))
+    else (if bytes_eq found.0 (codes "make") then option_map make (make_names found.1)
+    else (if bytes_eq found.0 (codes "export") then option_map export (export_names found.1)
+    else (if bytes_eq found.0 (codes "import") then option_map import (import_names found.1) else None)))))
 
 -- The command that the words are, the first of which is the program's name; none where `clap` has a fault for them, or an
 -- argument has no value.
@@ -194,6 +257,26 @@ is_repeated_among given name = nat_lt 1 (count_by (bytes_eq name) given)
 unfoldable pub repeated_made : MakeNames → Option (List ℕ)
 repeated_made names = find (is_repeated_among (made_names names)) (made_names names)
 
+-- the names of the files of an auction that was carried out, in the order of the arguments
+abbrev pub shown_names : VerifyNames → List (List ℕ)
+shown_names names = names.inputs.domains ∷ names.inputs.rows ∷ names.inputs.scenario ∷ names.transcript ∷ []
+
+-- the names of the files of `export`, in the order of its arguments
+abbrev pub exported_names : ExportNames → List (List ℕ)
+exported_names names = shown_names names.shown ++ names.formula ∷ []
+
+-- the name of the file that `export` stores, where it is given more than once
+unfoldable pub repeated_export : ExportNames → Option (List ℕ)
+repeated_export names = find (is_repeated_among (exported_names names)) (names.formula ∷ [])
+
+-- the names of the files of `import`, in the order of its arguments
+abbrev pub imported_names : ImportNames → List (List ℕ)
+imported_names names = shown_names names.shown ++ names.proof ∷ names.result ∷ names.transcript ∷ []
+
+-- the first name of a file that `import` stores which is given more than once
+unfoldable pub repeated_import : ImportNames → Option (List ℕ)
+repeated_import names = find (is_repeated_among (imported_names names)) (names.result ∷ names.transcript ∷ [])
+
 -- ---- the code's values, as the definitions see them
 
 abbrev pub inputs_seen : InputArgs → InputNames
@@ -217,11 +300,25 @@ verify_seen args = record { inputs = inputs_seen args.inputs; transcript = args.
 abbrev pub make_seen : MakeArgs → MakeNames
 make_seen args = record { seed = args.seed; size = args.size; outputs = inputs_seen args.outputs }
 
+abbrev pub export_seen : ExportArgs → ExportNames
+export_seen args = record { shown = verify_seen args.shown; step = args.step; formula = args.formula.now }
+
+abbrev pub import_seen : ImportArgs → ImportNames
+import_seen args = record {
+  shown = verify_seen args.shown;
+  step = args.step;
+  proof = args.proof.now;
+  result = args.result.now;
+  transcript = args.transcript.now;
+}
+
 abbrev pub order_seen : Order → Command
 order_seen (Run args) = run (names_seen args)
 order_seen (Check args) = check (inputs_seen args)
 order_seen (Verify args) = verify (verify_seen args)
 order_seen (Make args) = make (make_seen args)
+order_seen (Export args) = export (export_seen args)
+order_seen (Import args) = import (import_seen args)
 
 -- the words have a fault
 abbrev pub IsRefused : WordsFault → Type 0

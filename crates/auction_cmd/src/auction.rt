@@ -58,6 +58,8 @@ fn carry_out<F: Folder, K: Sink, G: Gate + Sync, W: Threads + Wait + Sync>(
             }
             None => make(rt, alloc, &files, folder, out, gate),
         },
+        // placeholder
+        Ok(Order::Export(_)) | Ok(Order::Import(_)) => starve(out),
         Err(WordsFault::Refused(text)) => {
             say(out, &[text.as_str()]);
             Finish::without_record(2)

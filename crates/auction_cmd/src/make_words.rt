@@ -3,7 +3,7 @@
 ghost use Rattle.std.specs.Prelude.{◌≡◌, IfOk, false, option_map};
 ghost use Rattle.clap.specs.Words.{app_of, found_of, new_app, rows_of, rule_of};
 ghost use Rattle.clap.specs.declared.builder.command.Command.TheViews.{out-Command};
-ghost use Rattle.auction_cmd.specs.Words.{is_repeated_among, made_names, make_app, make_names, make_seen, number_rule, number_within, numbers_app, repeated_made, seed_limit, size_limit};
+ghost use Rattle.auction_cmd.specs.Words.{is_repeated_among, made_names, make_app, make_names, make_seen, number_rule, number_within, numbers_app, repeated_made, seed_limit};
 
 use crate::words::{InputArgs, input_args, required, times_in, value_of};
 use clap::builder::ValueParser;
@@ -54,7 +54,13 @@ impl<'a> MakeArgs<'a> {
 }
 
 // An argument that has to be given, and is a number from the least to the most, with its line of help.
-fn number<'a>(alloc: Global, name: &'a str, least: u64, most: u64, help: &'a str) -> Arg<'a>
+pub(crate) fn number<'a>(
+    alloc: Global,
+    name: &'a str,
+    least: u64,
+    most: u64,
+    help: &'a str,
+) -> Arg<'a>
     ensures rule { rule_of result ≡ number_rule name.entry.now least most }
     ensures local { result.global ≡ false }
 {
@@ -108,27 +114,27 @@ fn seed_in(text: &str) -> Option<u64>
     }
 }
 
-// The size that this text is.
-fn size_in(text: &str) -> Option<u32>
-    ensures { result ≡ number_within 1 size_limit text.now }
+// The number that this text is, from 1 to the most.
+pub(crate) fn count_in(text: &str, most: u32) -> Option<u32>
+    ensures { result ≡ number_within 1 most text.now }
 {
-    let Ok(size) = text.parse::<u32>() else {
+    let Ok(count) = text.parse::<u32>() else {
         return None;
     };
-    if size < 1 {
+    if count < 1 {
         return None;
     }
-    if size > SIZE_LIMIT {
+    if count > most {
         return None;
     }
-    Some(size)
+    Some(count)
 }
 
 pub(crate) fn make_args<'a>(matches: &ArgMatches<'a>) -> Option<MakeArgs<'a>>
     ensures { option_map make_seen result ≡ make_names (rows_of (found_of matches.now)) }
 {
     let seed = seed_in(value_of(matches, "SEED")?)?;
-    let size = size_in(value_of(matches, "SIZE")?)?;
+    let size = count_in(value_of(matches, "SIZE")?, SIZE_LIMIT)?;
     let outputs = input_args(matches)?;
     Some(MakeArgs {
         seed,

@@ -5,9 +5,12 @@ ghost use Rattle.std.specs.Str.{bytes_eq};
 ghost use Rattle.clap.specs.Words.{app_of, first_of, found_of, kind_of, new_app, rows_of, rule_of, subcommand_rows_of};
 ghost use Rattle.clap.specs.declared.builder.command.Command.TheViews.{out-Command};
 ghost use Rattle.auction_cmd.specs.Refusals.{name_of};
-ghost use Rattle.auction_cmd.specs.Words.{IsRefused, bare_app, check_app, command_of, input_ids, input_names, inputs_seen, is_repeated_in, named_command, names_seen, order_seen, program_app, reading_app, repeated_output, required_rule, run_app, run_names, verify_app, verify_names, verify_seen, with_required};
+ghost use Rattle.auction_cmd.specs.Words.{IsRefused, bare_app, check_app, command_of, input_ids, input_names, inputs_seen, is_repeated_in, named_command, names_seen, order_seen, program_app, reading_app, repeated_output, required_rule, run_app, run_names, shown_ids, verify_app, verify_names, verify_seen, with_required};
 
 use crate::make_words::{MakeArgs, make_args, make_command};
+use crate::proof_words::{
+    ExportArgs, ImportArgs, export_args, export_command, import_args, import_command,
+};
 use crate::refusal::Input;
 use clap::error::ErrorKind;
 use clap::{Arg, ArgMatches, Command, Error};
@@ -37,7 +40,7 @@ pub struct RunArgs<'a> {
     pub transcript: &'a str,
 }
 
-/// The names of the files of `verify`, as they are given.
+/// The names of the files of an auction that was carried out, as they are given.
 #[derive(Clone, Copy, Debug, PartialEq, Eq)]
 pub struct VerifyArgs<'a> {
     /// The input files of the auction.
@@ -57,6 +60,10 @@ pub enum Order<'a> {
     Verify(VerifyArgs<'a>),
     /// Make an auction and run it.
     Make(MakeArgs<'a>),
+    /// Store the formula of a step's test.
+    Export(ExportArgs<'a>),
+    /// Settle a step by a proof from outside.
+    Import(ImportArgs<'a>),
 }
 
 /// Why words are not read as a command. `Refused`: they are none. It has the text that `clap` gives for the user, which is
@@ -144,12 +151,12 @@ fn input_command<'a>(
         .arg(required(
             alloc,
             "DOMAINS",
-            "The channels of each station, laid out as the FCC's Domain.csv",
+            "The channels of each station, as in the FCC's Domain.csv",
         ))?
         .arg(required(
             alloc,
             "ROWS",
-            "What interferes, laid out as the FCC's Interference_Paired.csv",
+            "What interferes, as in the FCC's Interference_Paired.csv",
         ))?
         .arg(required(
             alloc,
@@ -189,16 +196,28 @@ fn check_command<'a>(alloc: Global) -> Result<Command<'a>, AllocError>
     input_command(alloc, "check", about)
 }
 
+// A command of this name that takes the names of the files of an auction that was carried out.
+pub(crate) fn shown_command<'a>(
+    alloc: Global,
+    name: &'a str,
+    about: &'a str,
+) -> Result<Command<'a>, AllocError>
+    ensures app { IfOk result (λ c. app_of c ≡ with_required (new_app name.entry.now) shown_ids) }
+    ensures local { IfOk result (λ c. (out-Command c).has_globals ≡ false) }
+{
+    input_command(alloc, name, about)?.arg(required(
+        alloc,
+        "TRANSCRIPT",
+        "The transcript of an auction of these inputs",
+    ))
+}
+
 fn verify_command<'a>(alloc: Global) -> Result<Command<'a>, AllocError>
     ensures app { IfOk result (λ c. app_of c ≡ verify_app) }
     ensures local { IfOk result (λ c. (out-Command c).has_globals ≡ false) }
 {
     let about = "Checks a transcript and prints the result it shows; stores nothing";
-    input_command(alloc, "verify", about)?.arg(required(
-        alloc,
-        "TRANSCRIPT",
-        "The transcript of an auction of these inputs",
-    ))
+    shown_command(alloc, "verify", about)
 }
 
 // The program without its commands. Its name in the texts is its own, however it was called.
@@ -214,7 +233,7 @@ fn bare_program<'a>(alloc: Global) -> Result<Command<'a>, AllocError>
     command.bin_name("repack")
 }
 
-// The program with the commands that read files.
+// The program with the commands that read an auction's files and ask about no step.
 fn reading_program<'a>(alloc: Global) -> Result<Command<'a>, AllocError>
     ensures app { IfOk result (λ c. app_of c ≡ reading_app) }
     ensures local { IfOk result (λ c. (out-Command c).has_globals ≡ false) }
@@ -228,7 +247,10 @@ fn reading_program<'a>(alloc: Global) -> Result<Command<'a>, AllocError>
 fn program<'a>(alloc: Global) -> Result<Command<'a>, AllocError>
     ensures { IfOk result (λ c. app_of c ≡ program_app) }
 {
-    reading_program(alloc)?.subcommand(make_command(alloc)?)
+    reading_program(alloc)?
+        .subcommand(make_command(alloc)?)?
+        .subcommand(export_command(alloc)?)?
+        .subcommand(import_command(alloc)?)
 }
 
 // The first value of an argument.
@@ -266,7 +288,7 @@ fn run_args<'a>(matches: &ArgMatches<'a>) -> Option<RunArgs<'a>>
     })
 }
 
-fn verify_args<'a>(matches: &ArgMatches<'a>) -> Option<VerifyArgs<'a>>
+pub(crate) fn verify_args<'a>(matches: &ArgMatches<'a>) -> Option<VerifyArgs<'a>>
     ensures { option_map verify_seen result ≡ verify_names (rows_of (found_of matches.now)) }
 {
     let inputs = input_args(matches)?;
@@ -287,6 +309,10 @@ fn order_of<'a>(matches: &ArgMatches<'a>) -> Option<Order<'a>>
         Some(Order::Verify(verify_args(inner)?))
     } else if name == "make" {
         Some(Order::Make(make_args(inner)?))
+    } else if name == "export" {
+        Some(Order::Export(export_args(inner)?))
+    } else if name == "import" {
+        Some(Order::Import(import_args(inner)?))
     } else {
         None
     }
@@ -311,10 +337,11 @@ fn fault_from(alloc: Global, error: &Error) -> WordsFault
 }
 
 /// The command that the words are, of which the first is the program's name: `run DOMAINS ROWS SCENARIO RESULT CHANNELS
-/// TRANSCRIPT`, `check DOMAINS ROWS SCENARIO`, `verify DOMAINS ROWS SCENARIO TRANSCRIPT` or `make SEED SIZE DOMAINS ROWS
-/// SCENARIO`. A name that begins with `-` stands after `--`, but for a lone `-`. SEED is a number up to 2^64 - 1, SIZE one
-/// from 1 to 4,096; a plus may stand before either, and zeros. Help and the version are no command: their texts come with
-/// `Refused`.
+/// TRANSCRIPT`, `check DOMAINS ROWS SCENARIO`, `verify DOMAINS ROWS SCENARIO TRANSCRIPT`, `make SEED SIZE DOMAINS ROWS
+/// SCENARIO`, `export DOMAINS ROWS SCENARIO TRANSCRIPT STEP CNF` or `import DOMAINS ROWS SCENARIO TRANSCRIPT STEP LRAT RESULT
+/// NEWTRANSCRIPT`. A name that begins with `-` stands after `--`, but for a lone `-`. SEED is a number up to 2^64 - 1, SIZE
+/// one from 1 to 4,096, STEP one from 1 to 4,294,967,295; a plus may stand before each, and zeros. Help and the version are
+/// no command: their texts come with `Refused`.
 #[tactic(auto, unfolding(crate::specs::Words::command_of))]
 pub fn read_words<'a>(alloc: Global, words: &'a [String]) -> Result<Order<'a>, WordsFault>
     ensures order { IfOk result (λ o. command_of (map string_bytes words.entry.now) ≡ Some (order_seen o)) }

@@ -1,5 +1,5 @@
 -- Steps that move an auction alike: two lists of steps that differ only in how steps without room are shown.
-use Rattle.std.proofs.Common.{◌≡◌, ℕ, ◌-◌, ◌+◌, ◌==◌, ◌&&◌, Bool, true, false, if◌then◌else◌, List, [], ◌∷◌, ◌++◌, Option, Some, None, refl, sym, ap, subst, ◌∙◌, append_assoc}
+use Rattle.std.proofs.Common.{◌≡◌, ℕ, ◌-◌, ◌+◌, ◌==◌, ◌&&◌, false, if◌then◌else◌, List, [], ◌∷◌, ◌++◌, Option, Some, None, refl, sym, ap, subst, ◌∙◌}
 use Rattle.std.specs.Option.{option_map_or, unwrap_or}
 use Rattle.pack_defs.specs.declared.scenario.Scenario.{Scenario}
 use Rattle.pack_defs.specs.Book.{BookView, domain_of}
@@ -9,7 +9,7 @@ use Rattle.pack_defs.specs.ClockRule.{ClockState, ClockTest, after_answer, is_on
 use Rattle.auction_core.specs.declared.record.Shown.{Shown}
 use Rattle.auction_core.specs.declared.record.Shown.TheVariants.{NoChannel, Same}
 use Rattle.auction_core.specs.declared.record.Step.{Step}
-use Rattle.auction_core.specs.State.{CoreState, fit_of, last_fit, set_in, settled, settled_unasked, shows_room, test_of, test_task, tested_set}
+use Rattle.auction_core.specs.State.{CoreState, fit_of, last_fit, set_in, settled, settled_unasked, shows_room, test_of, tested_set}
 use Rattle.auction_core.specs.Backed.{after_steps}
 
 -- one by one the steps are of one test, and both show room or neither, with the same fit

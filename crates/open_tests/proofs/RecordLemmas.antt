@@ -1,5 +1,5 @@
 -- A record of which a test that was left open is settled by a proof from outside.
-use Rattle.std.proofs.Common.{◌≡◌, ℕ, ◌-◌, Bool, true, List, [], ◌∷◌, map, MatchOption, Option, Some, None, sum_by, refl, sym, ap, subst, ◌∙◌}
+use Rattle.std.proofs.Common.{◌≡◌, ℕ, ◌-◌, List, [], map, MatchOption, Option, None, sum_by, refl, sym, ap, subst, ◌∙◌}
 use Rattle.std.specs.Prelude.{⊤}
 use Rattle.pack_defs.specs.declared.scenario.Scenario.{Scenario}
 use Rattle.pack_defs.specs.Book.{BookView}
@@ -24,7 +24,7 @@ use Rattle.transcript_check.proofs.WalkLemmas.{step_or-parts}
 use Rattle.open_tests.specs.Queries.{state_before, step_at}
 use Rattle.open_tests.specs.Settled.{IsLeftOpen, RefutesStep, settled_by, shown_outside, without_test}
 use Rattle.open_tests.proofs.AlikeLemmas.{HaveMoved}
-use Rattle.open_tests.proofs.SettledLemmas.{IsOpenAt, RefutesAt, left-at, moved-outside, open-at, refutes-at, some-step}
+use Rattle.open_tests.proofs.SettledLemmas.{RefutesAt, left-at, moved-outside, open-at, refutes-at, some-step}
 use Rattle.open_tests.proofs.ReplacedLemmas.{replaced}
 
 -- a record that has a step was carried through

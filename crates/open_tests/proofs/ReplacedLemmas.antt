@@ -15,7 +15,7 @@ use Rattle.auction_core.specs.State.{CoreState, is_same, settled, test_of, test_
 use Rattle.auction_core.specs.Backed.{IsSettledBy, IsStepShown, is_undecided}
 use Rattle.transcript_text.specs.declared.transcript.TranscriptStep.{TranscriptStep}
 use Rattle.transcript_text.specs.Spelling.{transcript_step, transcript_steps}
-use Rattle.transcript_check.specs.declared.error.ShownWhy.TheVariants.{NotValid, Order}
+use Rattle.transcript_check.specs.declared.error.ShownWhy.TheVariants.{Order}
 use Rattle.transcript_check.specs.NotShown.{NotShown, at_test, is_test, next_asked, not_shown_at, query_fault, step_fault, step_or, steps_fault, unasked_fault}
 use Rattle.transcript_check.proofs.StepLemmas.{step-none, step-shown}
 use Rattle.transcript_check.proofs.WalkLemmas.{step_or-parts}

@@ -1,5 +1,5 @@
 -- A step that was left open, shown by a proof from outside.
-use Rattle.std.proofs.Common.{◌≡◌, ℕ, zero, suc, ◌-◌, ◌+◌, Bool, true, false, not, ◌&&◌, ◌||◌, ◌==◌, if◌then◌else◌, List, [], ◌∷◌, ◌++◌, map, take, get_or, set, Option, Some, None, option_map, MatchOption, refl, sym, ap, subst, ◌∙◌, arith, eq-eqb}
+use Rattle.std.proofs.Common.{◌≡◌, ℕ, zero, suc, ◌-◌, ◌+◌, Bool, true, false, ◌||◌, ◌==◌, if◌then◌else◌, List, [], ◌∷◌, ◌++◌, map, take, get_or, set, Option, Some, None, option_map, MatchOption, refl, sym, ap, subst, ◌∙◌, arith, eq-eqb}
 use Rattle.std.specs.Prelude.{⊤, slice_get}
 use Rattle.std.specs.List.{cons_option}
 use Rattle.std.proofs.lemmas.Bool.{and_from, both_ways, false_from_ne_true}
@@ -7,7 +7,6 @@ use Rattle.pack_defs.specs.declared.scenario.Scenario.{Scenario}
 use Rattle.pack_defs.specs.Book.{BookView}
 use Rattle.pack_defs.specs.ClockRule.{ClockTest, is_listed}
 use Rattle.pack_defs.proofs.TestOrder.{TestsApart}
-use Rattle.cert_types.specs.declared.task.Task.{Task}
 use Rattle.cert_types.specs.Outside.{IsOutsideProof}
 use Rattle.cert_types.specs.declared.outside.OutsideProof.{OutsideProof}
 use Rattle.auction_core.specs.declared.record.Shown.{Shown}
@@ -66,12 +65,6 @@ some-step (x ∷ xs) i h e = cc
 
 -- ---- what it leaves
 
--- the tests stay
-pub same-tests : (xs : List Step) (i : ℕ) (proof : OutsideProof) → map test_of (shown_outside xs i proof) ≡ map test_of xs
-same-tests [] i proof = refl
-same-tests (x ∷ xs) zero proof = refl
-same-tests (x ∷ xs) (suc i) proof = ap (λ (ts : List ClockTest). test_of x ∷ ts) (same-tests xs i proof)
-
 moved-here : (sc : Scenario) (state : CoreState) (r s : ℕ) (shown : Shown) (xs : List Step) (proof : OutsideProof) → is_undecided shown ≡ true
     → HaveMoved (after_steps sc (settled sc state (record { round = r; station = s }) shown) xs) (after_steps sc (settled sc state (record { round = r; station = s }) (Outside proof)) xs)
 moved-here sc state r s Empty xs proof e = absurd cc
@@ -85,7 +78,7 @@ moved-here sc state r s (Undecided receipts) xs proof e =
     let y : Step = record { round = r; station = s; shown = Outside proof } in
     same-moves sc (settled sc state (test_of x) x.shown) (state.steps ++ y ∷ []) xs (alike-push state.steps state.steps x y (alike-same state.steps) (refl, refl, refl, tt))
 
--- and so do the clock and the map
+-- the clock and the map stay
 pub moved-outside : (sc : Scenario) (state : CoreState) (xs : List Step) (i : ℕ) (proof : OutsideProof) → IsOpenAt xs i → HaveMoved (after_steps sc state xs) (after_steps sc state (shown_outside xs i proof))
 moved-outside sc state [] i proof h = absurd h
 moved-outside sc state (x ∷ xs) zero proof h = moved-here sc state x.round x.station x.shown xs proof h

@@ -8,5 +8,9 @@ pub mod cut;
 pub mod formula;
 pub mod laws;
 pub mod replace;
+#[cfg(test)]
+mod replace_tests;
+#[cfg(test)]
+mod samples;
 pub mod settle;
 pub mod task;

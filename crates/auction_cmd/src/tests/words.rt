@@ -1,7 +1,8 @@
 //! What the words of a command line are read as.
 
 use crate::make_words::MakeArgs;
-use crate::words::{InputArgs, Order, RunArgs, WordsFault, read_words};
+use crate::proof_words::{ExportArgs, ImportArgs};
+use crate::words::{InputArgs, Order, RunArgs, VerifyArgs, WordsFault, read_words};
 use std::alloc::{AllocError as NoMemory, Global};
 use std::test::Fail;
 
@@ -62,7 +63,43 @@ fn order_text(alloc: Global, order: Order<'_>) -> Result<String, NoMemory> {
             let names = [outputs.domains, outputs.rows, outputs.scenario];
             joined(alloc, &command, &names)
         }
+        Order::Export(files) => export_text(alloc, files),
+        Order::Import(files) => import_text(alloc, files),
     }
+}
+
+// The order to store a formula; its step stands behind the names.
+fn export_text(alloc: Global, files: ExportArgs<'_>) -> Result<String, NoMemory> {
+    let step = files.step;
+    let last = format!(in alloc; "step {step}")?;
+    let inputs = files.shown.inputs;
+    let names = [
+        inputs.domains,
+        inputs.rows,
+        inputs.scenario,
+        files.shown.transcript,
+        files.formula,
+        last.as_str(),
+    ];
+    joined(alloc, "order export", &names)
+}
+
+// The order to settle a step; its step stands behind the names.
+fn import_text(alloc: Global, files: ImportArgs<'_>) -> Result<String, NoMemory> {
+    let step = files.step;
+    let last = format!(in alloc; "step {step}")?;
+    let inputs = files.shown.inputs;
+    let names = [
+        inputs.domains,
+        inputs.rows,
+        inputs.scenario,
+        files.shown.transcript,
+        files.proof,
+        files.result,
+        files.transcript,
+        last.as_str(),
+    ];
+    joined(alloc, "order import", &names)
 }
 
 // The order that the words are, or the text that comes with their fault.
@@ -142,9 +179,70 @@ fn words_are_refused(rt: HostRuntime) -> Result<(), Fail> {
     Ok(())
 }
 
-// Whether a text fits a terminal of 80 columns.
+#[test]
+fn a_wrong_count_of_names_is_refused(rt: HostRuntime) -> Result<(), Fail> {
+    let more = "error: unexpected argument 'more' found\n";
+    let table = [
+        ("repack,export,d,r,s,t,1,c,more", more),
+        ("repack,import,d,r,s,t,1,l,o,n,more", more),
+        (
+            "repack,export,d,r,s,t,1",
+            "error: the following required arguments were not provided:\n  <CNF>\n\n",
+        ),
+        (
+            "repack,export,d,r,s,t",
+            "error: the following required arguments were not provided:\n  <STEP>\n  <CNF>\n\n",
+        ),
+        (
+            "repack,import,d,r,s,t,1,l,o",
+            "error: the following required arguments were not provided:\n  <NEWTRANSCRIPT>\n\n",
+        ),
+        // A name in the place of the step is no number.
+        (
+            "repack,export,d,r,s,1,c",
+            "error: invalid value 'c' for '<STEP>': invalid digit found in string\n",
+        ),
+        (
+            "repack,import,d,r,s,1,l,o,n",
+            "error: invalid value 'l' for '<STEP>': invalid digit found in string\n",
+        ),
+    ];
+    assert_eq!(rt; unrefused(rt.alloc(), &table)?, None);
+    Ok(())
+}
+
+#[test]
+fn a_step_is_a_number(rt: HostRuntime) -> Result<(), Fail> {
+    let range = "error: invalid value '0' for '<STEP>': 0 is not in 1..=4294967295\n";
+    let long =
+        "error: invalid value '4294967296' for '<STEP>': 4294967296 is not in 1..=4294967295\n";
+    let digits = "error: invalid value 'abc' for '<STEP>': invalid digit found in string\n";
+    let none = "error: invalid value '' for '<STEP>': cannot parse integer from empty string\n";
+    let minus = "error: unexpected argument '-1' found\n";
+    let table = [
+        ("repack,export,d,r,s,t,0,c", range),
+        ("repack,export,d,r,s,t,4294967296,c", long),
+        ("repack,export,d,r,s,t,abc,c", digits),
+        ("repack,export,d,r,s,t,,c", none),
+        ("repack,export,d,r,s,t,-1,c", minus),
+        ("repack,import,d,r,s,t,0,l,o,n", range),
+        ("repack,import,d,r,s,t,4294967296,l,o,n", long),
+        ("repack,import,d,r,s,t,abc,l,o,n", digits),
+        ("repack,import,d,r,s,t,,l,o,n", none),
+        ("repack,import,d,r,s,t,-1,l,o,n", minus),
+        (
+            "repack,import,d,r,s,t,--,-1,l,o,n",
+            "error: invalid value '-1' for '<STEP>': invalid digit found in string\n",
+        ),
+    ];
+    assert_eq!(rt; unrefused(rt.alloc(), &table)?, None);
+    Ok(())
+}
+
+// Whether a text fits a terminal of 80 columns, but for the usage, which is one line.
 fn is_narrow(text: &str) -> bool {
-    text.lines().all(|line| line.len() <= 80)
+    text.lines()
+        .all(|line| line.len() <= 80 || line.starts_with("Usage: "))
 }
 
 // Whether the words bring a narrow help with this start and this usage.
@@ -176,6 +274,11 @@ fn help_is_told(rt: HostRuntime) -> Result<(), Fail> {
     let three = "\nUsage: repack check <DOMAINS> <ROWS> <SCENARIO>\n";
     let make = "Makes an auction ";
     let five = "\nUsage: repack make <SEED> <SIZE> <DOMAINS> <ROWS> <SCENARIO>\n";
+    let export = "Writes the packing formula ";
+    let six_read = "\nUsage: repack export <DOMAINS> <ROWS> <SCENARIO> <TRANSCRIPT> <STEP> <CNF>\n";
+    let import = "Settles an undecided step ";
+    let eight =
+        "\nUsage: repack import <DOMAINS> <ROWS> <SCENARIO> <TRANSCRIPT> <STEP> <LRAT> <RESULT> <NEWTRANSCRIPT>\n";
     let table = [
         ("repack,--help", program, commands),
         ("repack,-h", program, commands),
@@ -186,6 +289,8 @@ fn help_is_told(rt: HostRuntime) -> Result<(), Fail> {
         ("repack,help,check", check, three),
         ("repack,check,d,r,s,-h", check, three),
         ("repack,make,--help", make, five),
+        ("repack,export,--help", export, six_read),
+        ("repack,help,import", import, eight),
     ];
     assert_eq!(rt; unhelped(rt.alloc(), &table)?, None);
     Ok(())
@@ -234,6 +339,43 @@ fn each_name_stands_in_its_place(rt: HostRuntime) -> Result<(), Fail> {
         ("repack,make,+0,01,--,-d,,make", "order make,0,1,-d,,make"),
         ("repack,--version", "repack 0.1.0\n"),
         ("other,-V", "repack 0.1.0\n"),
+    ];
+    assert_eq!(rt; misread(rt.alloc(), &table)?, None);
+    Ok(())
+}
+
+#[test]
+fn a_step_stands_behind_the_transcript(rt: HostRuntime) -> Result<(), Fail> {
+    let table = [
+        ("repack,export,d,r,s,t,1,c", "order export,d,r,s,t,c,step 1"),
+        (
+            "repack,export,d,r,s,t,+7,c",
+            "order export,d,r,s,t,c,step 7",
+        ),
+        (
+            "repack,export,d,r,s,t,007,c",
+            "order export,d,r,s,t,c,step 7",
+        ),
+        (
+            "repack,export,,-,5,6,4294967295,--,-c",
+            "order export,,-,5,6,-c,step 4294967295",
+        ),
+        (
+            "repack,import,d,r,s,t,1,l,o,n",
+            "order import,d,r,s,t,l,o,n,step 1",
+        ),
+        (
+            "repack,import,d,r,s,t,+7,l,o,n",
+            "order import,d,r,s,t,l,o,n,step 7",
+        ),
+        (
+            "repack,import,d,r,s,t,007,l,o,n",
+            "order import,d,r,s,t,l,o,n,step 7",
+        ),
+        (
+            "repack,import,,-,5,6,4294967295,--,-l,--,export",
+            "order import,,-,5,6,-l,--,export,step 4294967295",
+        ),
     ];
     assert_eq!(rt; misread(rt.alloc(), &table)?, None);
     Ok(())
@@ -318,4 +460,92 @@ fn a_name_to_store_is_given_twice(rt: HostRuntime) {
         (["", "", ""], Some("")),
     ];
     assert_eq!(rt; other_made_repeat(&table), None);
+}
+
+// The files of an auction, by their names in order.
+fn verify_args<'a>(names: [&'a str; 4]) -> VerifyArgs<'a> {
+    let [domains, rows, scenario, transcript] = names;
+    VerifyArgs {
+        inputs: InputArgs {
+            domains,
+            rows,
+            scenario,
+        },
+        transcript,
+    }
+}
+
+// The place of the first row of names, of an auction's files and a formula's, whose repeated one isn't the one beside it.
+fn other_exported_repeat(table: &[([&str; 4], &str, Option<&str>)]) -> Option<usize> {
+    for (i, &(names, formula, wanted)) in table.iter().enumerate() {
+        let args = ExportArgs {
+            shown: verify_args(names),
+            step: 1,
+            formula,
+        };
+        if args.given_twice() != wanted {
+            return Some(i);
+        }
+    }
+    None
+}
+
+#[test]
+fn the_name_of_a_formula_is_given_twice(rt: HostRuntime) {
+    let table = [
+        (["d", "r", "s", "t"], "c", None),
+        // The step is no name, and names of files to read may be equal.
+        (["d", "r", "s", "t"], "1", None),
+        (["d", "d", "d", "d"], "./d", None),
+        (["d", "r", "s", "t"], "d", Some("d")),
+        (["d", "r", "s", "t"], "r", Some("r")),
+        (["d", "r", "s", "t"], "s", Some("s")),
+        (["d", "r", "s", "t"], "t", Some("t")),
+        (["d", "r", "s", ""], "", Some("")),
+    ];
+    assert_eq!(rt; other_exported_repeat(&table), None);
+}
+
+// The place of the first row of names, of an auction's files and of a proof, a result and a transcript, whose repeated one
+// isn't the one beside it.
+fn other_imported_repeat(table: &[([&str; 4], [&str; 3], Option<&str>)]) -> Option<usize> {
+    for (i, &(names, [proof, result, transcript], wanted)) in table.iter().enumerate() {
+        let args = ImportArgs {
+            shown: verify_args(names),
+            step: 1,
+            proof,
+            result,
+            transcript,
+        };
+        if args.given_twice() != wanted {
+            return Some(i);
+        }
+    }
+    None
+}
+
+#[test]
+fn a_name_that_an_import_stores_is_given_twice(rt: HostRuntime) {
+    let read = ["d", "r", "s", "t"];
+    let table = [
+        (read, ["l", "o", "n"], None),
+        // The step is no name, and names of files to read may be equal.
+        (read, ["l", "1", "n"], None),
+        (["d", "d", "d", "d"], ["d", "o", "./d"], None),
+        (read, ["l", "d", "n"], Some("d")),
+        (read, ["l", "r", "n"], Some("r")),
+        (read, ["l", "s", "n"], Some("s")),
+        (read, ["l", "t", "n"], Some("t")),
+        (read, ["l", "l", "n"], Some("l")),
+        (read, ["l", "n", "n"], Some("n")),
+        (read, ["l", "o", "d"], Some("d")),
+        (read, ["l", "o", "r"], Some("r")),
+        (read, ["l", "o", "s"], Some("s")),
+        (read, ["l", "o", "t"], Some("t")),
+        (read, ["l", "o", "l"], Some("l")),
+        (read, ["l", "o", "o"], Some("o")),
+        // The first in the order of the arguments.
+        (read, ["l", "s", "d"], Some("s")),
+    ];
+    assert_eq!(rt; other_imported_repeat(&table), None);
 }

@@ -1,5 +1,5 @@
 -- What is kept of the lines is what was kept of them before the last was taken away.
-use Rattle.std.proofs.Common.{◌≡◌, ◌∙◌, ◌<◌, length, sym, subst, ap, take, arith}
+use Rattle.std.proofs.Common.{◌∙◌, ◌<◌, length, sym, ap, take, arith}
 use Rattle.std.proofs.lemmas.List.{take_all}
 use Rattle.open_tests.proofs.CutLemmas.{take-fewer}
 use Rattle.open_tests.proofs.cut.up_to_empty.Goals as goal

@@ -1,0 +1,185 @@
+//! The words of `export` and `import`: the files of an auction, one of its steps, and the files of a proof from outside.
+
+ghost use Rattle.std.specs.Prelude.{◌≡◌, IfOk, false, option_map};
+ghost use Rattle.clap.specs.Words.{app_of, found_of, rows_of};
+ghost use Rattle.clap.specs.declared.builder.command.Command.TheViews.{out-Command};
+ghost use Rattle.auction_cmd.specs.Words.{export_app, export_names, export_seen, exported_names, import_app, import_names, import_seen, imported_names, is_repeated_among, repeated_export, repeated_import, step_app, step_named};
+
+use crate::make_words::{count_in, number};
+use crate::words::{VerifyArgs, required, shown_command, times_in, value_of, verify_args};
+use clap::{ArgMatches, Command};
+use std::alloc::{AllocError, Global};
+
+/// The arguments of `export`, as they are given.
+#[derive(Clone, Copy, Debug, PartialEq, Eq)]
+pub struct ExportArgs<'a> {
+    /// The files of the auction.
+    pub shown: VerifyArgs<'a>,
+    /// The number of the step, from 1.
+    pub step: u32,
+    /// The file for the formula.
+    pub formula: &'a str,
+}
+
+/// The arguments of `import`, as they are given.
+#[derive(Clone, Copy, Debug, PartialEq, Eq)]
+pub struct ImportArgs<'a> {
+    /// The files of the auction.
+    pub shown: VerifyArgs<'a>,
+    /// The number of the step, from 1.
+    pub step: u32,
+    /// The file of the proof.
+    pub proof: &'a str,
+    /// The file for the result.
+    pub result: &'a str,
+    /// The file for the transcript with the step settled.
+    pub transcript: &'a str,
+}
+
+impl<'a> ExportArgs<'a> {
+    /// The name of the file to store, if it equals another name given. Names are compared byte by byte, so `a` and `./a`
+    /// differ. Two names of files to read may be equal.
+    #[tactic(auto, unfolding(crate::specs::Words::repeated_export))]
+    pub fn given_twice(&self) -> Option<&'a str>
+        ensures { option_map (λ name. name.now) result ≡ repeated_export (export_seen self.now) }
+    {
+        if self.is_repeated(self.formula) {
+            Some(self.formula)
+        } else {
+            None
+        }
+    }
+
+    // Whether this name is given more than once.
+    fn is_repeated(&self, name: &str) -> bool
+        ensures { result ≡ is_repeated_among (exported_names (export_seen self.now)) name.now }
+    {
+        let shown = self.shown;
+        let inputs = shown.inputs;
+        let given = [
+            inputs.domains,
+            inputs.rows,
+            inputs.scenario,
+            shown.transcript,
+            self.formula,
+        ];
+        times_in(&given, name) > 1
+    }
+}
+
+impl<'a> ImportArgs<'a> {
+    /// The first name of a file to store, in the order of the arguments, that equals another name given. Names are compared
+    /// byte by byte, so `a` and `./a` differ. Two names of files to read may be equal.
+    #[tactic(auto, unfolding(crate::specs::Words::repeated_import))]
+    pub fn given_twice(&self) -> Option<&'a str>
+        ensures { option_map (λ name. name.now) result ≡ repeated_import (import_seen self.now) }
+    {
+        if self.is_repeated(self.result) {
+            Some(self.result)
+        } else if self.is_repeated(self.transcript) {
+            Some(self.transcript)
+        } else {
+            None
+        }
+    }
+
+    // Whether this name is given more than once.
+    fn is_repeated(&self, name: &str) -> bool
+        ensures { result ≡ is_repeated_among (imported_names (import_seen self.now)) name.now }
+    {
+        let shown = self.shown;
+        let inputs = shown.inputs;
+        let given = [
+            inputs.domains,
+            inputs.rows,
+            inputs.scenario,
+            shown.transcript,
+            self.proof,
+            self.result,
+            self.transcript,
+        ];
+        times_in(&given, name) > 1
+    }
+}
+
+// A command of this name that takes the files of an auction and the number of one of its steps.
+fn step_command<'a>(alloc: Global, name: &'a str, about: &'a str) -> Result<Command<'a>, AllocError>
+    ensures app { IfOk result (λ c. app_of c ≡ step_app name.entry.now) }
+    ensures local { IfOk result (λ c. (out-Command c).has_globals ≡ false) }
+{
+    shown_command(alloc, name, about)?.arg(number(
+        alloc,
+        "STEP",
+        1,
+        u64::from(u32::MAX),
+        "The number of the transcript's step, from 1",
+    ))
+}
+
+pub(crate) fn export_command<'a>(alloc: Global) -> Result<Command<'a>, AllocError>
+    ensures app { IfOk result (λ c. app_of c ≡ export_app) }
+    ensures local { IfOk result (λ c. (out-Command c).has_globals ≡ false) }
+{
+    let about = "Writes the packing formula of a step's test as DIMACS CNF";
+    step_command(alloc, "export", about)?.arg(required(alloc, "CNF", "Where to store the formula"))
+}
+
+pub(crate) fn import_command<'a>(alloc: Global) -> Result<Command<'a>, AllocError>
+    ensures app { IfOk result (λ c. app_of c ≡ import_app) }
+    ensures local { IfOk result (λ c. (out-Command c).has_globals ≡ false) }
+{
+    let about = "Settles an undecided step by a proof from outside, an LRAT log";
+    step_command(alloc, "import", about)?
+        .arg(required(
+            alloc,
+            "LRAT",
+            "The LRAT log, which refutes the formula that export stores",
+        ))?
+        .arg(required(
+            alloc,
+            "RESULT",
+            "Where to store the result that is then shown",
+        ))?
+        .arg(required(
+            alloc,
+            "NEWTRANSCRIPT",
+            "Where to store the transcript with the step settled",
+        ))
+}
+
+// The number of the step.
+fn step_of<'a>(matches: &ArgMatches<'a>) -> Option<u32>
+    ensures { result ≡ step_named (rows_of (found_of matches.now)) }
+{
+    count_in(value_of(matches, "STEP")?, u32::MAX)
+}
+
+pub(crate) fn export_args<'a>(matches: &ArgMatches<'a>) -> Option<ExportArgs<'a>>
+    ensures { option_map export_seen result ≡ export_names (rows_of (found_of matches.now)) }
+{
+    let shown = verify_args(matches)?;
+    let step = step_of(matches)?;
+    let formula = value_of(matches, "CNF")?;
+    Some(ExportArgs {
+        shown,
+        step,
+        formula,
+    })
+}
+
+pub(crate) fn import_args<'a>(matches: &ArgMatches<'a>) -> Option<ImportArgs<'a>>
+    ensures { option_map import_seen result ≡ import_names (rows_of (found_of matches.now)) }
+{
+    let shown = verify_args(matches)?;
+    let step = step_of(matches)?;
+    let proof = value_of(matches, "LRAT")?;
+    let result = value_of(matches, "RESULT")?;
+    let transcript = value_of(matches, "NEWTRANSCRIPT")?;
+    Some(ImportArgs {
+        shown,
+        step,
+        proof,
+        result,
+        transcript,
+    })
+}
