@@ -1,16 +1,19 @@
 //! The program: from the words of the command line to what stands in the files and in the sink.
 
-ghost use Rattle.std.specs.Prelude.{map};
+ghost use Rattle.std.specs.Prelude.{◌≡◌, None, map};
 ghost use Rattle.std.specs.String.{string_bytes};
 ghost use Rattle.auction_cmd.specs.Ends.{Ends};
 ghost use Rattle.auction_cmd.specs.Faults.{IsCounted};
 ghost use Rattle.auction_cmd.specs.Outside.{outside};
 ghost use Rattle.auction_cmd.specs.Plan.{plan_of};
 ghost use Rattle.auction_cmd.specs.Promises.{Promises};
+ghost use Rattle.auction_cmd.specs.Says.{Says, twice_line};
 
 use crate::check::check;
 use crate::explain::starve;
+use crate::export::export;
 use crate::finish::Finish;
+use crate::import::import;
 use crate::make::make;
 use crate::run::run;
 use crate::says::say;
@@ -22,6 +25,16 @@ use solver_gate::gate::Gate;
 use std::alloc::Global;
 use std::sync::Wait;
 use std::thread::Threads;
+
+// Says that this output name is given twice.
+fn refuse_twice<K: Sink>(out: &mut K, name: &str) -> Finish
+    ensures status { result.status ≡ 5 }
+    ensures none { result.result ≡ None }
+    ensures says { Says (K.held out.old) (K.held out.new) (K.faults out.old) (K.faults out.new) (twice_line name.now) }
+{
+    say(out, &[name, ": given twice\n"]);
+    Finish::without_record(5)
+}
 
 // Carries out what the words ask for.
 fn carry_out<F: Folder, K: Sink, G: Gate + Sync, W: Threads + Wait + Sync>(
@@ -43,23 +56,23 @@ fn carry_out<F: Folder, K: Sink, G: Gate + Sync, W: Threads + Wait + Sync>(
 {
     match read_words(alloc, words) {
         Ok(Order::Run(files)) => match files.given_twice() {
-            Some(name) => {
-                say(out, &[name, ": given twice\n"]);
-                Finish::without_record(5)
-            }
+            Some(name) => refuse_twice(out, name),
             None => run(rt, alloc, &files, folder, out, gate),
         },
         Ok(Order::Check(files)) => check(alloc, &files, folder, out),
         Ok(Order::Verify(files)) => verify(alloc, &files, folder, out),
         Ok(Order::Make(files)) => match files.given_twice() {
-            Some(name) => {
-                say(out, &[name, ": given twice\n"]);
-                Finish::without_record(5)
-            }
+            Some(name) => refuse_twice(out, name),
             None => make(rt, alloc, &files, folder, out, gate),
         },
-        // placeholder
-        Ok(Order::Export(_)) | Ok(Order::Import(_)) => starve(out),
+        Ok(Order::Export(files)) => match files.given_twice() {
+            Some(name) => refuse_twice(out, name),
+            None => export(alloc, &files, folder, out),
+        },
+        Ok(Order::Import(files)) => match files.given_twice() {
+            Some(name) => refuse_twice(out, name),
+            None => import(alloc, &files, folder, out),
+        },
         Err(WordsFault::Refused(text)) => {
             say(out, &[text.as_str()]);
             Finish::without_record(2)
@@ -80,12 +93,18 @@ fn carry_out<F: Folder, K: Sink, G: Gate + Sync, W: Threads + Wait + Sync>(
 /// - `make SEED SIZE DOMAINS ROWS SCENARIO` makes the three files of an auction of SIZE stations from the number SEED, stores
 ///   them in this order, carries the auction out as `run` does and writes the summary. The same SEED and SIZE make the same
 ///   files.
+/// - `export DOMAINS ROWS SCENARIO TRANSCRIPT STEP CNF` checks a transcript as `verify` does and stores the packing formula of the
+///   stations that its step STEP asked about, as DIMACS CNF.
+/// - `import DOMAINS ROWS SCENARIO TRANSCRIPT STEP LRAT RESULT NEWTRANSCRIPT` checks a transcript as `verify` does, settles its
+///   undecided step STEP by a log in LRAT's lines that refutes that formula, stores the result and the transcript of the record
+///   that is left, in this order, and writes the summary.
 ///
 /// The status is 0 where all is done and every test was decided; 1 where all is done and some test was not; 2 where the
 /// words are no command, help and version included; 3 where a file can't be read; 4 where a file can't be stored, or the
 /// summary, the counts or the result can't be written; 5 where an output name is given twice, or a file is too long or an
 /// input refused; 6 where the start set doesn't fit; 7 where no worker decides whether it does; 8 for want of memory; 9 where
-/// the transcript's text is refused or a step of it isn't shown. At each but 0 and 1 a line says so; where the sink fails at
+/// the transcript's text is refused or a step of it isn't shown; 10 where it has no step STEP or, for `import`, that isn't
+/// undecided, or the log's text is refused or it refutes nothing. At each but 0 and 1 a line says so; where the sink fails at
 /// the summary, the counts or the result there is none.
 pub fn auction_main<F: Folder, K: Sink, G: Gate + Sync, W: Threads + Wait + Sync>(
     rt: &W,

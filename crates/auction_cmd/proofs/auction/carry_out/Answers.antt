@@ -1,15 +1,15 @@
 -- The plan that the words are, and how it ends.
 use Rattle.std.proofs.Common.{map, refl, string_bytes, sym}
-use Rattle.auction_cmd.specs.Ends.Ends.{Usage, Repeated, Ran, Checked, Verified, Made}
-use Rattle.auction_cmd.specs.Words.{inputs_seen, make_seen, names_seen, verify_seen}
+use Rattle.auction_cmd.specs.Ends.Ends.{Usage, Repeated, Ran, Checked, Verified, Made, Exported, Imported}
+use Rattle.auction_cmd.specs.Words.{export_seen, import_seen, inputs_seen, make_seen, names_seen, verify_seen}
 use Rattle.auction_cmd.proofs.NumberLemmas.{command-sized}
-use Rattle.auction_cmd.proofs.PlanLemmas.{plan-none, plan-checks, plan-made_twice, plan-makes, plan-repeats, plan-runs, plan-verifies}
+use Rattle.auction_cmd.proofs.PlanLemmas.{plan-none, plan-checks, plan-exported_twice, plan-exports, plan-imported_twice, plan-imports, plan-made_twice, plan-makes, plan-repeats, plan-runs, plan-verifies}
 use Rattle.auction_cmd.proofs.auction.carry_out.Goals as goal
 
 pub returns-in-Some-clause-ends : goal.returns-in-Some-clause-ends
 returns-in-Some-clause-ends g c =
     Repeated c.in-Some.name.now (plan-repeats _ (names_seen c.in-Ok-Run.files) c.in-Some.name.now (rw c.in-Ok-Run.field-0-is at c.in-Ok-Run.ensures.order) c.in-Some.ensures)
-    c.without_record.ensures.status c.without_record.ensures.none c.say.ensures.says refl refl
+    c.refuse_twice.ensures.status c.refuse_twice.ensures.none c.refuse_twice.ensures.says refl refl
 
 pub returns-in-None-clause-ends : goal.returns-in-None-clause-ends
 returns-in-None-clause-ends g c =
@@ -41,10 +41,34 @@ pub returns-in-Some-given_twice-clause-ends : goal.returns-in-Some-given_twice-c
 returns-in-Some-given_twice-clause-ends g c =
     Repeated c.in-Some-given_twice.name.now
     (plan-made_twice _ (make_seen c.in-Ok-Make.files) c.in-Some-given_twice.name.now (rw c.in-Ok-Make.field-0-is at c.in-Ok-Make.ensures.order) c.in-Some-given_twice.ensures)
-    c.without_record-in-Some-given_twice.ensures.status c.without_record-in-Some-given_twice.ensures.none c.say-in-Some-given_twice.ensures.says refl refl
+    c.refuse_twice-in-Some-given_twice.ensures.status c.refuse_twice-in-Some-given_twice.ensures.none c.refuse_twice-in-Some-given_twice.ensures.says refl refl
 
 pub returns-in-None-given_twice-clause-ends : goal.returns-in-None-given_twice-clause-ends
 returns-in-None-given_twice-clause-ends g c =
     Made (make_seen c.in-Ok-Make.files)
     (plan-makes _ (make_seen c.in-Ok-Make.files) (rw c.in-Ok-Make.field-0-is at c.in-Ok-Make.ensures.order) c.in-None-given_twice.ensures)
     (sym c.in-None-given_twice.ensures) c.make.ensures.ends
+
+pub returns-in-Some-given_twice-2-clause-ends : goal.returns-in-Some-given_twice-2-clause-ends
+returns-in-Some-given_twice-2-clause-ends g c =
+    Repeated c.in-Some-given_twice-2.name.now
+    (plan-exported_twice _ (export_seen c.in-Ok-Export.files) c.in-Some-given_twice-2.name.now (rw c.in-Ok-Export.field-0-is at c.in-Ok-Export.ensures.order) c.in-Some-given_twice-2.ensures)
+    c.refuse_twice-in-Some-given_twice-2.ensures.status c.refuse_twice-in-Some-given_twice-2.ensures.none c.refuse_twice-in-Some-given_twice-2.ensures.says refl refl
+
+pub returns-in-None-given_twice-2-clause-ends : goal.returns-in-None-given_twice-2-clause-ends
+returns-in-None-given_twice-2-clause-ends g c =
+    Exported (export_seen c.in-Ok-Export.files)
+    (plan-exports _ (export_seen c.in-Ok-Export.files) (rw c.in-Ok-Export.field-0-is at c.in-Ok-Export.ensures.order) c.in-None-given_twice-2.ensures)
+    (sym c.in-None-given_twice-2.ensures) c.export.ensures.ends
+
+pub returns-in-Some-given_twice-3-clause-ends : goal.returns-in-Some-given_twice-3-clause-ends
+returns-in-Some-given_twice-3-clause-ends g c =
+    Repeated c.in-Some-given_twice-3.name.now
+    (plan-imported_twice _ (import_seen c.in-Ok-Import.files) c.in-Some-given_twice-3.name.now (rw c.in-Ok-Import.field-0-is at c.in-Ok-Import.ensures.order) c.in-Some-given_twice-3.ensures)
+    c.refuse_twice-in-Some-given_twice-3.ensures.status c.refuse_twice-in-Some-given_twice-3.ensures.none c.refuse_twice-in-Some-given_twice-3.ensures.says refl refl
+
+pub returns-in-None-given_twice-3-clause-ends : goal.returns-in-None-given_twice-3-clause-ends
+returns-in-None-given_twice-3-clause-ends g c =
+    Imported (import_seen c.in-Ok-Import.files)
+    (plan-imports _ (import_seen c.in-Ok-Import.files) (rw c.in-Ok-Import.field-0-is at c.in-Ok-Import.ensures.order) c.in-None-given_twice-3.ensures)
+    (sym c.in-None-given_twice-3.ensures) c.import.ensures.ends
