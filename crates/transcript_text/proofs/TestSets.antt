@@ -16,7 +16,6 @@ use Rattle.auction_core.specs.Clock.{AreStandings, on_air_by}
 use Rattle.auction_core.specs.State.{tested_set}
 use Rattle.auction_core.proofs.Answers.{filter-ascending, filter-in, in-filter}
 use Rattle.auction_core.proofs.ClockLemmas.{on_air_by-is}
-use Rattle.transcript_text.specs.Spelling.{clauses_in}
 
 -- the stations on air and one more are those that its test asks about
 with-station : (sc : Scenario) (st : ClockState) (s : ℕ) → StationsAscend sc → is_in (facilities sc) s ≡ true → with_station (on_air_set sc st) s ≡ asked_set sc st s
@@ -37,6 +36,6 @@ with-station sc st s ascend there =
 
 -- a set that was found by the standings is the one that the test asks about
 pub found-set : (sc : Scenario) (book : BookView) (standings : List Standing) (s : ℕ) (set : List ℕ) → StationsAscend sc → is_in (facilities sc) s ≡ true → set ≡ component book (with_station (on_air_by (facilities sc) standings) s) s
-    → (st : ClockState) → AreStandings sc st standings → clauses_in book set ≡ clauses_in book (tested_set sc book st s)
+    → (st : ClockState) → AreStandings sc st standings → set ≡ tested_set sc book st s
 found-set sc book standings s set ascend there found st are =
-    ap (clauses_in book) (found ∙ ap (λ on. component book (with_station on s) s) (on_air_by-is are) ∙ ap (λ all. component book all s) (with-station sc st s ascend there))
+    found ∙ ap (λ on. component book (with_station on s) s) (on_air_by-is are) ∙ ap (λ all. component book all s) (with-station sc st s ascend there)

@@ -21,6 +21,7 @@ mod reading;
 #[cfg(test)]
 mod samples;
 mod steps;
+pub mod test_set;
 #[cfg(test)]
 mod tests;
 pub mod transcript;

@@ -12,8 +12,8 @@ ghost use Rattle.auction_core.specs.Clock.{AreStandings};
 ghost use Rattle.auction_core.specs.State.{tested_set};
 ghost use Rattle.transcript_text.specs.Spelling.{clauses_in, firsts_of, transcript_text};
 
-use crate::on_air::OnAir;
 use crate::parts::{push_end, push_start, push_step, push_version};
+use crate::test_set::test_set;
 use auction_core::clock::Clock;
 use auction_core::record::{Ending, Record, Shown, Step};
 use cnf_encode::count::clause_count;
@@ -21,7 +21,6 @@ use offer_sched::offers::schedule;
 use pack_defs::book::Book;
 use pack_defs::scenario::Scenario;
 use pack_defs::station::Station;
-use packing_graph::component::component_among;
 use std::alloc::{AllocError as NoMemory, Global};
 
 // The place of the station of this number.
@@ -49,11 +48,7 @@ fn test_clauses(
     ensures count { IfOk result (λ n. (st : ClockState) → AreStandings sc.now st clock.now.standings → n ≡ clauses_in book.now (tested_set sc.now book.now st station)) }
     ensures few { IfOk result (λ n. n + 1000001 ≤ 2 ^ 63) }
 {
-    let on_air = OnAir {
-        stations: sc.stations.as_slice(),
-        standings: clock.standings(),
-    };
-    let set = component_among(alloc, book, &on_air, station)?;
+    let set = test_set(alloc, sc, book, clock, station)?;
     Ok(clause_count(book, &set))
 }
 

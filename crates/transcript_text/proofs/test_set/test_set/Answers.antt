@@ -8,7 +8,7 @@ use Rattle.packing_graph.specs.Sets.{with_station}
 use Rattle.auction_core.specs.Clock.{on_air_by}
 use Rattle.transcript_text.proofs.OnAirLemmas.{on_air-ascend}
 use Rattle.transcript_text.proofs.TestSets.{found-set}
-use Rattle.transcript_text.proofs.write.test_clauses.Goals as goal
+use Rattle.transcript_text.proofs.test_set.test_set.Goals as goal
 
 pub invariant_of-on_air : goal.invariant_of-on_air
 invariant_of-on_air c = record {
@@ -20,8 +20,9 @@ pub component_among-requires : goal.component_among-requires
 component_among-requires c =
     on_air-ascend (map (λ (x : Station). x.id) c.as_slice.result.now) c.standings.result.now (rw c.as_slice.ensures (ascending-from (facilities c.args.sc.now) c.requires.ascend))
 
-pub returns-clause-count : goal.returns-clause-count
-returns-clause-count c =
-    let set : c.in_ok-set.set.items ≡ component c.args.book.now (with_station (on_air_by (facilities c.args.sc.now) c.args.clock.now.standings) c.args.station) c.args.station =
-    c.in_ok-set.ensures.component ∙ (λ i. component c.args.book.now (with_station (on_air_by (map (λ (x : Station). x.id) (c.as_slice.ensures i)) (c.standings.ensures i)) c.args.station) c.args.station) in
-    λ st are. c.clause_count.ensures.count ∙ found-set c.args.sc.now c.args.book.now c.args.clock.now.standings c.args.station _ c.requires.ascend c.requires.known (c.deref.ensures.value ∙ set) st are
+pub returns-clause-set : goal.returns-clause-set
+returns-clause-set c =
+    let book = c.args.book.now in
+    let station = c.args.station in
+    let set : c.component_among.result ≡ component book (with_station (on_air_by (facilities c.args.sc.now) c.args.clock.now.standings) station) station = ? in
+    ?
