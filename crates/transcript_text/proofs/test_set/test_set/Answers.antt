@@ -1,5 +1,6 @@
 -- The standings give the stations on air, and these the test's set.
 use Rattle.std.proofs.Common.{◌≡◌, ◌∙◌, map}
+use Rattle.std.proofs.lemmas.Result.{IfOk-weaker}
 use Rattle.pack_defs.proofs.Words.{ascending-from}
 use Rattle.pack_defs.specs.declared.station.Station.{Station}
 use Rattle.pack_defs.specs.Components.{component}
@@ -22,7 +23,10 @@ component_among-requires c =
 
 pub returns-clause-set : goal.returns-clause-set
 returns-clause-set c =
+    let sc = c.args.sc.now in
     let book = c.args.book.now in
+    let standings = c.args.clock.now.standings in
     let station = c.args.station in
-    let set : c.component_among.result ≡ component book (with_station (on_air_by (facilities c.args.sc.now) c.args.clock.now.standings) station) station = ? in
-    ?
+    let same : component book (with_station (on_air_by (map (λ (x : Station). x.id) c.as_slice.result.now) c.standings.result.now) station) station ≡ component book (with_station (on_air_by (facilities sc) standings) station) station =
+    λ i. component book (with_station (on_air_by (map (λ (x : Station). x.id) (c.as_slice.ensures i)) (c.standings.ensures i)) station) station in
+    IfOk-weaker c.component_among.result _ _ (λ set is. found-set sc book standings station set.items c.requires.ascend c.requires.known (is ∙ same)) c.component_among.ensures.component
