@@ -1,0 +1,3 @@
+pub mod TaskSets
+pub mod FollowLemmas
+pub mod TaskLemmas

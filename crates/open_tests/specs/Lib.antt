@@ -1,3 +1,4 @@
 pub mod Queries
 pub mod Settled
 pub mod Cut
+pub mod Follow
