@@ -5,3 +5,6 @@ pub mod ReplacedLemmas
 pub mod RowLemmas
 pub mod SettledLemmas
 pub mod SettleLemmas
+pub mod TaskSets
+pub mod FollowLemmas
+pub mod TaskLemmas

@@ -2,3 +2,4 @@ pub mod Queries
 pub mod Settled
 pub mod Cut
 pub mod Settling
+pub mod Follow

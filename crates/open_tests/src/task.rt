@@ -6,6 +6,16 @@ ghost use Rattle.cert_types.specs.Certificate.{IsTaskOf};
 ghost use Rattle.auction_core.specs.Backed.{IsBacked};
 ghost use Rattle.open_tests.specs.Queries.{task_at};
 
+use crate::follow::left_after;
+use crate::last_map::map_on;
+use crate::queries::queries_taken;
+use auction_core::record::Record;
+use cert_types::task::Task;
+use pack_defs::book::Book;
+use pack_defs::items::Items;
+use std::alloc::{AllocError as NoMemory, Global};
+use transcript_text::test_set::test_set;
+
 /// The query of the step of this number, from 1: its round, its station, the stations that it asked about and the map before
 /// it on these; its number is one more than the queries before it, that of the start test among them where it was one. A step
 /// that needed no query gives the one that it would have been; where its station has no channel, that serves for its set
@@ -19,4 +29,19 @@ pub fn task_at(alloc: Global, rec: &Record, book: &Book, step: u32) -> Result<Ta
     ensures task_is { IfOk result (λ task. task_at book.now rec.now step ≡ Some task) }
     ensures ascends { IfOk result (IsTaskOf book.now) }
 {
+    // With its length a book says that it is in order, which the laws ask of it.
+    let _stations = book.len();
+    let before = step as usize - 1;
+    let left = left_after(alloc, rec, book, before)?;
+    let steps = rec.steps.as_slice();
+    let asked = &steps[before];
+    let set = test_set(alloc, &rec.scenario, book, &left.clock, asked.station)?;
+    let last = map_on(alloc, &left.map, &set)?;
+    Ok(Task {
+        number: 1 + queries_taken(&rec.start, steps, before),
+        round: asked.round,
+        station: Some(asked.station),
+        set: Items::from_vec(set),
+        last,
+    })
 }

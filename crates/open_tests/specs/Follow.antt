@@ -1,0 +1,31 @@
+-- What a query is found by: where the first steps of a record leave the clock and the map, and which step told a station's
+-- last fit. That a step's query is found so is this project's own.
+use Rattle.std.specs.Prelude.{◌≡◌, ℕ, List, [], ◌∷◌, Option, Some, None, unwrap_or}
+use Rattle.std.specs.Option.{option_map_or}
+use Rattle.pack_defs.specs.ChannelMap.{IsAscending, channel_of}
+use Rattle.pack_defs.specs.declared.scenario.Scenario.{Scenario}
+use Rattle.auction_core.specs.declared.record.Step.{Step}
+use Rattle.auction_core.specs.AirMap.{AirMapView}
+use Rattle.auction_core.specs.Clock.{ClockView, IsClockOf}
+use Rattle.auction_core.specs.State.{CoreState, fit_of}
+use Rattle.open_tests.specs.Queries.{step_at}
+
+-- the entries of the fit that the step of this number, from 1, is shown by; none at 0, and where it is shown otherwise
+abbrev pub fit_named : List Step → ℕ → List (ℕ × ℕ)
+fit_named steps n = option_map_or (λ x. unwrap_or (fit_of x.shown) []) (step_at steps n) []
+
+-- the clock and the map are those of this state, and the map ascends
+pub record IsLeftSo (sc : Scenario) (state : CoreState) (clock : ClockView) (map : AirMapView) : Type 0 where
+  pub clock_is : IsClockOf sc state.clock clock
+  pub entries : map.entries ≡ state.map
+  pub rises : IsAscending map.entries
+
+-- this entry before the others, where the station has a channel
+abbrev pub entry_before : ℕ → Option ℕ → List (ℕ × ℕ) → List (ℕ × ℕ)
+entry_before s None rest = rest
+entry_before s (Some channel) rest = (s, channel) ∷ rest
+
+-- the entries of those of these stations that have a channel, in their order
+abbrev pub entries_at : List (ℕ × ℕ) → List ℕ → List (ℕ × ℕ)
+entries_at entries [] = []
+entries_at entries (s ∷ ss) = entry_before s (channel_of s entries) (entries_at entries ss)

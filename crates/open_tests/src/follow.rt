@@ -1,0 +1,138 @@
+//! The first steps of a record, gone through by reference beside a clock and a map of their own.
+
+ghost use Rattle.std.specs.Prelude.{◌≡◌, ◌<◌, ◌≤◌, ℕ, [], IfOk, IsFalse, IsTrue, MatchOption, if◌then◌else◌, is_some, length, map, option_map, slice_index, slice_set, take, true, unwrap_or};
+ghost use Rattle.std.specs.List.Sorted.{IsStrictlyIncreasing};
+ghost use Rattle.pack_defs.specs.ChannelMap.{IsAscending, overlaid};
+ghost use Rattle.pack_defs.specs.Lists.{has_station, is_in};
+ghost use Rattle.pack_defs.specs.Scenario.{IsWithinLimits, StationsAscend, facilities};
+ghost use Rattle.auction_core.specs.Backed.{IsBacked, after_start, after_steps};
+ghost use Rattle.auction_core.specs.Course.{GivesWithin, map_after};
+ghost use Rattle.auction_core.specs.State.{fit_of, start_delta};
+ghost use Rattle.open_tests.specs.Follow.{IsLeftSo, fit_named};
+
+use auction_core::air_map::AirMap;
+use auction_core::clock::{Clock, Standing};
+use auction_core::record::{Ending, Record, Shown, Step};
+use offer_sched::offers::schedule;
+use pack_defs::book::Book;
+use pack_defs::channel_map::ChannelMap;
+use pack_defs::scenario::Scenario;
+use pack_defs::station::Station;
+use std::alloc::{AllocError as NoMemory, Global};
+
+/// Where the first steps of a record leave the clock and the channel map.
+#[derive(Debug, Drop)]
+pub(crate) struct Left {
+    pub(crate) clock: Clock,
+    pub(crate) map: AirMap,
+}
+
+// The place of the station of this number.
+fn place_of(stations: &[Station], id: u32) -> Option<usize>
+    requires { IsStrictlyIncreasing (map (λ x. x.id) stations.now) }
+    ensures { MatchOption result (IsFalse (is_in (map (λ x. x.id) stations.now) id))
+        (λ i. (i < length stations.now) × (slice_index (map (λ x. x.id) stations.now) i ≡ id)) }
+{
+    stations
+        .binary_search_by_key(&id, |station| station.id)
+        .ok()
+}
+
+// The channels that it is shown by, if it is a fit.
+fn fit_of(shown: &Shown) -> Option<&ChannelMap>
+    ensures { option_map (λ m. m.now) result ≡ fit_of shown.now }
+{
+    match shown {
+        Shown::Fits(delta) => Some(delta),
+        _ => None,
+    }
+}
+
+// The channels that the step of this number, from 1, is shown by, if it is a fit.
+fn fit_named(steps: &[Step], number: usize) -> Option<&ChannelMap>
+    ensures { unwrap_or (option_map (λ m. m.now) result) [] ≡ fit_named steps.now number }
+{
+    if number == 0 {
+        return None;
+    }
+    let Some(step) = steps.get(number - 1) else {
+        return None;
+    };
+    fit_of(&step.shown)
+}
+
+// Where the step of this number is shown by a fit, it is the last of the station at this place.
+fn note_fit(fits: &mut Vec<usize>, place: usize, shown: &Shown, number: usize)
+    requires { place < length fits.old.items }
+    ensures { fits.new.items ≡ (if is_some (fit_of shown.now) then slice_set fits.old.items place number else fits.old.items) }
+{
+    if fit_of(shown).is_some() {
+        fits[place] = number;
+    }
+}
+
+// The map takes the channels of a station's last fit, that of the step of this number, where the station stands on air.
+fn take_if(map: &mut AirMap, steps: &[Step], number: usize, standing: &Standing)
+    requires { (f : ℕ) → has_station (fit_named steps.now number) f ≡ true → is_in map.old.stations f ≡ true }
+    ensures { map.new ≡ record { stations = map.old.stations; entries = map_after map.old.entries standing.now (fit_named steps.now number) } }
+{
+    if !standing.is_on_air() {
+        return;
+    }
+    if let Some(fit) = fit_named(steps, number) {
+        map.overlay(fit);
+    }
+}
+
+// The map once the start is shown so.
+fn start_map(alloc: Global, sc: &Scenario, start: &Shown) -> Result<AirMap, NoMemory>
+    requires ascend { StationsAscend sc.now }
+    requires within { GivesWithin sc.now (start_delta start.now) }
+    ensures { IfOk result (λ m. m ≡ record { stations = facilities sc.now; entries = overlaid [] (start_delta start.now) }) }
+{
+    let mut map = AirMap::none(alloc, sc.stations.as_slice())?;
+    if let Some(fit) = fit_of(start) {
+        map.overlay(fit);
+    }
+    Ok(map)
+}
+
+/// Where the start and so many first steps of a record leave the clock and the map. Each step costs a search by halves for
+/// its station, and one for each channel that it gives the map. Only the clauses speak of the book. The only error is want
+/// of memory.
+pub(crate) fn left_after(
+    alloc: Global,
+    rec: &Record,
+    book: &Book,
+    count: usize,
+) -> Result<Left, NoMemory>
+    requires backed { IsBacked rec.now.scenario book.now rec.now.order rec.now }
+    requires done { rec.now.ending ≡ Ending.Done }
+    requires limits { IsWithinLimits rec.now.scenario }
+    requires there { count ≤ length rec.now.steps }
+    ensures { IfOk result (λ left. IsLeftSo rec.now.scenario (after_steps rec.now.scenario (after_start rec.now.scenario rec.now.order rec.now.start) (take count rec.now.steps)) left.clock left.map) }
+{
+    // With its length a book says that it is in order, which the laws ask of it.
+    let _stations = book.len();
+    let sc = &rec.scenario;
+    let stations = sc.stations.as_slice();
+    let steps = rec.steps.as_slice();
+    let prices = schedule(alloc, sc)?;
+    let mut clock = Clock::open(alloc, sc)?;
+    let mut map = start_map(alloc, sc, &rec.start)?;
+    // For each station's place the number of the step that told its last fit, from 1; 0 before its first.
+    let mut fits = vec![in alloc; 0; stations.len()]?;
+    for k in 0..count {
+        let step = &steps[k];
+        match place_of(stations, step.station) {
+            Some(i) => {
+                clock.settle(sc, &prices, i, step.round, step.shown.shows_room());
+                note_fit(&mut fits, i, &step.shown, k + 1);
+                let standing = clock.standings()[i];
+                take_if(&mut map, steps, fits[i], &standing);
+            }
+            None => unreachable!(),
+        }
+    }
+    Ok(Left { clock, map })
+}
