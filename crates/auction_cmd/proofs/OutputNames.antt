@@ -8,7 +8,8 @@ use Rattle.std.proofs.lemmas.List.Sums.{sum_by-append, sum_by-cons}
 use Rattle.std.proofs.lemmas.Slice.Eq.{bytes_eq-Decides}
 use Rattle.auction_core.proofs.Finds.{find_cases}
 use Rattle.pack_defs.proofs.Members.{Contains-here, Contains-there, list_any-from}
-use Rattle.auction_cmd.specs.Words.{MakeNames, RunNames, is_repeated_among, is_repeated_in, made_names, names_given, output_names, repeated_made, repeated_output}
+use Rattle.auction_cmd.specs.Words.{ImportNames, MakeNames, RunNames, imported_names, is_repeated_among, is_repeated_in, made_names, names_given, output_names, repeated_import, repeated_made, repeated_output, shown_names}
+use Rattle.auction_cmd.specs.Delivery.{named}
 use Rattle.auction_cmd.specs.Ends.{output_texts}
 use Rattle.auction_cmd.specs.Made.{texts_under}
 use Rattle.auction_cmd.proofs.DeliveryLemmas.{AreApart}
@@ -80,3 +81,14 @@ own-made names domain_file row_file scenario_file once =
         (All-nil (λ name. s ≢ name), tt),
       ),
     )
+
+-- ---- the files of `import`
+
+pub own-imported : (names : ImportNames) (result transcript : List ℕ) → repeated_import names ≡ None → AreApart (named names.result result ∷ named names.transcript transcript ∷ [])
+unfolding repeated_import
+own-imported names result transcript once =
+    let given = imported_names names in
+    let r = names.result in
+    let n = names.transcript in
+    let apart : r ≢ n = λ same. not-found (is_repeated_among given) (r ∷ n ∷ []) r once (Contains-here r (n ∷ [])) (twice-among given (shown_names names.shown ++ names.proof ∷ []) [] [] r n refl same) in
+    (All-cons (λ name. r ≢ name) n [] apart (All-nil (λ name. r ≢ name)), (All-nil (λ name. n ≢ name), tt))
