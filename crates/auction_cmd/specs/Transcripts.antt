@@ -1,6 +1,7 @@
 -- What the steps of `verify` and `import` answer: the reading of the transcript, and its check; the reading of a log, and what it
 -- settles.
 use Rattle.std.specs.Prelude.{◌≡◌, ◌<◌, ◌≤◌, ℕ, Bool, true, List, length, Option, Some, None, Result, Ok, Err, Vec, ⊤}
+use Rattle.std.specs.declared.alloc.Global.{Global}
 use Rattle.outside_io.specs.Faults.{HasRisen}
 use Rattle.outside_io.specs.Files.{StoredFile, bytes_of}
 use Rattle.outside_io.specs.declared.folder.LoadErr.{LoadErr}
@@ -44,7 +45,7 @@ ExplainsLoad name NoLoad held held' cuts cuts' status = (status ≡ 8) × Says h
 
 -- The bytes are those of this name's file, where the folder tells its files, and no more than a file may have; or the file can't
 -- be read, which for a steady folder says that it isn't there; or it is too long. Memory may run out.
-abbrev pub IsFileRead : Option (List StoredFile) → Bool → ℕ → ℕ → List ℕ → Result (Vec ℕ) LoadErr → Type 0
+abbrev pub IsFileRead : Option (List StoredFile) → Bool → ℕ → ℕ → List ℕ → Result (Vec ℕ Global) LoadErr → Type 0
 IsFileRead told steady before now name (Ok bytes) =
     (files : List StoredFile) → told ≡ Some files → (bytes_of files name ≡ Some bytes.items) × (length bytes.items ≤ file_limit)
 IsFileRead told steady before now name (Err Failed) =

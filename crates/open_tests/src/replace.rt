@@ -1,6 +1,6 @@
 //! A record, with a test that was left open settled by a proof from outside.
 
-ghost use Rattle.std.specs.Prelude.{◌≡◌, MatchBool, MatchOption, ⊤};
+ghost use Rattle.std.specs.Prelude.{◌≡◌, MatchOption, ⊤};
 ghost use Rattle.pack_defs.specs.Scenario.{IsWithinLimits};
 ghost use Rattle.auction_core.specs.Backed.{IsBacked, undecided_of};
 ghost use Rattle.auction_core.specs.State.{test_of};
@@ -11,19 +11,6 @@ use auction_core::record::{Record, Shown};
 use cert_types::outside::OutsideProof;
 use pack_defs::book::Book;
 use pack_defs::items::Items;
-
-/// Whether the record has a step of this number, from 1, and it is shown undecided.
-pub fn is_left_open(rec: &Record, step: u32) -> bool
-    ensures { MatchBool result (IsLeftOpen rec.now step) (IsLeftOpen rec.now step → ⊥) }
-{
-    if step == 0 {
-        return false;
-    }
-    match rec.steps.as_slice().get(step as usize - 1) {
-        Some(x) => matches!(x.shown, Shown::Undecided(_)),
-        None => false,
-    }
-}
 
 /// The record, its step of this number, from 1, shown by the proof in the place of the receipts of its workers. It is backed as
 /// the record was, and leaves the tests open that the record left, without this one. It takes no memory, and moves what the

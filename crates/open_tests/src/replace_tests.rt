@@ -1,11 +1,12 @@
 //! A test that was left open, settled by a proof from outside; and logs cut at their first empty line.
 
-ghost use Rattle.std.specs.Prelude.{IfOk, IfSome};
+ghost use Rattle.std.specs.Prelude.{IfOk, IfSome, MatchBool};
 ghost use Rattle.pack_defs.specs.Scenario.{IsWithinLimits};
 ghost use Rattle.auction_core.specs.Backed.{IsBacked};
+ghost use Rattle.open_tests.specs.Settled.{IsLeftOpen};
 
 use crate::cut::up_to_empty;
-use crate::replace::{is_left_open, replace_undecided};
+use crate::replace::replace_undecided;
 use crate::samples::{record_in, three_bids, three_stations};
 use crate::task::task_at;
 use auction_core::record::{Ending, Record, Shown};
@@ -28,6 +29,19 @@ fn tells(alloc: Global, rec: &Record, book: &Book, rows: &[u8]) -> Result<bool, 
     }
     let text = result_csv(alloc, rec, book)?;
     Ok(text.as_slice() == rows)
+}
+
+// Whether the record has a step of this number, from 1, and it is shown undecided.
+fn is_left_open(rec: &Record, step: u32) -> bool
+    ensures { MatchBool result (IsLeftOpen rec.now step) (IsLeftOpen rec.now step → ⊥) }
+{
+    if step == 0 {
+        return false;
+    }
+    match rec.steps.as_slice().get(step as usize - 1) {
+        Some(x) => matches!(x.shown, Shown::Undecided(_)),
+        None => false,
+    }
 }
 
 // The record with the step of this number settled by the log, where it was left open and the log refutes its set.
@@ -54,7 +68,8 @@ fn settled(
 }
 
 // Stations 1 and 2 go on air, and the worker spends its line on the test of station 3 beside them.
-const LEFT_OPEN: &[u8] = b"transcript 1\nstart empty\nfit 1 1 1\nat 1 14\nfit 1 2 1\nat 2 14\nfit 1 3 1\nat 3 15\nfit 2 1 1\nat 1 15\nundecided 2 3 1\nlines 0 1\n13 -1 0 7 2 8 3 12 0\nend 5\n";
+const LEFT_OPEN: &[u8] =
+    b"transcript 1\nstart empty\nfit 1 1 1\nat 1 14\nfit 1 2 1\nat 2 14\nfit 1 3 1\nat 3 15\nfit 2 1 1\nat 1 15\nundecided 2 3 1\nlines 0 1\n13 -1 0 7 2 8 3 12 0\nend 5\n";
 
 // The proof that the three do not fit: its first line, and the empty one.
 fn refuting(alloc: Global) -> Result<Log, NoMemory> {

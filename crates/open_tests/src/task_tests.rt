@@ -191,7 +191,8 @@ fn first_other(
 }
 
 // No station is on air from the start. Station 2 goes on air in round 1, and station 1 in round 2.
-const WHOLE: &[u8] = b"transcript 1\nstart empty\nfit 1 1 1\nat 1 14\nfit 1 2 1\nat 2 14\nfit 1 3 1\nat 3 15\nfit 2 1 1\nat 1 15\nlog 2 3 0 2\non 1 2 3\n13 -1 0 7 2 8 3 12 0\n14 0 13 1 9 2 10 3 11 0\nend 5\n";
+const WHOLE: &[u8] =
+    b"transcript 1\nstart empty\nfit 1 1 1\nat 1 14\nfit 1 2 1\nat 2 14\nfit 1 3 1\nat 3 15\nfit 2 1 1\nat 1 15\nlog 2 3 0 2\non 1 2 3\n13 -1 0 7 2 8 3 12 0\n14 0 13 1 9 2 10 3 11 0\nend 5\n";
 
 // The set and the map are those before the step: station 2 asks for itself alone.
 const OF_WHOLE: &[Row] = &[
@@ -203,7 +204,8 @@ const OF_WHOLE: &[Row] = &[
 ];
 
 // Station 2 is on air from the start, whose test was query 1. Station 1 goes on air by the fit of its first test.
-const BESIDE: &[u8] = b"transcript 1\nstart fit 1\nat 2 14\nfit 1 1 1\nat 1 15\nfit 1 3 1\nat 3 15\nsame 2 1\nlog 2 3 0 2\non 1 2 3\n13 -1 0 7 2 8 3 12 0\n14 0 13 1 9 2 10 3 11 0\nend 4\n";
+const BESIDE: &[u8] =
+    b"transcript 1\nstart fit 1\nat 2 14\nfit 1 1 1\nat 1 15\nfit 1 3 1\nat 3 15\nsame 2 1\nlog 2 3 0 2\non 1 2 3\n13 -1 0 7 2 8 3 12 0\n14 0 13 1 9 2 10 3 11 0\nend 4\n";
 
 // The third step needed no query, so that the fourth has the number that it would have had.
 const OF_BESIDE: &[Row] = &[
@@ -232,6 +234,9 @@ fn a_station_without_a_channel_has_a_set(rt: HostRuntime) -> Result<(), Fail> {
     let alloc = rt.alloc();
     let book = lone_station(alloc)?;
     let sc = lone_bid(alloc)?;
-    assert_eq!(rt; first_other(alloc, &sc, &book, LONE, &[(1, 1, 1, &[1], &[])])?, None);
+    assert_eq!(rt;
+        first_other(alloc, &sc, &book, LONE, &[(1, 1, 1, &[1], &[])])?,
+        None
+    );
     Ok(())
 }
