@@ -54,7 +54,8 @@ fn settled(
 }
 
 // Stations 1 and 2 go on air, and the worker spends its line on the test of station 3 beside them.
-const LEFT_OPEN: &[u8] = b"transcript 1\nstart empty\nfit 1 1 1\nat 1 14\nfit 1 2 1\nat 2 14\nfit 1 3 1\nat 3 15\nfit 2 1 1\nat 1 15\nundecided 2 3 1\nlines 0 1\n13 -1 0 7 2 8 3 12 0\nend 5\n";
+const LEFT_OPEN: &[u8] =
+    b"transcript 1\nstart empty\nfit 1 1 1\nat 1 14\nfit 1 2 1\nat 2 14\nfit 1 3 1\nat 3 15\nfit 2 1 1\nat 1 15\nundecided 2 3 1\nlines 0 1\n13 -1 0 7 2 8 3 12 0\nend 5\n";
 
 // The proof that the three do not fit: its first line, and the empty one.
 fn refuting(alloc: Global) -> Result<Log, NoMemory> {
