@@ -7,7 +7,6 @@ use Rattle.pack_defs.specs.ResultRows.{Outcome, Start, Exit, Frozen, Undecided, 
 use Rattle.cert_types.specs.Outside.{IsOutsideProof}
 use Rattle.cert_types.specs.declared.outside.OutsideProof.{OutsideProof}
 use Rattle.auction_core.specs.Backed.{is_undecided}
-use Rattle.auction_core.specs.State.{test_of}
 use Rattle.auction_core.specs.declared.record.Record.{Record}
 use Rattle.auction_core.specs.declared.record.Shown.TheVariants.{Outside}
 use Rattle.auction_core.specs.declared.record.Step.{Step}
