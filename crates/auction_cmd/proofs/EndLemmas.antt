@@ -1,6 +1,6 @@
 -- How the two commands end, from what their parts did.
-use Rattle.std.proofs.Common.{◌≡◌, ◌<◌, ◌≤◌, ◌∙◌, ◌||◌, not, ℕ, Bool, true, false, cond, inl, inr, List, [], ◌∷◌, length, refl, sym, ap, subst}
-use Rattle.std.specs.Prelude.{Option, Some, None, Ok, Err, Result, IsOk}
+use Rattle.std.proofs.Common.{◌≡◌, ◌<◌, ◌≤◌, ◌∙◌, ◌||◌, not, ℕ, Bool, true, false, cond, inl, inr, List, [], ◌∷◌, refl, sym, ap}
+use Rattle.std.specs.Prelude.{Some, None, Err, IsOk}
 use Rattle.std.specs.List.{cons_option, list_any}
 use Rattle.std.proofs.lemmas.Bool.{cases_lt, false≢true}
 use Rattle.pack_defs.specs.Lists.{is_empty}

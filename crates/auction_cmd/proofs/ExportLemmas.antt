@@ -1,7 +1,7 @@
 -- What may be relied on of `export` follows from how it ends, case by case.
 use Rattle.std.proofs.Common.{◌≡◌, ◌≢◌, ◌⊎◌, ◌<◌, ◌∙◌, ℕ, true, inl, inr, List, [], ◌∷◌, length, refl, sym, ap, subst, arith, Option, Some, None}
 use Rattle.std.specs.Prelude.{Ok, Err, IsTrue, MatchOption}
-use Rattle.std.proofs.lemmas.List.Elements.{All-head}
+use Rattle.std.proofs.lemmas.List.Elements.{All-nil}
 use Rattle.pack_defs.specs.Lists.{is_in}
 use Rattle.outside_io.specs.Faults.{HasRisen}
 use Rattle.outside_io.specs.Files.{StoredFile, bytes_of}
@@ -18,8 +18,8 @@ use Rattle.auction_cmd.specs.declared.inputs.Inputs.{Inputs}
 use Rattle.auction_cmd.specs.declared.inputs.Stop.TheVariants.{Refused}
 use Rattle.auction_cmd.specs.declared.refusal.Refusal.{Refusal}
 use Rattle.auction_cmd.specs.declared.settling.StepFault.{StepFault}
-use Rattle.auction_cmd.specs.declared.settling.StepFault.TheVariants.{NoSuchStep, NotUndecided}
-use Rattle.auction_cmd.specs.Delivery.{AllOthersStand, AreStored, IsNotStored, IsStored, NamedText, named}
+use Rattle.auction_cmd.specs.declared.settling.StepFault.TheVariants.{NoSuchStep}
+use Rattle.auction_cmd.specs.Delivery.{AllOthersStand, AreStored, IsNotStored, IsOther, IsStored, NamedText, named}
 use Rattle.auction_cmd.specs.Delivery.IsNotStored.{Unwritten, OutOfRoom}
 use Rattle.auction_cmd.specs.Ends.{ExportEnds, IsShown, VerifyEnds}
 use Rattle.auction_cmd.specs.Ends.ExportEnds.{Unshown, ExportStarved, NoStep, FormulaStored, FormulaNotStored}
@@ -27,7 +27,6 @@ use Rattle.auction_cmd.specs.Ends.VerifyEnds.{VerifyStopped, VerifyStarved, NotL
 use Rattle.auction_cmd.specs.ExportPromises.{ExportPromises, IsAsked}
 use Rattle.auction_cmd.specs.Inputs.{file_limit, inputs_of}
 use Rattle.auction_cmd.specs.Outside.{Outside, IsSaid}
-use Rattle.auction_cmd.specs.Records.{done_status}
 use Rattle.auction_cmd.specs.Says.{memory_line, unwritten_line}
 use Rattle.auction_cmd.specs.Settling.{missing_fault, step_line}
 use Rattle.auction_cmd.specs.Verified.{verified}
@@ -132,9 +131,9 @@ module _ (names : ExportNames) (before after : Outside) (status : ℕ) (found : 
 
   -- of a told folder the text was stored
   stored-told : (files : List StoredFile) (x : NamedText) → before.files ≡ Some files → IsStored x before after → MatchOption after.files ⊥ (λ new. AreStored files new (x ∷ []))
-  stored-told files x told stored = all-more x [] before after after stored (all-none after after refl) files told (λ i d l. absurd (omega (arith, l)), tt)
+  stored-told files x told stored = all-more x [] before after after stored (all-none after after refl) files told (All-nil (λ name. x.name ≢ name), tt)
 
-  asked : (files : List StoredFile) (inputs : Inputs) (rec : Record) (there : Option Step) → before.files ≡ Some files → (s : IsShown names.shown before inputs rec) → step_at rec.steps names.step ≡ there → IsAsked files names.shown names.step there
+  abbrev asked : (files : List StoredFile) (inputs : Inputs) (rec : Record) (there : Option Step) → before.files ≡ Some files → (s : IsShown names.shown before inputs rec) → step_at rec.steps names.step ≡ there → IsAsked files names.shown names.step there
   asked files inputs rec there told s is = record { inputs = inputs; text = s.text; given = shown-given files names.shown before inputs rec told s; rec = rec; shown = s.sound; at = is }
 
   export-done : (files : List StoredFile) → ExportEnds names before after status found → before.files ≡ Some files → status ≡ 0 →
@@ -152,9 +151,9 @@ module _ (names : ExportNames) (before after : Outside) (status : ℕ) (found : 
 
   part-told : (files : List StoredFile) (x : NamedText) (e : StoreErr) → x.name ≡ names.formula → before.files ≡ Some files → Stores before.files after.files x.name x.text (Err e) → MatchOption after.files ⊥ (λ new. AllOthersStand files new (names.formula ∷ []))
   part-told files x e is told stores =
-      let p = part-here x [] e before after stores files told (λ i d l. absurd (omega (arith, l)), tt) in
+      let p = part-here x [] e before after stores files told (All-nil (λ name. x.name ≢ name), tt) in
       subst (λ o. MatchOption o ⊥ (λ new. AllOthersStand files new (names.formula ∷ []))) (sym p.now_told)
-      (λ other k. others-up-to files p.new (x ∷ []) p.part other (subst (λ (n : List ℕ). (i : ℕ) (d : List ℕ) → i < 1 → other ≢ _) is k))
+      (λ other k. others-up-to files p.new (x ∷ []) p.part other (subst (λ n. IsOther (n ∷ []) other) (sym is) k))
 
   export-others : (files : List StoredFile) → ExportEnds names before after status found → before.files ≡ Some files → MatchOption after.files ⊥ (λ new. AllOthersStand files new (names.formula ∷ []))
   export-others files (Unshown end none) told = let v = verify-promises names.shown before after status found end in same-files files told v.untouched

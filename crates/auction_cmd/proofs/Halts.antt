@@ -1,6 +1,6 @@
 -- A reading of the inputs: what stopped it, and what that shows.
 use Rattle.std.proofs.Common.{◌≡◌, ◌≢◌, ◌⊎◌, ◌∙◌, ℕ, true, inl, inr, List, [], ◌∷◌, refl, sym, subst, arith}
-use Rattle.std.specs.Prelude.{Option, Some, Ok, Err, Result, IsTrue}
+use Rattle.std.specs.Prelude.{Some, Ok, Err, Result, IsTrue}
 use Rattle.pack_defs.specs.Lists.{is_in}
 use Rattle.outside_io.specs.Faults.{HasRisen}
 use Rattle.outside_io.specs.Files.{StoredFile}

@@ -1,33 +1,33 @@
 -- What may be relied on of `import` follows from how it ends, case by case.
-use Rattle.std.proofs.Common.{◌≡◌, ◌≢◌, ◌⊎◌, ◌<◌, ◌≤◌, ◌∙◌, ℕ, true, inl, inr, List, [], ◌∷◌, length, refl, sym, ap, subst, arith, Option, Some, None}
+use Rattle.std.proofs.Common.{◌≡◌, ◌⊎◌, ◌<◌, ◌≤◌, ◌∙◌, ℕ, true, inl, inr, List, [], ◌∷◌, length, refl, sym, ap, subst, arith, Option, Some, None}
 use Rattle.std.specs.Prelude.{Contains, Ok, Err, Result, IsTrue, MatchOption, ⊤}
 use Rattle.pack_defs.specs.Lists.{is_in}
-use Rattle.pack_defs.specs.ClockRule.{ClockTest, FrozenAt}
+use Rattle.pack_defs.specs.ClockRule.{FrozenAt}
 use Rattle.pack_defs.specs.Threshold.{IsThresholdPrice}
 use Rattle.pack_defs.proofs.ThresholdLaw.{threshold}
 use Rattle.outside_io.specs.Faults.{HasRisen}
 use Rattle.outside_io.specs.Files.{StoredFile, bytes_of}
-use Rattle.auction_core.specs.Backed.{undecided_of}
+use Rattle.auction_core.specs.Backed.{is_undecided, undecided_of}
 use Rattle.auction_core.specs.declared.record.Record.{Record}
 use Rattle.auction_core.specs.declared.record.Step.{Step}
 use Rattle.open_tests.specs.Queries.{step_at}
 use Rattle.open_tests.specs.Settling.{settled_text}
 use Rattle.open_tests.specs.declared.settle.SettleErr.{SettleErr}
-use Rattle.transcript_text.specs.Named.{IsHeld}
+use Rattle.transcript_text.specs.Spelling.{transcript_text}
 use Rattle.auction_cmd.specs.declared.fault.TranscriptFault.{TranscriptFault}
 use Rattle.auction_cmd.specs.declared.inputs.Inputs.{Inputs}
 use Rattle.auction_cmd.specs.declared.inputs.Stop.TheVariants.{Refused}
 use Rattle.auction_cmd.specs.declared.refusal.Refusal.{Refusal}
 use Rattle.auction_cmd.specs.declared.settling.StepFault.{StepFault}
-use Rattle.auction_cmd.specs.Delivery.{AllOthersStand, AreStored, Delivers, NamedText}
-use Rattle.auction_cmd.specs.Ends.{AreHeld, ImportEnds, IsFileHeld, IsNotLoaded, IsShown, VerifyEnds, import_texts}
+use Rattle.auction_cmd.specs.Delivery.{AllOthersStand, AreStored, Delivers}
+use Rattle.auction_cmd.specs.Ends.{AreHeld, ImportEnds, IsFileHeld, IsNotLoaded, IsShown, import_texts}
 use Rattle.auction_cmd.specs.Ends.ImportEnds.{NothingShown, ImportStarved, NoOpenStep, NoLog, NotSettled, Settled}
 use Rattle.auction_cmd.specs.Ends.IsNotLoaded.{Unloaded, LongText}
 use Rattle.auction_cmd.specs.ImportPromises.{ImportPromises, IsImported, IsLogIn, IsSoundIn}
 use Rattle.auction_cmd.specs.Inputs.{file_limit, inputs_of}
 use Rattle.auction_cmd.specs.Outside.{Outside, IsSaid}
 use Rattle.auction_cmd.specs.Promises.{IsSomeRecord}
-use Rattle.auction_cmd.specs.Records.{IsRecordIn, done_status, outcome, summary_in}
+use Rattle.auction_cmd.specs.Records.{IsRecordIn, done_status, outcome, result_of, summary_in}
 use Rattle.auction_cmd.specs.Says.{memory_line}
 use Rattle.auction_cmd.specs.Settling.{log_line, open_fault, step_line}
 use Rattle.auction_cmd.specs.Verified.{verified}
@@ -36,7 +36,7 @@ use Rattle.auction_cmd.specs.Words.{ImportNames, repeated_import}
 use Rattle.auction_cmd.proofs.DeliveryLemmas.{AreApart, Ended, ended-of, for-told, others-up-to}
 use Rattle.auction_cmd.proofs.DeliveryLemmas.Ended.{Both, NotSaid, NotStored, OutOfRoom}
 use Rattle.auction_cmd.proofs.ExportLemmas.{shown-given, shown-is, shown-not-halted, shown-not-long, shown-not-refused, unshown-or, unshown-statuses}
-use Rattle.auction_cmd.proofs.ImportEndLemmas.{changed, open-some, two-faults}
+use Rattle.auction_cmd.proofs.ImportEndLemmas.{changed, two-faults, undecided-some}
 use Rattle.auction_cmd.proofs.OutputNames.{own-imports}
 use Rattle.auction_cmd.proofs.ReadAgain.{accepted-auction, record-verified}
 use Rattle.auction_cmd.proofs.ReadingLemmas.{accepted-ascend, accepted-values}
@@ -78,6 +78,11 @@ module _ (names : ImportNames) (before after : Outside) (status : ℕ) (found : 
   ended : (inputs : Inputs) (new : Record) → Delivers (import_texts names inputs new) (summary_in new.order inputs (undecided_of new.steps)) (done_status (undecided_of new.steps)) before after status
       → Ended (import_texts names inputs new) (summary_in new.order inputs (undecided_of new.steps)) (done_status (undecided_of new.steps)) before after status
   ended inputs new d = ended-of (import_texts names inputs new) _ _ before after status d
+
+  -- the two texts have names of their own
+  apart : (inputs : Inputs) (new : Record) → found ≡ Some new → IsOnce names found → AreApart (import_texts names inputs new)
+  apart inputs new some once =
+      own-imports names (result_of new.order inputs (undecided_of new.steps)) (transcript_text inputs.scenario inputs.book new) (once-named names found new some once)
 
   delivered-statuses : (inputs : Inputs) (new : Record) → Delivers (import_texts names inputs new) (summary_in new.order inputs (undecided_of new.steps)) (done_status (undecided_of new.steps)) before after status → IsTrue (is_in (0 ∷ 1 ∷ 4 ∷ 8 ∷ []) status)
   delivered-statuses inputs new d = ended-statuses (import_texts names inputs new) _ (undecided_of new.steps) before after status (ended inputs new d)
@@ -126,7 +131,7 @@ module _ (names : ImportNames) (before after : Outside) (status : ℕ) (found : 
 
   -- ---- a step that is settled
 
-  sound-in : (files : List StoredFile) (inputs : Inputs) (rec : Record) → before.files ≡ Some files → IsShown names.shown before inputs rec → IsSoundIn files names.shown
+  abbrev sound-in : (files : List StoredFile) (inputs : Inputs) (rec : Record) → before.files ≡ Some files → IsShown names.shown before inputs rec → IsSoundIn files names.shown
   sound-in files inputs rec told s = record { inputs = inputs; text = s.text; given = shown-given files names.shown before inputs rec told s; rec = rec; shown = s.sound }
 
   log-in : (files : List StoredFile) (log : List ℕ) → before.files ≡ Some files → IsFileHeld names.proof before log → IsLogIn files names.proof log
@@ -140,8 +145,8 @@ module _ (names : ImportNames) (before after : Outside) (status : ℕ) (found : 
   import-done files (NotSettled inputs rec log fault s is held err ten none said same) once told h = absurd (off (0 ∷ 1 ∷ []) status 10 h ten refl)
   import-done files (Settled inputs rec log new s is held ok own kept some d) once told h = go (ended inputs new d)
     where
-      x : (y : Step) × (step_at rec.steps names.step ≡ Some y) × _
-      x = open-some (step_at rec.steps names.step) is
+      x : (y : Step) × (step_at rec.steps names.step ≡ Some y) × (is_undecided y.shown ≡ true)
+      x = undecided-some (step_at rec.steps names.step) is
 
       go : Ended (import_texts names inputs new) (summary_in new.order inputs (undecided_of new.steps)) (done_status (undecided_of new.steps)) before after status → IsImported files names before after status found
       go (Both done all writes) =
@@ -160,7 +165,7 @@ module _ (names : ImportNames) (before after : Outside) (status : ℕ) (found : 
             auction = own;
             left = c.left;
             rows = c.rows;
-            stored = all files told (own-imports names _ _ (once-named names found new some once));
+            stored = all files told (apart inputs new some once);
             summary = writes;
             status_is = done;
             verifiable = record-verified files names.shown.inputs inputs new accepted s.named own.backed own.ending kept;
@@ -316,17 +321,14 @@ module _ (names : ImportNames) (before after : Outside) (status : ℕ) (found : 
   import-others files (NotSettled inputs rec log fault s is held err ten none said same) once told = same-files files told same
   import-others files (Settled inputs rec log new s is held ok own kept some d) once told = go (ended inputs new d)
     where
-      apart : AreApart (import_texts names inputs new)
-      apart = own-imports names _ _ (once-named names found new some once)
-
       go : Ended (import_texts names inputs new) (summary_in new.order inputs (undecided_of new.steps)) (done_status (undecided_of new.steps)) before after status → MatchOption after.files ⊥ (Others files)
-      go (Both done all writes) = for-told after.files (λ now. AreStored files now (import_texts names inputs new)) (Others files) (λ now st. st.others) (all files told apart)
-      go (NotSaid four all rises less said) = for-told after.files (λ now. AreStored files now (import_texts names inputs new)) (Others files) (λ now st. st.others) (all files told apart)
+      go (Both done all writes) = for-told after.files (λ now. AreStored files now (import_texts names inputs new)) (Others files) (λ now st. st.others) (all files told (apart inputs new some once))
+      go (NotSaid four all rises less said) = for-told after.files (λ now. AreStored files now (import_texts names inputs new)) (Others files) (λ now st. st.others) (all files told (apart inputs new some once))
       go (NotStored y four part rises unsteady said) =
-          let p = part files told apart in
+          let p = part files told (apart inputs new some once) in
           subst (λ o. MatchOption o ⊥ (Others files)) (sym p.now_told) (λ other k. others-up-to files p.new (import_texts names inputs new) p.part other k)
       go (OutOfRoom y eight part said) =
-          let p = part files told apart in
+          let p = part files told (apart inputs new some once) in
           subst (λ o. MatchOption o ⊥ (Others files)) (sym p.now_told) (λ other k. others-up-to files p.new (import_texts names inputs new) p.part other k)
 
   import-untouched : ImportEnds names before after status found → IsTrue (is_in (3 ∷ 5 ∷ 9 ∷ 10 ∷ []) status) → after.files ≡ before.files

@@ -19,6 +19,7 @@ pub mod RecordLemmas
 pub mod RunLemmas
 pub mod SaysLemmas
 pub mod StartLemmas
+pub mod ShownLemmas
 pub mod Statuses
 pub mod TextReading
 pub mod TranscriptLemmas

@@ -19,10 +19,10 @@ use Rattle.auction_cmd.specs.Plan.{Plan, no_command, repeats, runs, checks, veri
 use Rattle.auction_cmd.specs.Promises.{IsSomeRecord, Promises, asks_nothing, asks_step, inputs_read, records_first, verifies_first}
 use Rattle.auction_cmd.specs.Says.{memory_line, twice_line}
 use Rattle.auction_cmd.specs.VerifyPromises.{VerifyPromises}
-use Rattle.auction_cmd.specs.Words.{ExportNames, ImportNames, InputNames, MakeNames, RunNames, VerifyNames, repeated_made, repeated_output}
+use Rattle.auction_cmd.specs.Words.{ExportNames, ImportNames, InputNames, MakeNames, RunNames, VerifyNames, repeated_import, repeated_made, repeated_output}
 use Rattle.auction_cmd.proofs.CheckLemmas.{check-complete, check-counted, check-cut, check-files, check-memory, check-none, check-reading, check-statuses, check-surely, check-unread, check-unwritten}
 use Rattle.auction_cmd.proofs.ExportLemmas.{export-memory, export-none, export-promises, export-statuses, export-unread, export-unwritten}
-use Rattle.auction_cmd.proofs.ImportLemmas.{import-backed, import-kept, import-memory, import-promises, import-statuses, import-unread, import-unrecorded, import-unwritten}
+use Rattle.auction_cmd.proofs.ImportLemmas.{IsOnce as IsOnceImported, import-backed, import-kept, import-memory, import-promises, import-statuses, import-unread, import-unrecorded, import-unwritten}
 use Rattle.auction_cmd.proofs.Halts.{Reading, missing-one, read-there, refused-cause, stops-at, unread-line}
 use Rattle.auction_cmd.proofs.MakeEndLemmas.{Reached, reached}
 use Rattle.auction_cmd.proofs.MakeEndLemmas.Reached.{Nothing}
@@ -132,18 +132,31 @@ module _ (plan : Plan) (before after : Outside) (status : ℕ) (found : Option R
   exported names (Exported own is_own single end) is = subst (λ z. ExportEnds z before after status found) (same-exports own names (sym is_own ∙ is)) end
   exported names (Imported own is_own single end) is = cc
 
-  -- an import ended so; its outputs have names of their own, unless it had none
+  import-ended : (names : ImportNames) → Ends plan before after status found → plan ≡ imports names → ImportEnds names before after status found
+  import-ended names (Starved s still) is = ImportStarved s
+  import-ended names (Usage text is_none two none said files still) is = cc
+  import-ended names (Repeated name is_name five none said files still) is = cc
+  import-ended names (Ran own is_own apart end) is = cc
+  import-ended names (Checked own is_own end) is = cc
+  import-ended names (Verified own is_own end) is = cc
+  import-ended names (Made own is_own single end) is = cc
+  import-ended names (Exported own is_own single end) is = cc
+  import-ended names (Imported own is_own single end) is = subst (λ z. ImportEnds z before after status found) (same-imports own names (sym is_own ∙ is)) end
+
+  import-once : (names : ImportNames) → Ends plan before after status found → plan ≡ imports names → IsOnceImported names found
+  import-once names (Starved s still) is = inl s.found_is
+  import-once names (Usage text is_none two none said files still) is = inl none
+  import-once names (Repeated name is_name five none said files still) is = inl none
+  import-once names (Ran own is_own apart end) is = cc
+  import-once names (Checked own is_own end) is = cc
+  import-once names (Verified own is_own end) is = cc
+  import-once names (Made own is_own single end) is = cc
+  import-once names (Exported own is_own single end) is = cc
+  import-once names (Imported own is_own single end) is = inr (subst (λ z. repeated_import z ≡ None) (same-imports own names (sym is_own ∙ is)) single)
+
+  -- what may be relied on of `import`
   imported : (names : ImportNames) → Ends plan before after status found → plan ≡ imports names → ImportPromises names before after status found
-  imported names (Starved s still) is = import-promises names before after status found (ImportStarved s) (inl s.found_is)
-  imported names (Usage text is_none two none said files still) is = cc
-  imported names (Repeated name is_name five none said files still) is = cc
-  imported names (Ran own is_own apart end) is = cc
-  imported names (Checked own is_own end) is = cc
-  imported names (Verified own is_own end) is = cc
-  imported names (Made own is_own single end) is = cc
-  imported names (Exported own is_own single end) is = cc
-  imported names (Imported own is_own single end) is =
-      subst (λ z. ImportPromises z before after status found) (same-imports own names (sym is_own ∙ is)) (import-promises own before after status found end (inr single))
+  imported names end is = import-promises names before after status found (import-ended names end is) (import-once names end is)
 
   -- how far `make` came
   way : (names : MakeNames) → repeated_made names ≡ None → MakeEnds names before after status found → Reached names before after status found

@@ -1,6 +1,6 @@
 -- The transcript that is written of a record is verified as that record, beside inputs that files hold.
-use Rattle.std.proofs.Common.{◌≡◌, ◌≤◌, ◌∙◌, ℕ, true, List, sym, ap, subst, arith}
-use Rattle.std.specs.Prelude.{IfOk, Option, Some, None, Result, Ok, Err}
+use Rattle.std.proofs.Common.{◌≡◌, ◌∙◌, ℕ, List, ap, subst, arith}
+use Rattle.std.specs.Prelude.{IfOk, None, Result, Ok, Err}
 use Rattle.constraint_files.specs.Domains.{domains_of}
 use Rattle.constraint_files.specs.Rows.{PairsView, pairs_of}
 use Rattle.constraint_files.specs.declared.error.ReadErr.{ReadErr}
@@ -27,7 +27,6 @@ use Rattle.transcript_check.specs.NotShown.{not_shown}
 use Rattle.transcript_check.specs.Sound.{transcript_record}
 use Rattle.transcript_check.proofs.SoundLemmas.{same-again, sound-shown, transcript-sound}
 use Rattle.auction_cmd.specs.declared.inputs.Inputs.{Inputs}
-use Rattle.auction_cmd.specs.declared.inputs.Stop.{Stop}
 use Rattle.auction_cmd.specs.declared.refusal.Input.{Input}
 use Rattle.auction_cmd.specs.declared.refusal.Input.TheVariants.{Domains, Rows, Scenario as ScenarioFile}
 use Rattle.auction_cmd.specs.Inputs.{and_then, file_of, inputs_from, inputs_of, rows_read, scenario_read}

@@ -4,7 +4,6 @@ use Rattle.std.specs.Prelude.{Ok, IsTrue}
 use Rattle.std.proofs.lemmas.Bool.{true≢false}
 use Rattle.pack_defs.specs.Lists.{is_in}
 use Rattle.pack_defs.specs.Book.{BookView}
-use Rattle.pack_defs.specs.ClockRule.{ClockTest}
 use Rattle.pack_defs.specs.Packing.{fits}
 use Rattle.pack_defs.specs.Prices.{start_set}
 use Rattle.pack_defs.proofs.FitsLaws.{fits-from}
@@ -23,7 +22,7 @@ use Rattle.auction_cmd.specs.Inputs.{inputs_of}
 use Rattle.auction_cmd.specs.Outside.{Outside, IsSaid}
 use Rattle.auction_cmd.specs.Promises.{IsLeftOpen, IsRecordAt}
 use Rattle.auction_cmd.specs.Records.{StartFits, StartUnfit, done_status, run_order, summary_of}
-use Rattle.auction_cmd.specs.Says.{memory_line, open_line, unfit_line}
+use Rattle.auction_cmd.specs.Says.{memory_line, unfit_line}
 use Rattle.auction_cmd.specs.VerifyPromises.{IsOr}
 use Rattle.auction_cmd.specs.Words.{RunNames}
 use Rattle.auction_cmd.proofs.DeliveryLemmas.{Ended, ended-of}

@@ -12,7 +12,7 @@ use Rattle.transcript_text.specs.declared.transcript.Transcript.{Transcript}
 use Rattle.transcript_text.specs.Reading.{transcript_of}
 use Rattle.transcript_text.specs.Steps.{Fails}
 use Rattle.transcript_check.specs.declared.error.ShownWhy.{ShownWhy}
-use Rattle.transcript_check.specs.NotShown.{NotShown, not_shown}
+use Rattle.transcript_check.specs.NotShown.{not_shown}
 use Rattle.transcript_check.specs.Sound.{IsSound, transcript_record}
 use Rattle.auction_cmd.specs.declared.fault.TranscriptFault.TheVariants.{Unshown}
 use Rattle.auction_cmd.specs.declared.inputs.Inputs.{Inputs}

@@ -1,5 +1,5 @@
 -- How `verify` ends: what each end gives, and which it excludes.
-use Rattle.std.proofs.Common.{◌≡◌, ◌≢◌, ◌⊎◌, ◌<◌, ◌≤◌, ◌∙◌, ℕ, Bool, true, false, inl, inr, List, [], ◌∷◌, length, refl, sym, ap, subst, arith, Option, Some, None}
+use Rattle.std.proofs.Common.{◌≡◌, ◌<◌, ◌≤◌, ◌∙◌, ℕ, List, [], ◌∷◌, length, refl, sym, ap, subst, arith, Option, Some, None}
 use Rattle.std.specs.Prelude.{Ok, Err, Result, IsTrue}
 use Rattle.pack_defs.specs.ClockRule.{ClockTest}
 use Rattle.pack_defs.specs.Lists.{is_in}
@@ -11,7 +11,7 @@ use Rattle.auction_cmd.specs.Delivery.{IsPrinted}
 use Rattle.auction_cmd.specs.Delivery.IsPrinted.{Written, CutShort}
 use Rattle.auction_cmd.specs.Ends.{AreHeld, IsNotLoaded, IsTextHeld}
 use Rattle.auction_cmd.specs.Ends.IsNotLoaded.{Unloaded, LongText}
-use Rattle.auction_cmd.specs.Inputs.{file_limit, inputs_of}
+use Rattle.auction_cmd.specs.Inputs.{file_limit}
 use Rattle.auction_cmd.specs.Outside.{Outside}
 use Rattle.auction_cmd.specs.Records.{done_status}
 use Rattle.auction_cmd.specs.Verified.{verified}
@@ -44,7 +44,7 @@ unloaded-statuses name before after status (LongText five long said) = one-of (3
 pub is-given : (files : List StoredFile) (names : VerifyNames) (before : Outside) (inputs : Inputs) (text : List ℕ) → before.files ≡ Some files → AreHeld names.inputs before inputs → IsTextHeld names before text → IsGiven files names inputs text
 is-given files names before inputs text told are held = record { accepted = are files told; told = (held files told).0; within = (held files told).1 }
 
-same-text : (a b : List ℕ) → Some a ≡ Some b → a ≡ b
+pub same-text : (a b : List ℕ) → Some a ≡ Some b → a ≡ b
 same-text a b e = cc
 
 pub no-text : (text : List ℕ) (held : Option (List ℕ)) → held ≡ None → held ≡ Some text → ⊥

@@ -1,6 +1,6 @@
 -- What may be relied on of `verify` follows from how it ends, case by case.
-use Rattle.std.proofs.Common.{◌≡◌, ◌≢◌, ◌⊎◌, ◌<◌, ◌≤◌, ◌∙◌, ◌+◌, ◌-◌, ◌^◌, ℕ, Bool, true, false, inl, inr, List, [], ◌∷◌, length, min, refl, sym, ap, subst, arith, Option, Some, None}
-use Rattle.std.specs.Prelude.{Contains, Ok, Err, Result, IsTrue}
+use Rattle.std.proofs.Common.{◌≡◌, ◌≢◌, ◌⊎◌, ◌<◌, ◌≤◌, ◌∙◌, ◌-◌, ℕ, inl, inr, List, [], ◌∷◌, length, refl, sym, subst, arith, Option, Some, None}
+use Rattle.std.specs.Prelude.{Contains, Ok, Err, IsTrue}
 use Rattle.pack_defs.specs.ClockRule.{FrozenAt}
 use Rattle.pack_defs.specs.Lists.{is_in}
 use Rattle.pack_defs.specs.Threshold.{IsThresholdPrice}
@@ -8,34 +8,25 @@ use Rattle.pack_defs.proofs.ThresholdLaw.{threshold}
 use Rattle.outside_io.specs.Faults.{HasRisen}
 use Rattle.outside_io.specs.Files.{StoredFile, bytes_of}
 use Rattle.outside_io.specs.Loads.{Writes}
-use Rattle.auction_core.specs.declared.record.Ending.TheVariants.{Done}
 use Rattle.auction_core.specs.declared.record.Record.{Record}
-use Rattle.auction_core.specs.Backed.{IsBacked, undecided_of}
-use Rattle.transcript_text.specs.Named.{IsHeld}
+use Rattle.auction_core.specs.Backed.{undecided_of}
 use Rattle.transcript_text.specs.Spelling.{transcript_text}
 use Rattle.auction_cmd.specs.declared.fault.TranscriptFault.{TranscriptFault}
 use Rattle.auction_cmd.specs.declared.inputs.Inputs.{Inputs}
-use Rattle.auction_cmd.specs.declared.inputs.Stop.TheVariants.{CannotRead, Refused}
-use Rattle.auction_cmd.specs.declared.refusal.Input.{Input}
-use Rattle.auction_cmd.specs.declared.refusal.Refusal.{Refusal}
 use Rattle.auction_cmd.specs.Delivery.IsPrinted.{Written, CutShort}
 use Rattle.auction_cmd.specs.Ends.{AreHeld, VerifyEnds}
 use Rattle.auction_cmd.specs.Ends.IsNotLoaded.{Unloaded, LongText}
 use Rattle.auction_cmd.specs.Ends.VerifyEnds.{VerifyStopped, VerifyStarved, NotLoaded, NotSound, Sound}
-use Rattle.auction_cmd.specs.Inputs.{file_limit, inputs_of}
+use Rattle.auction_cmd.specs.Inputs.{inputs_of}
 use Rattle.auction_cmd.specs.Outside.{Outside, IsSaid}
-use Rattle.auction_cmd.specs.Promises.{AreThere}
 use Rattle.auction_cmd.specs.Records.{IsRecordIn, done_status, outcome, result_of}
-use Rattle.auction_cmd.specs.Refusals.{line_of, name_of}
-use Rattle.auction_cmd.specs.Says.{long_line, memory_line, unread_line}
 use Rattle.auction_cmd.specs.Verified.{CanBeNamed, fault_line, verified}
-use Rattle.auction_cmd.specs.VerifyPromises.{AreAllThere, IsGiven, IsOr, IsVerified, VerifyPromises, verified_text}
+use Rattle.auction_cmd.specs.VerifyPromises.{IsGiven, IsOr, IsVerified, VerifyPromises, verified_text}
 use Rattle.auction_cmd.specs.Words.{VerifyNames}
-use Rattle.auction_cmd.proofs.Halts.{halted-held, missing-one, not-both, read-there, refused-cause, same-inputs, stopped-memory, stopped-statuses, stopped-unread, stops-at, unread-line}
-use Rattle.auction_cmd.proofs.Halts.Reading.{Halted}
+use Rattle.auction_cmd.proofs.Halts.{halted-held, same-inputs, stopped-statuses}
 use Rattle.auction_cmd.proofs.ReadAgain.{record-verified}
 use Rattle.auction_cmd.proofs.ReadingLemmas.{accepted-ascend, accepted-values}
-use Rattle.auction_cmd.proofs.Statuses.{apart-lists, none-open, off, one-of, within}
+use Rattle.auction_cmd.proofs.Statuses.{apart-lists, off, one-of, within}
 use Rattle.auction_cmd.proofs.VerifyReadings.{all-halted, all-missing, all-missing_transcript, all-refuses_input, all-refuses_long, all-surely_read, all-unread, all-unread_says}
 use Rattle.auction_cmd.proofs.VerifyEndLemmas.{is-given, never-four, no-text, not-both-verified, not-long, printed-files, printed-statuses, same-record, same-verified, unloaded-statuses}
 

@@ -1,7 +1,6 @@
 -- What may be relied on of `verify` where an input or the transcript was not read.
-use Rattle.std.proofs.Common.{◌≡◌, ◌≢◌, ◌⊎◌, ◌<◌, ◌∙◌, ◌+◌, ◌-◌, ◌^◌, ℕ, true, inl, inr, List, [], ◌∷◌, length, min, refl, sym, subst, arith, Option, Some, None}
-use Rattle.std.specs.Prelude.{Ok, Err, IsSome, IsTrue}
-use Rattle.pack_defs.specs.Lists.{is_in}
+use Rattle.std.proofs.Common.{◌≡◌, ◌≢◌, ◌⊎◌, ◌<◌, ◌∙◌, ◌-◌, ℕ, true, inl, inr, List, [], ◌∷◌, length, refl, sym, arith, Option, Some, None}
+use Rattle.std.specs.Prelude.{Ok, Err, IsSome}
 use Rattle.outside_io.specs.Faults.{HasRisen}
 use Rattle.outside_io.specs.Files.{StoredFile, bytes_of}
 use Rattle.auction_core.specs.declared.record.Record.{Record}
@@ -21,7 +20,7 @@ use Rattle.auction_cmd.specs.Refusals.{line_of, name_of}
 use Rattle.auction_cmd.specs.Says.{long_line, unread_line}
 use Rattle.auction_cmd.specs.VerifyPromises.{AreAllThere, IsOr}
 use Rattle.auction_cmd.specs.Words.{VerifyNames}
-use Rattle.auction_cmd.proofs.Halts.{halted-held, missing-one, not-both, read-there, refused-cause, same-inputs, stopped-statuses, stopped-unread, stops-at, unread-line}
+use Rattle.auction_cmd.proofs.Halts.{halted-held, missing-one, not-both, read-there, refused-cause, stopped-unread, stops-at, unread-line}
 use Rattle.auction_cmd.proofs.Halts.Reading.{Halted}
 use Rattle.auction_cmd.proofs.Statuses.{off}
 use Rattle.auction_cmd.proofs.VerifyEndLemmas.{is-given, no-text, not-long, printed-statuses}

@@ -88,9 +88,9 @@ pub record ImportPromises (names : ImportNames) (before after : Outside) (status
   -- of the log is refused, or the log doesn't refute the step's set. The line says which.
   pub refused : (files : List StoredFile) → before.files ≡ Some files → status ≡ 10 →
       (s : IsSoundIn files names.shown) × (
-        ((fault : StepFault) × (open_fault (step_at s.rec.steps names.step) ≡ Some fault) × IsSaid before after (step_line names.step fault))
-        ⊎ ((log : List ℕ) × (fault : SettleErr) × IsLogIn files names.proof log × (open_fault (step_at s.rec.steps names.step) ≡ None)
-        × (settled_text s.inputs.book s.rec names.step log ≡ Err fault) × IsSaid before after (log_line names.proof fault)))
+      ((fault : StepFault) × (open_fault (step_at s.rec.steps names.step) ≡ Some fault) × IsSaid before after (step_line names.step fault))
+      ⊎ ((log : List ℕ) × (fault : SettleErr) × IsLogIn files names.proof log × (open_fault (step_at s.rec.steps names.step) ≡ None)
+      × (settled_text s.inputs.book s.rec names.step log ≡ Err fault) × IsSaid before after (log_line names.proof fault)))
   pub refuses_step : (files : List StoredFile) (s : IsSoundIn files names.shown) (fault : StepFault) →
       before.files ≡ Some files → open_fault (step_at s.rec.steps names.step) ≡ Some fault → IsOr 10 before status
   pub refuses_log : (files : List StoredFile) (s : IsSoundIn files names.shown) (log : List ℕ) (fault : SettleErr) →

@@ -25,12 +25,7 @@ use outside_io::sink::Sink;
 use std::alloc::{AllocError as NoMemory, Global};
 
 // The text of the packing formula of the stations that a step asked about.
-fn formula_of(
-    alloc: Global,
-    inputs: &Inputs,
-    rec: &Record,
-    step: u32,
-) -> Result<Vec<u8>, NoMemory>
+fn formula_of(alloc: Global, inputs: &Inputs, rec: &Record, step: u32) -> Result<Vec<u8>, NoMemory>
     requires auction { IsOfAuction inputs.now.scenario inputs.now.book }
     requires own { IsRecordIn rec.now.order inputs.now rec.now }
     requires there { missing_fault (step_at rec.now.steps step) ≡ None }

@@ -25,7 +25,7 @@ returns-in-Ok-Verify-clause-ends g c =
 
 pub returns-in-Err-Refused-clause-ends : goal.returns-in-Err-Refused-clause-ends
 returns-in-Err-Refused-clause-ends g c =
-    Usage _ (plan-none _ ((rw c.in-Err-Refused.field-0-is at c.in-Err-Refused.ensures.refused) tt)) c.without_record-in-Err-Refused.ensures.status c.without_record-in-Err-Refused.ensures.none c.say-in-Err-Refused.ensures.says refl refl
+    Usage _ (plan-none _ ((rw c.in-Err-Refused.field-0-is at c.in-Err-Refused.ensures.refused) tt)) c.without_record.ensures.status c.without_record.ensures.none c.say.ensures.says refl refl
 
 pub make-requires-clause-some : goal.make-requires-clause-some
 make-requires-clause-some g c κs within =
