@@ -166,6 +166,11 @@ def needed(count, lines):
     return [at for at in range(len(lines)) if count + at in keep]
 
 
+def line_of(number, clause, hints):
+    """A line of a proof in LRAT's form."""
+    return " ".join(map(str, [number, *clause, 0, *hints, 0]))
+
+
 def write(count, lines, path):
     """Writes the lines that are needed; those left out give no number."""
     kept = needed(count, lines)
@@ -174,8 +179,7 @@ def write(count, lines, path):
         for at in kept:
             number[count + at] = len(number) + 1
             clause, hints = lines[at]
-            words = [number[count + at], *dict.fromkeys(clause), 0, *(number[it] for it in hints), 0]
-            file.write(" ".join(map(str, words)) + "\n")
+            file.write(line_of(number[count + at], dict.fromkeys(clause), [number[it] for it in hints]) + "\n")
     return len(kept)
 
 

@@ -228,6 +228,15 @@ module _ (names : ExportNames) (before after : Outside) (status : ℕ) (found : 
   export-unwritten (FormulaNotStored inputs rec s is none (Unwritten is_four stores rises unsteady said)) four = (rises, unsteady, said)
   export-unwritten (FormulaNotStored inputs rec s is none (OutOfRoom eight stores said)) four = absurd (omega arith)
 
+  export-unstored : (files : List StoredFile) → ExportEnds names before after status found → before.files ≡ Some files → status ≡ 4 → (x : Step) × IsAsked files names.shown names.step (Some x)
+  export-unstored files (Unshown end none) told four = absurd (off (3 ∷ 5 ∷ 8 ∷ 9 ∷ []) status 4 (unshown-statuses names.shown before after status found end none) four refl)
+  export-unstored files (ExportStarved s) told four = let eight = s.status_is in absurd (omega arith)
+  export-unstored files (NoStep inputs rec fault s is ten none said same) told four = absurd (omega arith)
+  export-unstored files (FormulaStored inputs rec s is zero none stored) told four = absurd (omega arith)
+  export-unstored files (FormulaNotStored inputs rec s is none not) told four =
+      let there = missing-some (step_at rec.steps names.step) is in
+      (there.0, asked files inputs rec (Some there.0) told s there.1)
+
   export-complete : (files : List StoredFile) (x : Step) → ExportEnds names before after status found → before.files ≡ Some files → IsAsked files names.shown names.step (Some x) → IsOr 0 before status ⊎ (status ≡ 4)
   export-complete files x (Unshown end none) told a = inl (unshown-or names.shown before after status 0 found files a.inputs a.text a.rec end none told a.given a.shown)
   export-complete files x (ExportStarved s) told a = inl (inr (inl s.status_is))
@@ -260,5 +269,6 @@ module _ (names : ExportNames) (before after : Outside) (status : ℕ) (found : 
     refuses_input = λ files why told err. export-refuses_input files why end told err;
     refuses_long = λ files inputs bytes told ok is more. export-refuses_long files inputs bytes end told ok is more;
     unwritten = export-unwritten end;
+    unstored = λ files told four. export-unstored files end told four;
     complete = λ files x told a. export-complete files x end told a;
   }

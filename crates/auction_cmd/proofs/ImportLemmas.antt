@@ -1,37 +1,41 @@
 -- What may be relied on of `import` follows from how it ends, case by case.
-use Rattle.std.proofs.Common.{◌≡◌, ◌⊎◌, ◌<◌, ◌≤◌, ◌∙◌, ℕ, true, inl, inr, List, [], ◌∷◌, length, refl, sym, ap, subst, arith, Option, Some, None}
-use Rattle.std.specs.Prelude.{Contains, Ok, Err, Result, IsTrue, MatchOption, ⊤}
+use Rattle.std.proofs.Common.{◌≡◌, ◌≢◌, ◌⊎◌, ◌<◌, ◌≤◌, ◌∙◌, ℕ, true, inl, inr, List, [], ◌∷◌, length, refl, sym, ap, subst, arith, Option, Some, None}
+use Rattle.std.specs.Prelude.{Contains, Ok, Err, Result, IsSome, IsTrue, MatchOption, is_some, ⊤}
+use Rattle.std.proofs.lemmas.Bool.{true≢false}
 use Rattle.pack_defs.specs.Lists.{is_in}
-use Rattle.pack_defs.specs.ClockRule.{FrozenAt}
+use Rattle.pack_defs.specs.ClockRule.{ClockTest, FrozenAt}
 use Rattle.pack_defs.specs.Threshold.{IsThresholdPrice}
+use Rattle.pack_defs.specs.declared.order.Order.{Order}
 use Rattle.pack_defs.proofs.ThresholdLaw.{threshold}
 use Rattle.outside_io.specs.Faults.{HasRisen}
 use Rattle.outside_io.specs.Files.{StoredFile, bytes_of}
+use Rattle.outside_io.specs.Loads.{Writes}
 use Rattle.auction_core.specs.Backed.{is_undecided, undecided_of}
 use Rattle.auction_core.specs.declared.record.Record.{Record}
 use Rattle.auction_core.specs.declared.record.Step.{Step}
 use Rattle.open_tests.specs.Queries.{step_at}
 use Rattle.open_tests.specs.Settling.{settled_text}
 use Rattle.open_tests.specs.declared.settle.SettleErr.{SettleErr}
+use Rattle.transcript_text.specs.Named.{IsHeld}
 use Rattle.transcript_text.specs.Spelling.{transcript_text}
 use Rattle.auction_cmd.specs.declared.fault.TranscriptFault.{TranscriptFault}
 use Rattle.auction_cmd.specs.declared.inputs.Inputs.{Inputs}
 use Rattle.auction_cmd.specs.declared.inputs.Stop.TheVariants.{Refused}
 use Rattle.auction_cmd.specs.declared.refusal.Refusal.{Refusal}
 use Rattle.auction_cmd.specs.declared.settling.StepFault.{StepFault}
-use Rattle.auction_cmd.specs.Delivery.{AllOthersStand, AreStored, Delivers}
+use Rattle.auction_cmd.specs.Delivery.{AllOthersStand, AreStored, Delivers, NamedText}
 use Rattle.auction_cmd.specs.Ends.{AreHeld, ImportEnds, IsFileHeld, IsNotLoaded, IsShown, import_texts}
 use Rattle.auction_cmd.specs.Ends.ImportEnds.{NothingShown, ImportStarved, NoOpenStep, NoLog, NotSettled, Settled}
 use Rattle.auction_cmd.specs.Ends.IsNotLoaded.{Unloaded, LongText}
-use Rattle.auction_cmd.specs.ImportPromises.{ImportPromises, IsImported, IsLogIn, IsSoundIn}
+use Rattle.auction_cmd.specs.ImportPromises.{ImportPromises, IsImported, IsImportedUpTo, IsLogIn, IsSettledStep, IsSoundIn, IsUnimported, IsUnlogged, IsUnsummed}
 use Rattle.auction_cmd.specs.Inputs.{file_limit, inputs_of}
 use Rattle.auction_cmd.specs.Outside.{Outside, IsSaid}
 use Rattle.auction_cmd.specs.Promises.{IsSomeRecord}
 use Rattle.auction_cmd.specs.Records.{IsRecordIn, done_status, outcome, result_of, summary_in}
-use Rattle.auction_cmd.specs.Says.{memory_line}
+use Rattle.auction_cmd.specs.Says.{memory_line, unread_line, unwritten_line}
 use Rattle.auction_cmd.specs.Settling.{log_line, open_fault, step_line}
 use Rattle.auction_cmd.specs.Verified.{verified}
-use Rattle.auction_cmd.specs.VerifyPromises.{IsGiven, IsOr, VerifyPromises}
+use Rattle.auction_cmd.specs.VerifyPromises.{AreAllThere, IsGiven, IsOr, VerifyPromises}
 use Rattle.auction_cmd.specs.Words.{ImportNames, repeated_import}
 use Rattle.auction_cmd.proofs.DeliveryLemmas.{AreApart, Ended, ended-of, for-told, others-up-to}
 use Rattle.auction_cmd.proofs.DeliveryLemmas.Ended.{Both, NotSaid, NotStored, OutOfRoom}
@@ -45,6 +49,7 @@ use Rattle.auction_cmd.proofs.Statuses.{apart-lists, off, one-of, within}
 use Rattle.auction_cmd.proofs.VerifyCases.{verify-memory}
 use Rattle.auction_cmd.proofs.VerifyEndLemmas.{no-text, same-text, unloaded-statuses}
 use Rattle.auction_cmd.proofs.VerifyLemmas.{verify-promises}
+use Rattle.auction_cmd.proofs.VerifyReadings.{is-there}
 
 -- ---- two that are one
 
@@ -137,6 +142,32 @@ module _ (names : ImportNames) (before after : Outside) (status : ℕ) (found : 
   log-in : (files : List StoredFile) (log : List ℕ) → before.files ≡ Some files → IsFileHeld names.proof before log → IsLogIn files names.proof log
   log-in files log told held = record { told = (held files told).0; within = (held files told).1 }
 
+  abbrev settled-step : (files : List StoredFile) (inputs : Inputs) (rec new : Record) (log : List ℕ) → before.files ≡ Some files → IsShown names.shown before inputs rec → open_fault (step_at rec.steps names.step) ≡ None → IsFileHeld names.proof before log
+      → settled_text inputs.book rec names.step log ≡ Ok new → IsRecordIn new.order inputs new → IsHeld new → found ≡ Some new → IsSettledStep files names found
+  settled-step files inputs rec new log told s is held ok own kept some =
+      let accepted = s.accepted files told in
+      let x : (y : Step) × (step_at rec.steps names.step ≡ Some y) × (is_undecided y.shown ≡ true) = undecided-some (step_at rec.steps names.step) is in
+      let c = changed inputs rec new names.step log x.0 (accepted-auction files names.shown.inputs inputs accepted s.named) s.own x.1 x.2 ok in
+      record {
+        sound = sound-in files inputs rec told s;
+        step = x.0;
+        there = x.1;
+        open_before = x.2;
+        log = log;
+        held = log-in files log told held;
+        new = new;
+        settled = ok;
+        recorded = some;
+        auction = own;
+        left = c.left;
+        rows = c.rows;
+        verifiable = record-verified files names.shown.inputs inputs new accepted s.named own.backed own.ending kept;
+      }
+
+  -- what a delivery left, whatever came of it
+  abbrev Left : Inputs → Record → Type 0
+  Left inputs new = Ended (import_texts names inputs new) (summary_in new.order inputs (undecided_of new.steps)) (done_status (undecided_of new.steps)) before after status
+
   import-done : (files : List StoredFile) → ImportEnds names before after status found → IsOnce names found → before.files ≡ Some files → IsTrue (is_in (0 ∷ 1 ∷ []) status) → IsImported files names before after status found
   import-done files (NothingShown end none) once told h = absurd (apart-lists (0 ∷ 1 ∷ []) (3 ∷ 5 ∷ 8 ∷ 9 ∷ []) status refl h (unshown-statuses names.shown before after status found end none))
   import-done files (ImportStarved s) once told h = absurd (off (0 ∷ 1 ∷ []) status 8 h s.status_is refl)
@@ -145,34 +176,93 @@ module _ (names : ImportNames) (before after : Outside) (status : ℕ) (found : 
   import-done files (NotSettled inputs rec log fault s is held err ten none said same) once told h = absurd (off (0 ∷ 1 ∷ []) status 10 h ten refl)
   import-done files (Settled inputs rec log new s is held ok own kept some d) once told h = go (ended inputs new d)
     where
-      x : (y : Step) × (step_at rec.steps names.step ≡ Some y) × (is_undecided y.shown ≡ true)
-      x = undecided-some (step_at rec.steps names.step) is
-
-      go : Ended (import_texts names inputs new) (summary_in new.order inputs (undecided_of new.steps)) (done_status (undecided_of new.steps)) before after status → IsImported files names before after status found
-      go (Both done all writes) =
-          let accepted = s.accepted files told in
-          let c = changed inputs rec new names.step log x.0 (accepted-auction files names.shown.inputs inputs accepted s.named) s.own x.1 x.2 ok in
-          record {
-            sound = sound-in files inputs rec told s;
-            step = x.0;
-            there = x.1;
-            open_before = x.2;
-            log = log;
-            held = log-in files log told held;
-            new = new;
-            settled = ok;
-            recorded = some;
-            auction = own;
-            left = c.left;
-            rows = c.rows;
-            stored = all files told (apart inputs new some once);
-            summary = writes;
-            status_is = done;
-            verifiable = record-verified files names.shown.inputs inputs new accepted s.named own.backed own.ending kept;
-          }
+      go : Left inputs new → IsImported files names before after status found
+      go (Both done all writes) = record {
+        one = settled-step files inputs rec new log told s is held ok own kept some;
+        stored = all files told (apart inputs new some once);
+        summary = writes;
+        status_is = done;
+      }
       go (NotSaid four all rises less said) = absurd (off (0 ∷ 1 ∷ []) status 4 h four refl)
       go (NotStored y four part rises unsteady said) = absurd (off (0 ∷ 1 ∷ []) status 4 h four refl)
       go (OutOfRoom y eight part said) = absurd (off (0 ∷ 1 ∷ []) status 8 h eight refl)
+
+  import-summed : ImportEnds names before after status found → IsTrue (is_in (0 ∷ 1 ∷ []) status) →
+      (inputs : Inputs) × (rec : Record) × (found ≡ Some rec) × IsRecordIn rec.order inputs rec × (status ≡ done_status (undecided_of rec.steps))
+      × Writes before.held after.held (summary_in rec.order inputs (undecided_of rec.steps)) (Ok tt)
+  import-summed (NothingShown end none) h = absurd (apart-lists (0 ∷ 1 ∷ []) (3 ∷ 5 ∷ 8 ∷ 9 ∷ []) status refl h (unshown-statuses names.shown before after status found end none))
+  import-summed (ImportStarved s) h = absurd (off (0 ∷ 1 ∷ []) status 8 h s.status_is refl)
+  import-summed (NoOpenStep inputs rec fault s is ten none said same) h = absurd (off (0 ∷ 1 ∷ []) status 10 h ten refl)
+  import-summed (NoLog inputs rec s is n none same) h = absurd (apart-lists (0 ∷ 1 ∷ []) (3 ∷ 5 ∷ []) status refl h (unloaded-statuses names.proof before after status n))
+  import-summed (NotSettled inputs rec log fault s is held err ten none said same) h = absurd (off (0 ∷ 1 ∷ []) status 10 h ten refl)
+  import-summed (Settled inputs rec log new s is held ok own kept some d) h = go (ended inputs new d)
+    where
+      go : Left inputs new → (inputs' : Inputs) × (rec' : Record) × (found ≡ Some rec') × IsRecordIn rec'.order inputs' rec' × (status ≡ done_status (undecided_of rec'.steps))
+          × Writes before.held after.held (summary_in rec'.order inputs' (undecided_of rec'.steps)) (Ok tt)
+      go (Both done all writes) = (inputs, new, some, own, done, writes)
+      go (NotSaid four all rises less said) = absurd (off (0 ∷ 1 ∷ []) status 4 h four refl)
+      go (NotStored y four part rises unsteady said) = absurd (off (0 ∷ 1 ∷ []) status 4 h four refl)
+      go (OutOfRoom y eight part said) = absurd (off (0 ∷ 1 ∷ []) status 8 h eight refl)
+
+  -- ---- what was not stored, or not said
+
+  import-stored : (files : List StoredFile) → ImportEnds names before after status found → IsOnce names found → before.files ≡ Some files → status ≡ 4 → IsUnimported files names before after found ⊎ IsUnsummed files names before after found
+  import-stored files (NothingShown end none) once told four = absurd (off (3 ∷ 5 ∷ 8 ∷ 9 ∷ []) status 4 (unshown-statuses names.shown before after status found end none) four refl)
+  import-stored files (ImportStarved s) once told four = let eight = s.status_is in absurd (omega arith)
+  import-stored files (NoOpenStep inputs rec fault s is ten none said same) once told four = absurd (omega arith)
+  import-stored files (NoLog inputs rec s is n none same) once told four = absurd (off (3 ∷ 5 ∷ []) status 4 (unloaded-statuses names.proof before after status n) four refl)
+  import-stored files (NotSettled inputs rec log fault s is held err ten none said same) once told four = absurd (omega arith)
+  import-stored files (Settled inputs rec log new s is held ok own kept some d) once told four = go (ended inputs new d)
+    where
+      go : Left inputs new → IsUnimported files names before after found ⊎ IsUnsummed files names before after found
+      go (Both done all writes) = absurd (never (undecided_of new.steps) status 4 done four refl)
+      go (NotSaid is_four all rises less said) = inr (record {
+        one = settled-step files inputs rec new log told s is held ok own kept some;
+        stored = all files told (apart inputs new some once);
+        failed = rises;
+        unsure = less;
+        summary = said;
+      })
+      go (NotStored y is_four part rises unsteady said) =
+          let p = part files told (apart inputs new some once) in
+          inl (record {
+            risen = rises;
+            unsteady = unsteady;
+            upto = record { one = settled-step files inputs rec new log told s is held ok own kept some; now = p.new; now_told = p.now_told; part = p.part };
+            line = subst (λ (z : NamedText). IsSaid before after (unwritten_line z.name)) (sym p.failed) said;
+          })
+      go (OutOfRoom y eight part said) = absurd (omega arith)
+
+  import-part : (files : List StoredFile) → ImportEnds names before after status found → IsOnce names found → before.files ≡ Some files → status ≡ 8 → IsSome found → IsImportedUpTo files names after found
+  import-part files (NothingShown end none) once told eight there = absurd (true≢false (sym there ∙ ap is_some none))
+  import-part files (ImportStarved s) once told eight there = absurd (true≢false (sym there ∙ ap is_some s.found_is))
+  import-part files (NoOpenStep inputs rec fault s is ten none said same) once told eight there = absurd (omega arith)
+  import-part files (NoLog inputs rec s is n none same) once told eight there = absurd (true≢false (sym there ∙ ap is_some none))
+  import-part files (NotSettled inputs rec log fault s is held err ten none said same) once told eight there = absurd (omega arith)
+  import-part files (Settled inputs rec log new s is held ok own kept some d) once told eight there = go (ended inputs new d)
+    where
+      go : Left inputs new → IsImportedUpTo files names after found
+      go (Both done all writes) = absurd (never (undecided_of new.steps) status 8 done eight refl)
+      go (NotSaid four all rises less said) = absurd (omega arith)
+      go (NotStored y four part rises unsteady said) = absurd (omega arith)
+      go (OutOfRoom y is_eight part said) =
+          let p = part files told (apart inputs new some once) in
+          record { one = settled-step files inputs rec new log told s is held ok own kept some; now = p.new; now_told = p.now_told; part = p.part }
+
+  import-surely : (files : List StoredFile) → ImportEnds names before after status found → before.files ≡ Some files → before.steady ≡ true →
+      ((inputs : Inputs) (order : Order) (undecided : List ClockTest) → inputs_of files names.shown.inputs ≡ Ok inputs → length (summary_in order inputs undecided) ≤ before.sure) → status ≢ 4
+  import-surely files (NothingShown end none) told steady room = λ four. off (3 ∷ 5 ∷ 8 ∷ 9 ∷ []) status 4 (unshown-statuses names.shown before after status found end none) four refl
+  import-surely files (ImportStarved s) told steady room = let eight = s.status_is in λ four. omega arith
+  import-surely files (NoOpenStep inputs rec fault s is ten none said same) told steady room = λ four. omega arith
+  import-surely files (NoLog inputs rec s is n none same) told steady room = λ four. off (3 ∷ 5 ∷ []) status 4 (unloaded-statuses names.proof before after status n) four refl
+  import-surely files (NotSettled inputs rec log fault s is held err ten none said same) told steady room = λ four. omega arith
+  import-surely files (Settled inputs rec log new s is held ok own kept some d) told steady room = λ four. go four (ended inputs new d)
+    where
+      go : status ≡ 4 → Left inputs new → ⊥
+      go four (Both done all writes) = never (undecided_of new.steps) status 4 done four refl
+      go four (NotSaid is_four all rises less said) = let enough = room inputs new.order (undecided_of new.steps) (s.accepted files told) in omega arith
+      go four (NotStored y is_four part rises unsteady said) = unsteady steady
+      go four (OutOfRoom y eight part said) = omega arith
 
   import-paid : (files : List StoredFile) (inputs : Inputs) (rec : Record) (f : FrozenAt) → inputs_of files names.shown.inputs ≡ Ok inputs →
       Contains (outcome rec.order inputs []).frozen f → IsThresholdPrice inputs.scenario inputs.book rec.order f.station f.price
@@ -259,11 +349,11 @@ module _ (names : ImportNames) (before after : Outside) (status : ℕ) (found : 
   import-as_verify (NotSettled inputs rec log fault s is held err ten none said same) nine = absurd (omega arith)
   import-as_verify (Settled inputs rec log new s is held ok own kept some d) nine = absurd (off (0 ∷ 1 ∷ 4 ∷ 8 ∷ []) status 9 (delivered-statuses inputs new d) nine refl)
 
-  import-unloaded : ImportEnds names before after status found → IsTrue (is_in (3 ∷ 5 ∷ []) status) → VerifyPromises names.shown before after status found ⊎ IsNotLoaded names.proof before after status
+  import-unloaded : ImportEnds names before after status found → IsTrue (is_in (3 ∷ 5 ∷ []) status) → VerifyPromises names.shown before after status found ⊎ IsUnlogged names before after status
   import-unloaded (NothingShown end none) h = inl (verify-promises names.shown before after status found end)
   import-unloaded (ImportStarved s) h = absurd (off (3 ∷ 5 ∷ []) status 8 h s.status_is refl)
   import-unloaded (NoOpenStep inputs rec fault s is ten none said same) h = absurd (off (3 ∷ 5 ∷ []) status 10 h ten refl)
-  import-unloaded (NoLog inputs rec s is n none same) h = inr n
+  import-unloaded (NoLog inputs rec s is n none same) h = inr (record { inputs = inputs; rec = rec; shown = s; open_before = is; unloaded = n })
   import-unloaded (NotSettled inputs rec log fault s is held err ten none said same) h = absurd (off (3 ∷ 5 ∷ []) status 10 h ten refl)
   import-unloaded (Settled inputs rec log new s is held ok own kept some d) h = absurd (apart-lists (3 ∷ 5 ∷ []) (0 ∷ 1 ∷ 4 ∷ 8 ∷ []) status refl h (delivered-statuses inputs new d))
 
@@ -345,6 +435,32 @@ module _ (names : ImportNames) (before after : Outside) (status : ℕ) (found : 
   import-unread (NotSettled inputs rec log fault s is held err ten none said same) three = absurd (omega arith)
   import-unread (Settled inputs rec log new s is held ok own kept some d) three = absurd (off (0 ∷ 1 ∷ 4 ∷ 8 ∷ []) status 3 (delivered-statuses inputs new d) three refl)
 
+  import-surely_read : (files : List StoredFile) → ImportEnds names before after status found → before.files ≡ Some files → before.steady ≡ true → AreAllThere files names.shown → IsSome (bytes_of files names.proof) → status ≢ 3
+  import-surely_read files (NothingShown end none) told steady four there = let v = verify-promises names.shown before after status found end in v.surely_read files told steady four
+  import-surely_read files (ImportStarved s) told steady four there = let eight = s.status_is in λ three. omega arith
+  import-surely_read files (NoOpenStep inputs rec fault s is ten none said same) told steady four there = λ three. omega arith
+  import-surely_read files (NoLog inputs rec s is (Unloaded is_three rises absent said) none same) told steady four there = absurd (is-there names.shown before after status found (bytes_of files names.proof) there (absent files told steady))
+  import-surely_read files (NoLog inputs rec s is (LongText five long said) none same) told steady four there = λ three. omega arith
+  import-surely_read files (NotSettled inputs rec log fault s is held err ten none said same) told steady four there = λ three. omega arith
+  import-surely_read files (Settled inputs rec log new s is held ok own kept some d) told steady four there = λ three. off (0 ∷ 1 ∷ 4 ∷ 8 ∷ []) status 3 (delivered-statuses inputs new d) three refl
+
+  -- of a steady folder it is memory alone that stops what should have gone on
+  for-memory : before.steady ≡ true → IsOr 8 before status → status ≡ 8
+  for-memory steady (inl eight) = eight
+  for-memory steady (inr (inl eight)) = eight
+  for-memory steady (inr (inr (three, unsteady))) = absurd (unsteady steady)
+
+  import-missing_log : (files : List StoredFile) (s : IsSoundIn files names.shown) → ImportEnds names before after status found → before.files ≡ Some files → before.steady ≡ true → open_fault (step_at s.rec.steps names.step) ≡ None → bytes_of files names.proof ≡ None →
+      (status ≡ 8) ⊎ ((status ≡ 3) × IsSaid before after (unread_line names.proof))
+  import-missing_log files s (NothingShown end none) told steady f gone = inl (for-memory steady (unshown-or names.shown before after status 8 found files s.inputs s.text s.rec end none told s.given s.shown))
+  import-missing_log files s (ImportStarved e) told steady f gone = inl e.status_is
+  import-missing_log files s (NoOpenStep inputs rec own o at ten none said same) told steady f gone = two-faults (step_at rec.steps names.step) own at (same-fault names rec s.rec (one-record files inputs rec s told o) ∙ f)
+  import-missing_log files s (NoLog inputs rec o at (Unloaded three rises absent said) none same) told steady f gone = inr (three, said)
+  import-missing_log files s (NoLog inputs rec o at (LongText five long said) none same) told steady f gone =
+      let (bytes, is, more) = long files told in absurd (no-text bytes (bytes_of files names.proof) gone is)
+  import-missing_log files s (NotSettled inputs rec log own o at held e ten none said same) told steady f gone = absurd (no-text log (bytes_of files names.proof) gone (held files told).0)
+  import-missing_log files s (Settled inputs rec log new o at held ok own kept some d) told steady f gone = absurd (no-text log (bytes_of files names.proof) gone (held files told).0)
+
   pub import-unwritten : ImportEnds names before after status found → status ≡ 4 → HasRisen before.faults after.faults ⊎ HasRisen before.cuts after.cuts
   import-unwritten (NothingShown end none) four = absurd (off (3 ∷ 5 ∷ 8 ∷ 9 ∷ []) status 4 (unshown-statuses names.shown before after status found end none) four refl)
   import-unwritten (ImportStarved s) four = let eight = s.status_is in absurd (omega arith)
@@ -378,6 +494,7 @@ module _ (names : ImportNames) (before after : Outside) (status : ℕ) (found : 
     statuses = import-statuses end;
     done = λ files told h. import-done files end once told h;
     recorded = import-recorded end;
+    summed = import-summed end;
     unrecorded = λ h. import-unrecorded end (within (3 ∷ 5 ∷ 9 ∷ 10 ∷ []) (2 ∷ 3 ∷ 5 ∷ 9 ∷ 10 ∷ []) status refl h);
     paid = λ files inputs rec f told is some zero bought. import-paid files inputs rec f is bought;
     refused = λ files told ten. import-refused files end told ten;
@@ -393,5 +510,10 @@ module _ (names : ImportNames) (before after : Outside) (status : ℕ) (found : 
     untouched = import-untouched end;
     others = λ files told. import-others files end once told;
     unread = import-unread end;
+    surely_read = λ files told steady four there. import-surely_read files end told steady four there;
+    missing_log = λ files s told steady f gone. import-missing_log files s end told steady f gone;
     unwritten = import-unwritten end;
+    stored = λ files told four. import-stored files end once told four;
+    part_stored = λ files told eight there. import-part files end once told eight there;
+    surely_written = λ files told steady room. import-surely files end told steady room;
   }

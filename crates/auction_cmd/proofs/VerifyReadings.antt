@@ -81,7 +81,7 @@ module _ (names : VerifyNames) (before after : Outside) (status : ℕ) (found : 
   inputs-there : (files : List StoredFile) → AreAllThere files names → AreThere files names.inputs
   inputs-there files there = record { domains = there.domains; rows = there.rows; scenario = there.scenario }
 
-  is-there : (held : Option (List ℕ)) → IsSome held → held ≡ None → ⊥
+  pub is-there : (held : Option (List ℕ)) → IsSome held → held ≡ None → ⊥
   is-there (Some bytes) some none = cc
   is-there None some none = cc
 

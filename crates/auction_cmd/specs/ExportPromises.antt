@@ -56,8 +56,11 @@ pub record ExportPromises (names : ExportNames) (before after : Outside) (status
   pub refuses_long : (files : List StoredFile) (inputs : Inputs) (bytes : List ℕ) →
       before.files ≡ Some files → inputs_of files names.shown.inputs ≡ Ok inputs → bytes_of files names.shown.transcript ≡ Some bytes →
       file_limit < length bytes → IsOr 5 before status
-  -- Status 4 comes only where the store failed, of a folder that isn't steady, and the line names the file.
+  -- Status 4 comes only where the store failed, of a folder that isn't steady, of a step of a sound transcript, and the line
+  -- names the file.
   pub unwritten : status ≡ 4 → HasRisen before.faults after.faults × (before.steady ≢ true) × IsSaid before after (unwritten_line names.formula)
+  pub unstored : (files : List StoredFile) → before.files ≡ Some files → status ≡ 4 →
+      (x : Step) × IsAsked files names.shown names.step (Some x)
   -- Of a sound transcript each step's formula is stored, but for want of memory and faults of the outside.
   pub complete : (files : List StoredFile) (x : Step) → before.files ≡ Some files → IsAsked files names.shown names.step (Some x) →
       IsOr 0 before status ⊎ (status ≡ 4)

@@ -1,8 +1,9 @@
 -- What may be relied on of `import`, a clause each.
-use Rattle.std.specs.Prelude.{Contains, ◌≡◌, ◌⊎◌, ◌<◌, ◌≤◌, ℕ, true, List, [], ◌∷◌, length, map, Option, Some, None, Ok, Err, IsTrue, MatchOption}
+use Rattle.std.specs.Prelude.{Contains, ◌≡◌, ◌≢◌, ◌⊎◌, ◌<◌, ◌≤◌, ℕ, true, List, [], ◌∷◌, length, map, Option, Some, None, Ok, Err, IsSome, IsTrue, MatchOption}
 use Rattle.pack_defs.specs.Lists.{is_in}
-use Rattle.pack_defs.specs.ClockRule.{FrozenAt}
+use Rattle.pack_defs.specs.ClockRule.{ClockTest, FrozenAt}
 use Rattle.pack_defs.specs.ResultRows.{result_rows}
+use Rattle.pack_defs.specs.declared.order.Order.{Order}
 use Rattle.pack_defs.specs.Threshold.{IsThresholdPrice}
 use Rattle.outside_io.specs.Faults.{HasRisen}
 use Rattle.outside_io.specs.Files.{StoredFile, bytes_of}
@@ -21,14 +22,15 @@ use Rattle.auction_cmd.specs.declared.inputs.Inputs.{Inputs}
 use Rattle.auction_cmd.specs.declared.inputs.Stop.TheVariants.{Refused}
 use Rattle.auction_cmd.specs.declared.refusal.Refusal.{Refusal}
 use Rattle.auction_cmd.specs.declared.settling.StepFault.{StepFault}
-use Rattle.auction_cmd.specs.Delivery.{AllOthersStand, AreStored}
-use Rattle.auction_cmd.specs.Ends.{AreHeld, IsNotLoaded, import_texts}
+use Rattle.auction_cmd.specs.Delivery.{AllOthersStand, AreStored, AreStoredUpTo, NamedText}
+use Rattle.auction_cmd.specs.Ends.{AreHeld, IsNotLoaded, IsShown, import_texts}
 use Rattle.auction_cmd.specs.Inputs.{file_limit, inputs_of}
 use Rattle.auction_cmd.specs.Outside.{Outside, IsSaid}
 use Rattle.auction_cmd.specs.Records.{IsRecordIn, done_status, outcome, summary_in}
+use Rattle.auction_cmd.specs.Says.{unread_line, unwritten_line}
 use Rattle.auction_cmd.specs.Settling.{log_line, open_fault, step_line}
 use Rattle.auction_cmd.specs.Verified.{verified}
-use Rattle.auction_cmd.specs.VerifyPromises.{IsGiven, IsOr, VerifyPromises}
+use Rattle.auction_cmd.specs.VerifyPromises.{AreAllThere, IsGiven, IsOr, VerifyPromises}
 use Rattle.auction_cmd.specs.Words.{ImportNames, VerifyNames}
 
 -- the transcript that the files hold is sound
@@ -46,10 +48,9 @@ pub record IsLogIn (files : List StoredFile) (name log : List ℕ) : Type 0 wher
 
 -- A step that the record of a sound transcript shows undecided is settled by the log that a file holds, and the record has the
 -- step shown by that proof. The new record is one of the inputs' auction; it leaves the tests open that the old one left, without
--- the step's. The rows of its result are the old ones, that test's undecided made frozen. RESULT holds their text, NEWTRANSCRIPT
--- that of the record, all other files stand, and the sink grew by the summary. Whoever verifies the new transcript beside the same
--- inputs gets the new record.
-pub record IsImported (files : List StoredFile) (names : ImportNames) (before after : Outside) (status : ℕ) (found : Option Record) : Type 0 where
+-- the step's. The rows of its result are the old ones, that test's undecided made frozen. Whoever verifies its transcript beside
+-- the same inputs gets it.
+pub record IsSettledStep (files : List StoredFile) (names : ImportNames) (found : Option Record) : Type 0 where
   pub sound : IsSoundIn files names.shown
   pub step : Step
   pub there : step_at sound.rec.steps names.step ≡ Some step
@@ -64,10 +65,56 @@ pub record IsImported (files : List StoredFile) (names : ImportNames) (before af
   pub rows : result_rows sound.inputs.scenario (outcome new.order sound.inputs (undecided_of new.steps)) (undecided_of new.steps)
       ≡ map (decided_row (test_of step))
       (result_rows sound.inputs.scenario (outcome sound.rec.order sound.inputs (undecided_of sound.rec.steps)) (undecided_of sound.rec.steps))
-  pub stored : MatchOption after.files ⊥ (λ now. AreStored files now (import_texts names sound.inputs new))
-  pub summary : Writes before.held after.held (summary_in new.order sound.inputs (undecided_of new.steps)) (Ok tt)
-  pub status_is : status ≡ done_status (undecided_of new.steps)
   pub verifiable : verified sound.inputs (transcript_text sound.inputs.scenario sound.inputs.book new) ≡ Ok new
+
+-- the texts of the new record, and its summary
+abbrev pub new_texts : {files : List StoredFile} {names : ImportNames} {found : Option Record} → IsSettledStep files names found → List NamedText
+new_texts {files} {names} one = import_texts names one.sound.inputs one.new
+
+abbrev pub new_summary : {files : List StoredFile} {names : ImportNames} {found : Option Record} → IsSettledStep files names found → List ℕ
+new_summary one = summary_in one.new.order one.sound.inputs (undecided_of one.new.steps)
+
+-- RESULT and NEWTRANSCRIPT hold their texts, and all other files stand
+abbrev pub AreNewStored : {files : List StoredFile} {names : ImportNames} {found : Option Record} → IsSettledStep files names found → Outside → Type 0
+AreNewStored {files} one after = MatchOption after.files ⊥ (λ now. AreStored files now (new_texts one))
+
+-- the step is settled, both texts stored, and the sink grew by the summary
+pub record IsImported (files : List StoredFile) (names : ImportNames) (before after : Outside) (status : ℕ) (found : Option Record) : Type 0 where
+  pub one : IsSettledStep files names found
+  pub stored : AreNewStored one after
+  pub summary : Writes before.held after.held (new_summary one) (Ok tt)
+  pub status_is : status ≡ done_status (undecided_of one.new.steps)
+
+-- A store of a settled step's record was not done: the text before it stands under its name, that name may hold anything, and
+-- all other files are what they were.
+pub record IsImportedUpTo (files : List StoredFile) (names : ImportNames) (after : Outside) (found : Option Record) : Type 0 where
+  pub one : IsSettledStep files names found
+  pub now : List StoredFile
+  pub now_told : after.files ≡ Some now
+  pub part : AreStoredUpTo files now (new_texts one)
+
+-- the store failed, of a folder that isn't steady, and the line names the file
+pub record IsUnimported (files : List StoredFile) (names : ImportNames) (before after : Outside) (found : Option Record) : Type 0 where
+  pub risen : HasRisen before.faults after.faults
+  pub unsteady : before.steady ≢ true
+  pub upto : IsImportedUpTo files names after found
+  pub line : IsSaid before after (unwritten_line upto.part.failed.name)
+
+-- Both texts are stored, and the summary was not written, or no more than some of it: the sink was not sure of it.
+pub record IsUnsummed (files : List StoredFile) (names : ImportNames) (before after : Outside) (found : Option Record) : Type 0 where
+  pub one : IsSettledStep files names found
+  pub stored : AreNewStored one after
+  pub failed : HasRisen before.cuts after.cuts
+  pub unsure : before.sure < length (new_summary one)
+  pub summary : IsSaid before after (new_summary one)
+
+-- the log of an undecided step of a sound transcript was not loaded
+pub record IsUnlogged (names : ImportNames) (before after : Outside) (status : ℕ) : Type 0 where
+  pub inputs : Inputs
+  pub rec : Record
+  pub shown : IsShown names.shown before inputs rec
+  pub open_before : open_fault (step_at rec.steps names.step) ≡ None
+  pub unloaded : IsNotLoaded names.proof before after status
 
 pub record ImportPromises (names : ImportNames) (before after : Outside) (status : ℕ) (found : Option Record) : Type 0 where
   pub statuses : IsTrue (is_in (0 ∷ 1 ∷ 3 ∷ 4 ∷ 5 ∷ 8 ∷ 9 ∷ 10 ∷ []) status)
@@ -79,6 +126,12 @@ pub record ImportPromises (names : ImportNames) (before after : Outside) (status
   pub recorded : IsTrue (is_in (0 ∷ 1 ∷ 4 ∷ []) status) →
       (inputs : Inputs) × (rec : Record) × AreHeld names.shown.inputs before inputs × (found ≡ Some rec) × IsRecordIn rec.order inputs rec
   pub unrecorded : IsTrue (is_in (3 ∷ 5 ∷ 9 ∷ 10 ∷ []) status) → found ≡ None
+  -- Also where the folder tells nothing, the sink grew at 0 and 1 by the summary of the record, and the status is 0 exactly
+  -- where no test was left open.
+  pub summed : IsTrue (is_in (0 ∷ 1 ∷ []) status) →
+      (inputs : Inputs) × (rec : Record) × (found ≡ Some rec) × IsRecordIn rec.order inputs rec
+      × (status ≡ done_status (undecided_of rec.steps))
+      × Writes before.held after.held (summary_in rec.order inputs (undecided_of rec.steps)) (Ok tt)
   -- Where every test is decided then, each station that is bought is paid the greatest admissible value with which it would have
   -- been bought, by the rule in the transcript's order.
   pub paid : (files : List StoredFile) (inputs : Inputs) (rec : Record) (f : FrozenAt) → before.files ≡ Some files →
@@ -101,10 +154,11 @@ pub record ImportPromises (names : ImportNames) (before after : Outside) (status
       before.files ≡ Some files → open_fault (step_at s.rec.steps names.step) ≡ None → IsLogIn files names.proof log →
       settled_text s.inputs.book s.rec names.step log ≡ Ok new →
       IsOr (done_status (undecided_of new.steps)) before status ⊎ (status ≡ 4)
-  -- At 9 it ended as `verify` ends, and at 3 and 5 too, or since the log was not loaded. Where `verify` would end so it does.
+  -- At 9 it ended as `verify` ends, and at 3 and 5 too, or since the log was not loaded, of a sound transcript and an undecided
+  -- step. Where `verify` would end so it does.
   pub as_verify : status ≡ 9 → VerifyPromises names.shown before after status found
   pub unloaded : IsTrue (is_in (3 ∷ 5 ∷ []) status) →
-      VerifyPromises names.shown before after status found ⊎ IsNotLoaded names.proof before after status
+      VerifyPromises names.shown before after status found ⊎ IsUnlogged names before after status
   pub refuses : (files : List StoredFile) (inputs : Inputs) (text : List ℕ) (fault : TranscriptFault) →
       before.files ≡ Some files → IsGiven files names.shown inputs text → verified inputs text ≡ Err fault → IsOr 9 before status
   pub refuses_input : (files : List StoredFile) (why : Refusal) →
@@ -119,5 +173,22 @@ pub record ImportPromises (names : ImportNames) (before after : Outside) (status
   pub untouched : IsTrue (is_in (3 ∷ 5 ∷ 9 ∷ 10 ∷ []) status) → after.files ≡ before.files
   pub others : (files : List StoredFile) → before.files ≡ Some files →
       MatchOption after.files ⊥ (λ now. AllOthersStand files now (names.result ∷ names.transcript ∷ []))
+  -- Status 3 comes only where the folder's count of faults rose, and never over a steady folder that has the five files. Where
+  -- of such a folder the log alone is missing, the line names it.
   pub unread : status ≡ 3 → HasRisen before.faults after.faults
+  pub surely_read : (files : List StoredFile) →
+      before.files ≡ Some files → before.steady ≡ true → AreAllThere files names.shown → IsSome (bytes_of files names.proof) → status ≢ 3
+  pub missing_log : (files : List StoredFile) (s : IsSoundIn files names.shown) →
+      before.files ≡ Some files → before.steady ≡ true → open_fault (step_at s.rec.steps names.step) ≡ None →
+      bytes_of files names.proof ≡ None → (status ≡ 8) ⊎ ((status ≡ 3) × IsSaid before after (unread_line names.proof))
+  -- Status 4 comes only where a count of faults rose: the step is settled, and a store failed, or both texts are stored and the
+  -- summary was written, or some of it from the first byte on. It never comes over a steady folder and a sink that surely takes
+  -- the summary. Where memory runs out at a store, there is a record, and the text before it is stored.
   pub unwritten : status ≡ 4 → HasRisen before.faults after.faults ⊎ HasRisen before.cuts after.cuts
+  pub stored : (files : List StoredFile) → before.files ≡ Some files → status ≡ 4 →
+      IsUnimported files names before after found ⊎ IsUnsummed files names before after found
+  pub part_stored : (files : List StoredFile) → before.files ≡ Some files → status ≡ 8 → IsSome found →
+      IsImportedUpTo files names after found
+  pub surely_written : (files : List StoredFile) → before.files ≡ Some files → before.steady ≡ true →
+      ((inputs : Inputs) (order : Order) (undecided : List ClockTest) → inputs_of files names.shown.inputs ≡ Ok inputs →
+      length (summary_in order inputs undecided) ≤ before.sure) → status ≢ 4
