@@ -105,7 +105,7 @@ fn leaves_none(rec: &Record) -> bool {
 fn a_test_left_open_is_settled(rt: HostRuntime) -> Result<(), Fail> {
     let alloc = rt.alloc();
     let book = three_stations(alloc)?;
-    let sc = three_bids(alloc)?;
+    let sc = three_bids(alloc, 70, 1)?;
     let Some(rec) = record_in(alloc, &sc, &book, LEFT_OPEN) else {
         return Err(Fail::new("no record"));
     };

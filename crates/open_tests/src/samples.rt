@@ -1,10 +1,10 @@
-//! The auction of three stations for the tests, by a worker that may spend one line, and its record.
+//! Small auctions for the tests, and the records of their transcripts.
 
-ghost use Rattle.std.specs.Prelude.{◌≡◌, ◌≤◌, ◌∷◌, [], IfOk, IfSome, IsTrue, Some, length};
+ghost use Rattle.std.specs.Prelude.{◌≡◌, ◌≤◌, ◌∷◌, [], All, IfOk, IfSome, IsTrue, None, Some, length};
 ghost use Rattle.std.specs.List.{list_all};
 ghost use Rattle.pack_defs.specs.Book.{AreInOrder, is_of_two, pairs_ascend, stations_of};
 ghost use Rattle.pack_defs.specs.Lists.{is_ascending};
-ghost use Rattle.pack_defs.specs.Scenario.{IsWithinLimits, facilities};
+ghost use Rattle.pack_defs.specs.Scenario.{IsStationWithinLimits, IsWithinLimits, StationsAscend, facilities};
 ghost use Rattle.auction_core.specs.Backed.{IsBacked};
 ghost use Rattle.auction_core.specs.Setup.{IsOfAuction};
 
@@ -37,7 +37,12 @@ fn on_one(f: u32, g: u32, c: u8) -> Pair
 }
 
 // The book of these stations, up to channel 15.
-fn book(alloc: Global, ids: &[u32], domains: &[Domain], pairs: &[Pair]) -> Result<Book, NoMemory>
+pub(crate) fn book(
+    alloc: Global,
+    ids: &[u32],
+    domains: &[Domain],
+    pairs: &[Pair],
+) -> Result<Book, NoMemory>
     requires ids { IsTrue (is_ascending ids.now) }
     requires few { length ids.now ≤ 8192 }
     requires domains { AreInOrder domains.now }
@@ -64,7 +69,8 @@ pub(crate) fn three_stations(alloc: Global) -> Result<Book, NoMemory>
     book(alloc, &[1, 2, 3], &domains, &pairs)
 }
 
-fn bid(id: u32, value: u64) -> Station
+// A station of volume 1 with this value.
+pub(crate) fn bid(id: u32, value: u64) -> Station
     ensures { result ≡ record { id = id; volume = 1; value = Some value } }
 {
     Station {
@@ -74,14 +80,23 @@ fn bid(id: u32, value: u64) -> Station
     }
 }
 
-// Their auction, which opens at 100 cents and falls by 40 twice.
-pub(crate) fn three_bids(alloc: Global) -> Result<Scenario, NoMemory>
+// The auction of these stations by a worker that learns and may spend so many lines. It opens at 100 cents and falls by 40 twice.
+pub(crate) fn auction_of(
+    alloc: Global,
+    stations: Vec<Station>,
+    budget: u64,
+) -> Result<Scenario, NoMemory>
+    requires few { length stations.items ≤ 8192 }
+    requires ascend { StationsAscend (record { version = 1; top = 15; opening = 100; fall = Fall.Listed []; stations = stations.items; workers = []; owners = None }) }
+    requires limits { All IsStationWithinLimits stations.items }
+    requires some { 1 ≤ budget }
+    requires most { budget ≤ 1000 }
     ensures limits { IfOk result IsWithinLimits }
-    ensures stations { IfOk result (λ sc. facilities sc ≡ 1 ∷ 2 ∷ 3 ∷ []) }
+    ensures stations { IfOk result (λ sc. sc.stations ≡ stations.items) }
 {
     let worker = Worker {
         kind: Kind::Cdcl,
-        budget: 1,
+        budget,
         seed: 0,
     };
     Ok(Scenario {
@@ -89,10 +104,22 @@ pub(crate) fn three_bids(alloc: Global) -> Result<Scenario, NoMemory>
         top: 15,
         opening: 100,
         fall: Fall::Listed(Items::from_vec(vec![in alloc; 40, 40]?)),
-        stations: Items::from_vec(vec![in alloc; bid(1, 50), bid(2, 70), bid(3, 10)]?),
+        stations: Items::from_vec(stations),
         workers: Items::from_vec(vec![in alloc; worker]?),
         owners: None,
     })
+}
+
+// The auction of stations 1 to 3, of which the second has this value.
+pub(crate) fn three_bids(alloc: Global, value: u64, budget: u64) -> Result<Scenario, NoMemory>
+    requires value { value ≤ 1000 }
+    requires some { 1 ≤ budget }
+    requires most { budget ≤ 1000 }
+    ensures limits { IfOk result IsWithinLimits }
+    ensures stations { IfOk result (λ sc. facilities sc ≡ 1 ∷ 2 ∷ 3 ∷ []) }
+{
+    let stations = vec![in alloc; bid(1, 50), bid(2, value), bid(3, 10)]?;
+    auction_of(alloc, stations, budget)
 }
 
 // The record of this transcript, if it is sound.

@@ -1,69 +1,18 @@
 //! The queries of small auctions' steps, found again in their records.
 
-ghost use Rattle.std.specs.Prelude.{◌≡◌, ◌≤◌, ◌∷◌, [], All, IfOk, IfSome, IsTrue, length, true};
-ghost use Rattle.std.specs.List.{list_all, list_any};
-ghost use Rattle.pack_defs.specs.Book.{AreInOrder, is_of_two, pairs_ascend, stations_of};
-ghost use Rattle.pack_defs.specs.Lists.{is_ascending};
-ghost use Rattle.pack_defs.specs.Scenario.{IsStationWithinLimits, IsWithinLimits, StationsAscend, facilities};
+ghost use Rattle.std.specs.Prelude.{◌≡◌, ◌≤◌, ◌∷◌, [], IfOk, length};
+ghost use Rattle.pack_defs.specs.Book.{stations_of};
+ghost use Rattle.pack_defs.specs.Scenario.{IsWithinLimits, facilities};
 ghost use Rattle.auction_core.specs.Backed.{IsBacked};
+ghost use Rattle.auction_core.specs.Setup.{IsOfAuction};
 
+use crate::samples::{auction_of, bid, book, record_in, three_bids, three_stations};
 use crate::task::task_at;
 use auction_core::record::Record;
 use pack_defs::book::Book;
-use pack_defs::domain::Domain;
-use pack_defs::fall::Fall;
-use pack_defs::items::Items;
-use pack_defs::pair::Pair;
 use pack_defs::scenario::Scenario;
-use pack_defs::station::Station;
-use pack_defs::worker::{Kind, Worker};
 use std::alloc::{AllocError as NoMemory, Global};
 use std::test::Fail;
-use transcript_check::verify::verify;
-use transcript_text::read::read_transcript;
-
-// A station that may use channels 14 and 15.
-fn on_both(alloc: Global, station: u32) -> Result<Domain, NoMemory>
-    ensures { IfOk result (λ d. d ≡ record { station = station; channels = 14 ∷ 15 ∷ [] }) }
-{
-    let channels = Items::from_vec(Vec::from_slice(alloc, &[14, 15])?);
-    Ok(Domain { station, channels })
-}
-
-// A pair of two stations on one channel.
-fn on_one(f: u32, g: u32, c: u8) -> Pair
-    ensures { result ≡ record { f = f; a = c; g = g; b = c } }
-{
-    Pair { f, a: c, g, b: c }
-}
-
-// The book of these stations, up to channel 15.
-fn book(alloc: Global, ids: &[u32], domains: &[Domain], pairs: &[Pair]) -> Result<Book, NoMemory>
-    requires ids { IsTrue (is_ascending ids.now) }
-    requires few { length ids.now ≤ 8192 }
-    requires domains { AreInOrder domains.now }
-    requires pairs { IsTrue (pairs_ascend pairs.now) }
-    requires of_two { IsTrue (list_all is_of_two pairs.now) }
-    ensures { IfOk result (λ book. stations_of book ≡ ids.now) }
-{
-    Book::build(alloc, 15, ids, domains, pairs)
-}
-
-// Three stations on two channels, of which no two may share one.
-fn three_stations(alloc: Global) -> Result<Book, NoMemory>
-    ensures { IfOk result (λ book. stations_of book ≡ 1 ∷ 2 ∷ 3 ∷ []) }
-{
-    let domains = [on_both(alloc, 1)?, on_both(alloc, 2)?, on_both(alloc, 3)?];
-    let pairs = [
-        on_one(1, 2, 14),
-        on_one(1, 3, 14),
-        on_one(1, 2, 15),
-        on_one(1, 3, 15),
-        on_one(2, 3, 14),
-        on_one(2, 3, 15),
-    ];
-    book(alloc, &[1, 2, 3], &domains, &pairs)
-}
 
 // One station without a channel.
 fn lone_station(alloc: Global) -> Result<Book, NoMemory>
@@ -72,78 +21,16 @@ fn lone_station(alloc: Global) -> Result<Book, NoMemory>
     book(alloc, &[1], &[], &[])
 }
 
-fn bid(id: u32, value: u64) -> Station
-    ensures { result ≡ record { id = id; volume = 1; value = Some value } }
-{
-    Station {
-        id,
-        volume: 1,
-        value: Some(value),
-    }
-}
-
-// The auction of these stations by a worker that learns. It opens at 100 cents and falls by 40 twice.
-fn auction_of(alloc: Global, stations: Vec<Station>) -> Result<Scenario, NoMemory>
-    requires few { length stations.items ≤ 8192 }
-    requires ascend { StationsAscend (record { version = 1; top = 15; opening = 100; fall = Fall.Listed []; stations = stations.items; workers = []; owners = None }) }
-    requires limits { All IsStationWithinLimits stations.items }
-    ensures limits { IfOk result IsWithinLimits }
-    ensures stations { IfOk result (λ sc. sc.stations ≡ stations.items) }
-{
-    let worker = Worker {
-        kind: Kind::Cdcl,
-        budget: 1000,
-        seed: 0,
-    };
-    Ok(Scenario {
-        version: 1,
-        top: 15,
-        opening: 100,
-        fall: Fall::Listed(Items::from_vec(vec![in alloc; 40, 40]?)),
-        stations: Items::from_vec(stations),
-        workers: Items::from_vec(vec![in alloc; worker]?),
-        owners: None,
-    })
-}
-
-// The auction of stations 1 to 3, of which the second has this value.
-fn three_bids(alloc: Global, value: u64) -> Result<Scenario, NoMemory>
-    requires value { value ≤ 1000 }
-    ensures limits { IfOk result IsWithinLimits }
-    ensures stations { IfOk result (λ sc. facilities sc ≡ 1 ∷ 2 ∷ 3 ∷ []) }
-{
-    auction_of(
-        alloc,
-        vec![in alloc; bid(1, 50), bid(2, value), bid(3, 10)]?,
-    )
-}
-
 // The auction of station 1 alone.
 fn lone_bid(alloc: Global) -> Result<Scenario, NoMemory>
     ensures limits { IfOk result IsWithinLimits }
     ensures stations { IfOk result (λ sc. facilities sc ≡ 1 ∷ []) }
 {
-    auction_of(alloc, vec![in alloc; bid(1, 5)]?)
+    auction_of(alloc, vec![in alloc; bid(1, 5)]?, 1000)
 }
 
 // A step's query: its number, its round, its station, the set and the map on it.
 type Row<'a> = (u64, u32, u32, &'a [u32], &'a [(u32, u8)]);
-
-// The record that a transcript shows, if it is one.
-fn record_in(alloc: Global, sc: &Scenario, book: &Book, text: &[u8]) -> Option<Record>
-    requires limits { IsWithinLimits sc.now }
-    requires stations { stations_of book.now ≡ facilities sc.now }
-    ensures backed { IfSome result (λ rec. IsBacked rec.scenario book.now rec.order rec) }
-    ensures limits { IfSome result (λ rec. IsWithinLimits rec.scenario) }
-{
-    let Ok(transcript) = read_transcript(alloc, text, sc, book) else {
-        return None;
-    };
-    match verify(alloc, book, sc, transcript) {
-        Ok(rec) => Some(rec),
-        Err(_) => None,
-    }
-}
 
 // Whether the query of the step of this number is the row's.
 fn is_asked(
@@ -173,8 +60,7 @@ fn first_other(
     text: &[u8],
     rows: &[Row<'_>],
 ) -> Result<Option<usize>, NoMemory>
-    requires limits { IsWithinLimits sc.now }
-    requires stations { stations_of book.now ≡ facilities sc.now }
+    requires { IsOfAuction sc.now book.now }
 {
     let Some(rec) = record_in(alloc, sc, book, text) else {
         return Ok(Some(0));
@@ -219,9 +105,9 @@ const OF_BESIDE: &[Row] = &[
 fn queries_are_found_again(rt: HostRuntime) -> Result<(), Fail> {
     let alloc = rt.alloc();
     let book = three_stations(alloc)?;
-    let sc = three_bids(alloc, 70)?;
+    let sc = three_bids(alloc, 70, 1000)?;
     assert_eq!(rt; first_other(alloc, &sc, &book, WHOLE, OF_WHOLE)?, None);
-    let sc = three_bids(alloc, 101)?;
+    let sc = three_bids(alloc, 101, 1000)?;
     assert_eq!(rt; first_other(alloc, &sc, &book, BESIDE, OF_BESIDE)?, None);
     Ok(())
 }
