@@ -84,7 +84,7 @@ pub(crate) fn bid(id: u32, value: u64) -> Station
 pub(crate) fn auction_of(
     alloc: Global,
     stations: Vec<Station>,
-    budget: u64,
+    budget: u32,
 ) -> Result<Scenario, NoMemory>
     requires few { length stations.items ≤ 8192 }
     requires ascend { StationsAscend (record { version = 1; top = 15; opening = 100; fall = Fall.Listed []; stations = stations.items; workers = []; owners = None }) }
@@ -111,7 +111,7 @@ pub(crate) fn auction_of(
 }
 
 // The auction of stations 1 to 3, of which the second has this value.
-pub(crate) fn three_bids(alloc: Global, value: u64, budget: u64) -> Result<Scenario, NoMemory>
+pub(crate) fn three_bids(alloc: Global, value: u64, budget: u32) -> Result<Scenario, NoMemory>
     requires value { value ≤ 1000 }
     requires some { 1 ≤ budget }
     requires most { budget ≤ 1000 }
