@@ -187,14 +187,14 @@ fn logs_are_imported(rt: HostRuntime) -> Result<(), Fail> {
 }
 
 // A refutation of so many lines: the first line, again and again, and the last.
-fn long_log(alloc: Global, lines: u64) -> Result<String, NoMemory> {
+fn long_log(alloc: Global, lines: u32) -> Result<String, NoMemory> {
+    let last = 12 + u64::from(lines);
     let mut log = String::from_str(alloc, "13 -1 0 7 2 8 3 12 0\n")?;
-    for number in 14..12 + lines {
+    for number in 14..last {
         let line = format!(in alloc; "{number} -1 0 13 0\n")?;
         log.push_str(&line)?;
     }
-    let number = 12 + lines;
-    let last = format!(in alloc; "{number} 0 13 1 9 2 10 3 11 0\n")?;
+    let last = format!(in alloc; "{last} 0 13 1 9 2 10 3 11 0\n")?;
     log.push_str(&last)?;
     Ok(log)
 }
