@@ -1,5 +1,5 @@
 -- What some records and lines say behind what was said, one after another, and that a refusal passes on.
-use Rattle.std.proofs.Common.{◌≡◌, ◌∙◌, ◌<◌, ◌≤◌, ◌+◌, ◌∷◌, [], ℕ, List, Result, Ok, Err, refl, sym, ap, subst, length, map, drop, get_or}
+use Rattle.std.proofs.Common.{◌≡◌, ◌∙◌, ◌<◌, ◌≤◌, ◌+◌, ◌∷◌, [], ℕ, List, Ok, Err, refl, sym, ap, subst, length, map, drop, get_or}
 use Rattle.std.proofs.lemmas.List.{drop_all, drop_more, length-map}
 use Rattle.std.proofs.Math.ListN.{get_or-map}
 use Rattle.constraint_files.specs.Records.{line_records, lines_of}

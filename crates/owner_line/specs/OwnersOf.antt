@@ -1,6 +1,6 @@
--- What an owners' file says: the lines of a live auction. Its form is this project's own; its lines, records and numbers are
--- those of the constraint files.
-use Rattle.std.specs.Prelude.{ℕ, Bool, nat_lt, ◌+◌, if◌then◌else◌, List, [], ◌∷◌, ◌++◌, Option, Some, None, Result, Ok, Err, codes}
+-- What an owners' file says: the lines of a live auction. Its form is this project's own; its lines, records and numbers
+-- are those of the constraint files.
+use Rattle.std.specs.Prelude.{ℕ, Bool, true, false, nat_lt, ◌+◌, if◌then◌else◌, List, [], ◌∷◌, ◌++◌, Option, Some, None, Result, Ok, Err, codes}
 use Rattle.std.specs.Option.{ok_or, option_map}
 use Rattle.std.specs.Str.{bytes_eq}
 use Rattle.pack_defs.specs.Lists.{is_in}
@@ -62,8 +62,8 @@ abbrev pub after_line : ℕ → Result (List OwnerLine) OwnerWhy → (List Owner
 after_line line (Ok next) rest = rest next
 after_line line (Err why) rest = Err (Row line why)
 
--- What was said with the lines of the records of these lines of the file, of which the first has this number. The first record
--- that is refused refuses all, with its line's number.
+-- What was said with the lines of the records of these lines of the file, of which the first has this number. The first
+-- record that is refused refuses all, with its line's number.
 unfoldable pub with_file_lines : ℕ → List ℕ → List OwnerLine → ℕ → List (List ℕ) → Result (List OwnerLine) OwnerErr
 with_file_lines R ids said number [] = Ok said
 with_file_lines R ids said number (line ∷ lines) =

@@ -10,7 +10,7 @@ use thiserror::Error;
 /// Why a record of an owners' file is refused: the first that holds, in this order.
 #[derive(Clone, Copy, Debug, PartialEq, Eq, Error)]
 pub enum OwnerWhy {
-    /// It has not three fields.
+    /// It has fewer fields than three, or more.
     #[error("not three fields")]
     Fields,
     /// Its first or its second field isn't a number.
@@ -25,7 +25,7 @@ pub enum OwnerWhy {
     /// Its third field is neither `stay` nor `leave`.
     #[error("bad word")]
     BadWord,
-    /// A line for this round and station is there already.
+    /// An earlier record is of the same round and station.
     #[error("repeated")]
     Repeated,
 }

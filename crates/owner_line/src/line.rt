@@ -27,7 +27,8 @@ fn is_in(set: &[u32], number: u32) -> bool
     set.binary_search(&number).is_ok()
 }
 
-/// The line of this round, station and word, where the price falls in so many rounds and the auction has these stations.
+/// The line of this round, station and word, where the price falls in so many rounds and the auction has these
+/// stations.
 fn line_on(
     rounds: u32,
     ids: &[u32],

@@ -1,5 +1,5 @@
-//! The reader of an owners' file: from its bytes to what the owners say, record after record. Its lines, records and numbers
-//! are those of the constraint files.
+//! The reader of an owners' file: from its bytes to what the owners say, record after record. Its lines, records and
+//! numbers are those of the constraint files.
 
 ghost use Rattle.std.specs.Prelude.{◌≡◌, map, true};
 ghost use Rattle.constraint_files.specs.Records.{line_records};
@@ -14,12 +14,7 @@ use pack_defs::owners::Owners;
 use std::alloc::Global;
 
 /// Adds what a record says. After an error the owners are lost.
-fn add_record(
-    owners: &mut Owners,
-    rounds: u32,
-    ids: &[u32],
-    row: &[Vec<u8>],
-) -> Result<(), AddErr>
+fn add_record(owners: &mut Owners, rounds: u32, ids: &[u32], row: &[Vec<u8>]) -> Result<(), AddErr>
     requires { is_ascending ids.now ≡ true }
     ensures { Changes (with_record rounds ids.now owners.old (map (λ f. f.items) row.now)) owners.new result }
 {
@@ -48,15 +43,18 @@ fn add_line(
     Ok(())
 }
 
-/// Reads an owners' file, for an auction with these stations, ascending, whose price falls in so many rounds. Each of its
-/// records is `round,facility,word`: in this round, from 0 to the last fall, the station stays in the clock (`stay`) or does
-/// not (`leave`). Without a line it does not. Lines, records and numbers are those of the constraint files.
+/// Reads an owners' file, for an auction with these stations, ascending, whose price falls in so many rounds. Each of
+/// its records is `round,facility,word`: in this round, from 0, that of the opening price, to that of the last fall, the
+/// station stays in the clock (`stay`) or does not (`leave`). Without a record it does not. The owners have a line for
+/// each record, in the order of the file. Lines, records and numbers are those of the constraint files.
+///
+/// A record costs two searches by halves: one among the stations, and one among what is said already.
 ///
 /// # Errors
 ///
-/// `Row` at the first record with a fault, with its line's number, counted from 1, and its first fault: not three fields, a
-/// round or a facility that is no number, a round above the last fall, a station that the auction has not, another word, or a
-/// line for that round and station that is there already. `NoMemory` where memory runs out.
+/// `Row` at the first record with a fault, with its line's number, counted from 1, and its first fault: not three
+/// fields, a round or a facility that is no number, a round above the last fall, a station that the auction doesn't
+/// have, another word, or an earlier record of the same round and station. `NoMemory` where memory runs out.
 pub fn read_owners(
     alloc: Global,
     bytes: &[u8],

@@ -3,12 +3,19 @@
 use crate::error::{OwnerErr, OwnerWhy};
 use crate::read::read_owners;
 use std::alloc::Global;
-use std::test::Fail;
 
 // What a file says of a station in a round, for an auction of stations 1, 2 and 3 whose price falls twice.
 fn says(alloc: Global, bytes: &[u8], round: u32, station: u32) -> Option<bool> {
     match read_owners(alloc, bytes, 2, &[1, 2, 3]) {
         Ok(owners) => Some(owners.stays(round, station)),
+        Err(_) => None,
+    }
+}
+
+// How many lines a file gives the owners of the same auction.
+fn count(alloc: Global, bytes: &[u8]) -> Option<usize> {
+    match read_owners(alloc, bytes, 2, &[1, 2, 3]) {
+        Ok(owners) => Some(owners.lines().len()),
         Err(_) => None,
     }
 }
@@ -21,13 +28,13 @@ fn refusal(alloc: Global, bytes: &[u8]) -> Option<(u64, OwnerWhy)> {
     }
 }
 
-// Station 1 stays in every round; station 2 leaves after the first; of station 3 nothing is said. Blanks, empty fields at the
-// end, empty lines and leading zeros are nothing, and the last line needs no end.
+// Station 1 stays in every round; station 2 leaves after the first; of station 3 nothing is said. Blanks, empty fields at
+// the end, empty lines and leading zeros are nothing, and the last line needs no end.
 const SAID: &[u8] = b"0,1,stay\n 1 ,\t1,stay ,,\n\n2,01,stay\n1,2,leave\r\n ,\n0,2,\"stay\"";
 
 // Without a line a station leaves.
 #[test]
-fn stays_and_leaves(rt: HostRuntime) -> Result<(), Fail> {
+fn stays_and_leaves(rt: HostRuntime) {
     let cases: [(&[u8], u32, u32, bool); 9] = [
         (SAID, 0, 1, true),
         (SAID, 1, 1, true),
@@ -42,9 +49,8 @@ fn stays_and_leaves(rt: HostRuntime) -> Result<(), Fail> {
     for (file, round, station, stays) in cases {
         assert_eq!(rt; says(rt.alloc(), file, round, station), Some(stays));
     }
-    let owners = read_owners(rt.alloc(), SAID, 2, &[1, 2, 3]);
-    assert!(rt; matches!(owners, Ok(owners) if owners.lines().len() == 5));
-    Ok(())
+    assert_eq!(rt; count(rt.alloc(), SAID), Some(5));
+    assert_eq!(rt; count(rt.alloc(), b""), Some(0));
 }
 
 // The first record with a fault, by its first fault.
@@ -62,7 +68,11 @@ fn refused(rt: HostRuntime) {
         (b"2,4,maybe\n", 1, OwnerWhy::UnknownStation),
         (b"1,1,maybe\n", 1, OwnerWhy::BadWord),
         (b"1,1,stay\n1,1,Stay\n", 2, OwnerWhy::BadWord),
-        (b"1,1,stay\n0,1,stay\n1,2,stay\n1,1,stay\n", 4, OwnerWhy::Repeated),
+        (
+            b"1,1,stay\n0,1,stay\n1,2,stay\n1,1,stay\n",
+            4,
+            OwnerWhy::Repeated,
+        ),
         (b"1,1,leave\n\n1,1,stay\n3,1,stay\n", 3, OwnerWhy::Repeated),
         (b"1,1,stay\r1,1,leave\n", 1, OwnerWhy::Repeated),
     ];

@@ -8,7 +8,7 @@ use Rattle.owner_line.proofs.read.read_owners.Goals as goal
 pub loop-rest-init : goal.loop-rest-init
 unfolding owners_of
 loop-rest-init c = record {
-  lines = rw c.new.ensures refl;
+  lines = rw c.new-owners.ensures refl;
   few = omega arith;
 }
 
