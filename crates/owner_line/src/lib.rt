@@ -1,0 +1,8 @@
+//! What the owners of the stations say in a live auction, read from a file.
+#![tactic(auto)]
+
+pub mod error;
+mod line;
+pub mod read;
+#[cfg(test)]
+mod tests;

@@ -1,0 +1,77 @@
+//! The line that a record of an owners' file gives.
+
+ghost use Rattle.std.specs.Prelude.{◌≡◌, map, true};
+ghost use Rattle.pack_defs.specs.Lists.{is_ascending, is_in};
+ghost use Rattle.owner_line.specs.OwnersOf.{line_on, owner_line, word_of};
+
+use crate::error::OwnerWhy;
+use constraint_files::field::number;
+use pack_defs::owners::OwnerLine;
+
+/// Whether a word says that a station stays.
+fn word_of(word: &[u8]) -> Option<bool>
+    ensures { result ≡ word_of word.now }
+{
+    match word {
+        b"stay" => Some(true),
+        b"leave" => Some(false),
+        _ => None,
+    }
+}
+
+/// Whether the list has the number. The search is by halves.
+fn is_in(set: &[u32], number: u32) -> bool
+    requires { is_ascending set.now ≡ true }
+    ensures { result ≡ is_in set.now number }
+{
+    set.binary_search(&number).is_ok()
+}
+
+/// The line of this round, station and word, where the price falls in so many rounds and the auction has these
+/// stations.
+fn line_on(
+    rounds: u32,
+    ids: &[u32],
+    round: u32,
+    station: u32,
+    word: &[u8],
+) -> Result<OwnerLine, OwnerWhy>
+    requires { is_ascending ids.now ≡ true }
+    ensures { result ≡ line_on rounds ids.now round station word.now }
+{
+    if round > rounds {
+        return Err(OwnerWhy::RoundRange);
+    }
+    if !is_in(ids, station) {
+        return Err(OwnerWhy::UnknownStation);
+    }
+    let Some(stays) = word_of(word) else {
+        return Err(OwnerWhy::BadWord);
+    };
+    Ok(OwnerLine {
+        round,
+        station,
+        stays,
+    })
+}
+
+/// The line that a record gives: `round,facility,word`.
+pub(crate) fn owner_line(
+    rounds: u32,
+    ids: &[u32],
+    fields: &[Vec<u8>],
+) -> Result<OwnerLine, OwnerWhy>
+    requires { is_ascending ids.now ≡ true }
+    ensures { result ≡ owner_line rounds ids.now (map (λ f. f.items) fields.now) }
+{
+    if fields.len() != 3 {
+        return Err(OwnerWhy::Fields);
+    }
+    let Some(round) = number(&fields[0]) else {
+        return Err(OwnerWhy::BadNumber);
+    };
+    let Some(station) = number(&fields[1]) else {
+        return Err(OwnerWhy::BadNumber);
+    };
+    line_on(rounds, ids, round, station, &fields[2])
+}
