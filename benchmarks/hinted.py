@@ -22,10 +22,8 @@ class Prover:
     def __init__(self):
         self.clauses = []
         self.watches = {}
-        self.units = []
         self.true = {}
         self.trail = []
-        self.fixed = 0
 
     def add(self, clause):
         """The clause, by its place. Of a clause of two literals or more the first two are watched, open ones before others."""
@@ -79,7 +77,6 @@ class Prover:
         if left:
             self.put(left[0], place)
         false = place if not left else self.propagate(head)
-        self.fixed = len(self.trail)
         return false is not None
 
     def hints(self, clause):
@@ -142,10 +139,7 @@ def refutation(formula, proof):
         else:
             raise Refused(f"{proof} does not end in a refutation")
     if not lines or lines[-1][0]:
-        hints = prover.hints([])
-        if hints is None:
-            hints = last_hints(prover)
-        lines.append(([], hints))
+        lines.append(([], last_hints(prover)))
     return len(given), lines
 
 
@@ -173,14 +167,12 @@ def line_of(number, clause, hints):
 
 def write(count, lines, path):
     """Writes the lines that are needed; those left out give no number."""
-    kept = needed(count, lines)
     number = {place: place + 1 for place in range(count)}
     with open(path, "w") as file:
-        for at in kept:
+        for at in needed(count, lines):
             number[count + at] = len(number) + 1
             clause, hints = lines[at]
             file.write(line_of(number[count + at], dict.fromkeys(clause), [number[it] for it in hints]) + "\n")
-    return len(kept)
 
 
 def main(words):
