@@ -10,20 +10,29 @@ import os
 import re
 
 # The statuses that each command may end with, but for 2, which is of the words, and 8: there is memory enough.
-STATUSES = {"run": {0, 1, 3, 4, 5, 6, 7}, "check": {0, 3, 5}, "verify": {0, 1, 3, 5, 9}, "make": {0, 1, 4, 5}}
-# How many inputs and outputs each command names, these behind the two numbers of `make`.
-INPUTS = {"run": 3, "check": 3, "verify": 4, "make": 0}
-OUTPUTS = {"run": 3, "check": 0, "verify": 0, "make": 3}
+STATUSES = {
+    "run": {0, 1, 3, 4, 5, 6, 7}, "live": {0, 1, 3, 4, 5, 6, 7}, "check": {0, 3, 5}, "verify": {0, 1, 3, 5, 9},
+    "verify-live": {0, 1, 3, 5, 9}, "seek": {0, 1, 3, 4, 5, 6, 7}, "make": {0, 1, 4, 5},
+}
+# The inputs of each command, in the order of their names, and how many outputs stand behind them; of `make` behind two numbers.
+AUCTION = ("domains", "rows", "scenario")
+INPUTS = {
+    "run": AUCTION, "live": (*AUCTION, "owners"), "check": AUCTION, "verify": (*AUCTION, "transcript"),
+    "verify-live": (*AUCTION, "owners", "transcript"), "seek": AUCTION, "make": (),
+}
+OUTPUTS = {"run": 3, "live": 3, "check": 0, "verify": 0, "verify-live": 0, "seek": 1, "make": 3}
 LONGEST = 255
 SIZES = range(1, 4097)
 ROW = rb"line (?P<line>[1-9]\d*): "
-LINES = (
-    ROW + rb"(short row|unknown key|bad number|channel out of range|second domain row|too many)|no domain row for station \d+",
-    ROW + rb"(short row|unknown key|bad number|channel out of range|channels do not fit the key|too many)",
-    rb"not JSON|(missing|wrong kind|out of limit) [a-z]+( at [1-9]\d*)?|repeated station \d+|decrements exceed the opening|no cdcl worker",
-    rb"version|" + ROW + rb"bad line|truncated|step \d+: (order|not valid)",
-)
+LINES = {
+    "domains": ROW + rb"(short row|unknown key|bad number|channel out of range|second domain row|too many)|no domain row for station \d+",
+    "rows": ROW + rb"(short row|unknown key|bad number|channel out of range|channels do not fit the key|too many)",
+    "scenario": rb"not JSON|(missing|wrong kind|out of limit) [a-z]+( at [1-9]\d*)?|repeated station \d+|decrements exceed the opening|no cdcl worker",
+    "owners": ROW + rb"(not three fields|bad number|round out of range|unknown station|bad word|repeated)",
+    "transcript": rb"version|" + ROW + rb"bad line|truncated|step \d+: (order|not valid)",
+}
 SUMMARY = re.compile(rb"stations (\d+)\non-air (\d+)\nfrozen (\d+)\nundecided (\d+)\ntotal (\d+)\n")
+TOPS = re.compile(rb"top (\d+)\n(undecided (\d+)\n)?")
 COUNTS = re.compile(rb"stations \d+\npairs \d+\nself-pairs \d+\nstrangers \d+\n")
 RESULT = re.compile(rb"facility,outcome,round,price\n(\d+,(start,0,0|exit,[1-9]\d*,0|(frozen|undecided),[1-9]\d*,\d+)\n)*")
 CHANNELS = re.compile(rb"facility,channel\n(\d+,[1-5]\d\n)*")
@@ -50,7 +59,7 @@ class Order:
     def __init__(self, words):
         self.name = words[0]
         first = 2 if self.name == "make" else 0
-        middle = first + INPUTS[self.name]
+        middle = first + len(INPUTS[self.name])
         self.size = int(words[2]) if first else None
         self.inputs, self.outputs = words[1 + first : 1 + middle], words[1 + middle :]
 
@@ -69,7 +78,7 @@ def order_of(words):
     if any(word.startswith("-") and word != "-" for word in rest[:free]):
         return None
     rest = rest[:free] + rest[free + 1 :]
-    if len(rest) != INPUTS[name] + OUTPUTS[name] + (2 if name == "make" else 0):
+    if len(rest) != len(INPUTS[name]) + OUTPUTS[name] + (2 if name == "make" else 0):
         return None
     if name == "make" and (whole(rest[0], 2**64 - 1) is None or whole(rest[1], 2**64 - 1) not in SIZES):
         return None
@@ -92,8 +101,9 @@ def told(order, status, before):
         return [(b"the start set does not fit", None)]
     if status == 7:
         return [(b"the start set is undecided", None)]
-    some = range(3) if status == 5 else range(3, 4)
-    return [(re.escape(names[i]) + b": (" + LINES[i] + b")", order.inputs[i]) for i in some if i < len(names)]
+    kinds = INPUTS[order.name]
+    some = [i for i, kind in enumerate(kinds) if (kind == "transcript") == (status == 9)]
+    return [(re.escape(names[i]) + b": (" + LINES[kinds[i]] + b")", order.inputs[i]) for i in some]
 
 
 def is_told(printed, lines, before):
@@ -126,12 +136,28 @@ def look_at_result(text):
     return len(rows), len(rows) - len(frozen), len(frozen), undecided, sum(int(row[3]) for row in rows)
 
 
+def look_at_top(order, status, printed, after):
+    """What `seek` prints and stores: a top channel, the one below it where its test was left open, and channels up to it."""
+    found = TOPS.fullmatch(printed)
+    need(found, "no top channel")
+    top, below = int(found[1]), found[3]
+    need(14 <= top <= 51, "a top channel that none may be")
+    need((status == 1) == (below is not None), "the status isn't that of the open test")
+    need(below is None or int(below) == top - 1, "the open test is of another channel")
+    channels = after[order.outputs[0]]
+    need(CHANNELS.fullmatch(channels), "no text of CHANNELS")
+    need(all(14 <= int(line.split(b",")[1]) <= top for line in channels.splitlines()[1:]), "a channel above the top")
+
+
 def look_at_end(order, status, printed, after):
     """What is printed and stored at status 0 and 1."""
     if order.name == "check":
         need(COUNTS.fullmatch(printed), "no counts")
         return
-    if order.name == "verify":
+    if order.name == "seek":
+        look_at_top(order, status, printed, after)
+        return
+    if order.name in ("verify", "verify-live"):
         numbers = look_at_result(printed)
     else:
         found = SUMMARY.fullmatch(printed)
@@ -140,7 +166,7 @@ def look_at_end(order, status, printed, after):
     need((status == 1) == (numbers[3] > 0), "the status isn't that of the undecided tests")
     if order.name == "make":
         need(numbers[0] == order.size, "another number of stations")
-    if order.name == "run":
+    if order.name in ("run", "live"):
         result, channels, transcript = (after[name] for name in order.outputs)
         need(look_at_result(result) == numbers, "the summary isn't that of RESULT")
         need(CHANNELS.fullmatch(channels) and channels.count(b"\n") == numbers[1] + 1, "CHANNELS isn't of those on air")

@@ -1,7 +1,7 @@
 """Sound inputs of the program, and how they are made hostile.
 
-A set holds the texts of an auction's three input files and of a transcript of it. Most transcripts are those that the program
-writes; some are written here, with steps that few auctions have. A draw of a stream makes one or more of a set's texts
+A set holds the texts of an auction's three input files, of a transcript of it, and of what its owners say who follow their
+values. Most transcripts are those that the program writes; some are written here, with steps that few auctions have. A draw of a stream makes one or more of a set's texts
 hostile, or all the words that go with them.
 """
 import json
@@ -11,7 +11,9 @@ import subprocess
 INPUTS = ("domains.csv", "rows.csv", "scenario.json")
 OUTPUTS = ("result.csv", "channels.csv", "stored.txt")
 TRANSCRIPT = "transcript.txt"
+OWNERS = "owners.csv"
 NAMES = (*INPUTS, TRANSCRIPT)
+FILES = (*NAMES, OWNERS)
 MADE = (1, 5, 16)
 # The greatest budget that a hostile scenario of `run` keeps, but for the sound ones and one in fifty others.
 TAME = 1000
@@ -61,8 +63,32 @@ def ran(program, folder, *words):
         raise Faulty(f"{folder}: {' '.join(words)}: status {done.returncode}: {done.stdout.decode()}")
 
 
+def prices(scenario):
+    """The prices of a scenario, from the opening to the last fall."""
+    price = opening = scenario["opening"]
+    yield price
+    if scenario["version"] == 1:
+        for fall in scenario["decrements"]:
+            price -= fall
+            yield price
+        return
+    for _ in range(1000):
+        if price == 0:
+            return
+        price -= min(price, max(1, price * scenario["rate"] // 1000, opening * scenario["floor"] // 1000))
+        yield price
+
+
+def said(scenario):
+    """What the owners of a scenario's stations say who stay while the offer is at least the value."""
+    bids = [(station["id"], station["volume"], station["value"]) for station in scenario["stations"] if station.get("value") is not None]
+    lines = [f"{r},{s},stay\n" for r, price in enumerate(prices(scenario)) for s, volume, value in bids if value <= price * volume]
+    return "".join(lines).encode()
+
+
 def add(program, top, name, texts, transcript=None):
-    """Writes a sound set, with the transcript that is given or that of its auction, and has it verified."""
+    """Writes a sound set, with the transcript that is given or that of its auction, and has it verified, also as that of the live
+    auction in which the owners follow their values."""
     folder = top / name
     folder.mkdir(exist_ok=True)
     for file, text in zip(INPUTS, texts):
@@ -72,6 +98,8 @@ def add(program, top, name, texts, transcript=None):
     else:
         (folder / TRANSCRIPT).write_bytes(transcript)
     ran(program, folder, "verify", *NAMES)
+    (folder / OWNERS).write_bytes(said(json.loads(texts[2])))
+    ran(program, folder, "verify-live", *INPUTS, OWNERS, TRANSCRIPT)
 
 
 def spent(scenario, top, budget=1):
@@ -120,6 +148,7 @@ LIES = [
     b"9223372036854775808 0 1 0", b"13 9223372036854775807 0 9223372036854775807 0", b"13 d 1 0", b"13 0 -7 0", b"0 0 1 0",
     b"end 0", b"end 5", b"end 4294967296", b"end 18446744073709551615", b"end 18446744073709551616", b"", b"x",
     b"DOMAIN,1,14", b"DOMAIN,4294967296,14", b"DOMAIN", b"CO,14,14,1,2,3", b"CO,14,14", b"ADJ+1,51,52,1,2", b"ADJ-2,14,12,1,2",
+    b"0,1,stay", b"1,1,leave", b"1,1,maybe", b"4294967295,1,stay", b"0,4294967295,stay", b"0,1", b'0,"1,stay',
     b'CO,"14",14,1,"2"', b'DOMAIN,"1', b"CO,14,14,1,1,1", b"CO,14,14," + b"1," * 3000 + b"2", b"DOMAIN,1" + b",14" * 3000,
 ]
 

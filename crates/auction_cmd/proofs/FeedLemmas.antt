@@ -1,5 +1,5 @@
 -- A reader that is fed a file piece by piece: what was handed out and what is left are the file.
-use Rattle.std.proofs.Common.{◌≡◌, ◌∙◌, ◌<◌, ◌+◌, ◌++◌, ◌∷◌, [], ℕ, zero, suc, List, Bool, Option, Some, Result, Ok, Err, take, drop, length, refl, sym, ap, subst, arith, append_assoc}
+use Rattle.std.proofs.Common.{◌≡◌, ◌∙◌, ◌<◌, ◌++◌, ◌∷◌, [], ℕ, zero, suc, List, Bool, Option, Some, Result, Ok, Err, take, drop, length, refl, sym, ap, subst, arith, append_assoc}
 use Rattle.std.proofs.lemmas.List.{append-nil, take-append-drop}
 use Rattle.outside_io.specs.Pieces.{piece_size}
 use Rattle.constraint_files.specs.Reads.{Reads}

@@ -264,10 +264,10 @@ module _ (names : ImportNames) (before after : Outside) (status : ℕ) (found : 
       go four (NotStored y is_four part rises unsteady said) = unsteady steady
       go four (OutOfRoom y eight part said) = omega arith
 
-  import-paid : (files : List StoredFile) (inputs : Inputs) (rec : Record) (f : FrozenAt) → inputs_of files names.shown.inputs ≡ Ok inputs →
+  import-paid : (files : List StoredFile) (inputs : Inputs) (rec : Record) (f : FrozenAt) → names.shown.inputs.owners ≡ None → inputs_of files names.shown.inputs ≡ Ok inputs →
       Contains (outcome rec.order inputs []).frozen f → IsThresholdPrice inputs.scenario inputs.book rec.order f.station f.price
-  import-paid files inputs rec f is bought =
-      threshold inputs.scenario inputs.book rec.order f (accepted-ascend files names.shown.inputs inputs is) (accepted-values files names.shown.inputs inputs is) bought
+  import-paid files inputs rec f valued is bought =
+      threshold inputs.scenario inputs.book rec.order f (accepted-ascend files names.shown.inputs inputs is) (accepted-values files names.shown.inputs inputs valued is) bought
 
   -- ---- a step or a log that is refused
 
@@ -489,14 +489,14 @@ module _ (names : ImportNames) (before after : Outside) (status : ℕ) (found : 
       go (NotStored y four part rises unsteady said) = absurd (omega arith)
       go (OutOfRoom y is_eight part said) = said
 
-  pub import-promises : ImportEnds names before after status found → IsOnce names found → ImportPromises names before after status found
-  import-promises end once = record {
+  pub import-promises : ImportEnds names before after status found → IsOnce names found → (status ≡ 0 → names.shown.inputs.owners ≡ None) → ImportPromises names before after status found
+  import-promises end once valued = record {
     statuses = import-statuses end;
     done = λ files told h. import-done files end once told h;
     recorded = import-recorded end;
     summed = import-summed end;
     unrecorded = λ h. import-unrecorded end (within (3 ∷ 5 ∷ 9 ∷ 10 ∷ []) (2 ∷ 3 ∷ 5 ∷ 9 ∷ 10 ∷ []) status refl h);
-    paid = λ files inputs rec f told is some zero bought. import-paid files inputs rec f is bought;
+    paid = λ files inputs rec f told is some zero bought. import-paid files inputs rec f (valued zero) is bought;
     refused = λ files told ten. import-refused files end told ten;
     refuses_step = λ files s fault told f. import-refuses_step files s fault end told f;
     refuses_log = λ files s log fault told f l err. import-refuses_log files s log fault end told f l err;

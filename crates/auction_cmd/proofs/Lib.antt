@@ -6,6 +6,7 @@ pub mod FeedLemmas
 pub mod Halts
 pub mod ImportEndLemmas
 pub mod ImportLemmas
+pub mod LiveLemmas
 pub mod MadeLemmas
 pub mod MakeEndLemmas
 pub mod MakeLemmas
@@ -18,10 +19,12 @@ pub mod ReadingLemmas
 pub mod RecordLemmas
 pub mod RunLemmas
 pub mod SaysLemmas
+pub mod SeekLemmas
 pub mod StartLemmas
 pub mod ShownLemmas
 pub mod Statuses
 pub mod TextReading
+pub mod TopLemmas
 pub mod TranscriptLemmas
 pub mod VerifyCases
 pub mod VerifyEndLemmas

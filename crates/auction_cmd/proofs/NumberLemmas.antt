@@ -9,7 +9,7 @@ use Rattle.clap.specs.Walk.{is_empty}
 use Rattle.clap.specs.ValueTests.{is_unsigned_in}
 use Rattle.clap.specs.declared.builder.value_parser.ValueParser.TheVariants.{Unsigned}
 use Rattle.clap.proofs.ValueTestLemmas.{Accepts-accepts, accepts-Accepts}
-use Rattle.auction_cmd.specs.Words.{Command, run, check, verify, make, export, import, ExportNames, ImportNames, MakeNames, command_of, export_names, import_names, input_names, make_names, named_command, number_within, program_app, run_names, seed_limit, size_limit, step_limit, step_named, verify_names, with_value}
+use Rattle.auction_cmd.specs.Words.{Command, run, check, verify, seek, make, export, import, ExportNames, ImportNames, InputNames, MakeNames, VerifyNames, command_of, export_names, import_names, input_names, live_names, make_names, named_command, number_within, program_app, run_names, seed_limit, seek_names, shown_by_names, size_limit, step_limit, step_named, verify_names, with_value}
 
 number-in : (least most : ℕ) (text : List ℕ) → IsUnsignedIn least most text → number_within least most text ≡ Some (digits_value 10 (without_leading_plus text))
 number-in least most text h =
@@ -72,14 +72,15 @@ within-bounds : (most : ℕ) (text : Option Text) (n : ℕ) → option_and_then 
 within-bounds most (Some text) n is = number-bounds 1 most n text is
 within-bounds most None n is = cc
 
--- the size that a command asks for, or its step, is in its bounds
+-- the size that a command asks for, or its step, is in its bounds, and no step is settled of a live auction
 abbrev IsBounded : Command → Type 0
 IsBounded (run names) = ⊤
 IsBounded (check names) = ⊤
 IsBounded (verify names) = ⊤
+IsBounded (seek names) = ⊤
 IsBounded (make names) = (1 ≤ names.size) × (names.size ≤ size_limit)
 IsBounded (export names) = (1 ≤ names.step) × (names.step ≤ step_limit)
-IsBounded (import names) = (1 ≤ names.step) × (names.step ≤ step_limit)
+IsBounded (import names) = ((1 ≤ names.step) × (names.step ≤ step_limit)) × (names.shown.inputs.owners ≡ None)
 
 then-all : {A B : Type 0} (P : B → Type 0) (f : A → Option B) (o : Option A) → ((x : A) → o ≡ Some x → MatchOption (f x) ⊤ P) → MatchOption (option_and_then f o) ⊤ P
 then-all P f (Some x) h = h x refl
@@ -110,23 +111,41 @@ export-bounded rows =
     then-all _ _ (step_named rows) (λ step step_is.
     then-all _ _ (first_of (codes "CNF") rows) (λ formula formula_is. within-bounds step_limit (first_of (codes "STEP") rows) step step_is)))
 
+-- without a word for it no owners' file is named
+input-valued : (rows : List Row) → MatchOption (input_names rows) ⊤ (λ names. names.owners ≡ None)
+input-valued rows =
+    then-all _ _ (first_of (codes "DOMAINS") rows) (λ domains domains_are.
+    then-all _ _ (first_of (codes "ROWS") rows) (λ pairs pairs_are.
+    then-all _ _ (first_of (codes "SCENARIO") rows) (λ scenario scenario_is. refl)))
+
+shown-valued : (rows : List Row) → MatchOption (verify_names rows) ⊤ (λ names. names.inputs.owners ≡ None)
+shown-valued rows =
+    then-all _ _ (input_names rows) (λ inputs inputs_are.
+    then-all _ _ (first_of (codes "TRANSCRIPT") rows) (λ transcript transcript_is. subst (λ o. MatchOption o ⊤ (λ (names : InputNames). names.owners ≡ None)) inputs_are (input-valued rows)))
+
 import-bounded : (rows : List Row) → MatchOption (import_names rows) ⊤ (λ names. IsBounded (import names))
 import-bounded rows =
     then-all _ _ (verify_names rows) (λ shown shown_are.
     then-all _ _ (step_named rows) (λ step step_is.
     then-all _ _ (first_of (codes "LRAT") rows) (λ proof proof_is.
     then-all _ _ (first_of (codes "RESULT") rows) (λ result result_is.
-    then-all _ _ (first_of (codes "NEWTRANSCRIPT") rows) (λ transcript transcript_is. within-bounds step_limit (first_of (codes "STEP") rows) step step_is)))))
+    then-all _ _ (first_of (codes "NEWTRANSCRIPT") rows) (λ transcript transcript_is. (
+      within-bounds step_limit (first_of (codes "STEP") rows) step step_is,
+      subst (λ o. MatchOption o ⊤ (λ (names : VerifyNames). names.inputs.owners ≡ None)) shown_are (shown-valued rows),
+    ))))))
 
 found-bounded : (found : Text × List Row) → MatchOption (named_command found) ⊤ IsBounded
 found-bounded found =
     let rows = found.1 in
-    if-all IsBounded (bytes_eq found.0 (codes "run")) _ _ (map-all IsBounded run (run_names rows) (each _ (run_names rows) (λ names. tt)))
+    if-all IsBounded (bytes_eq found.0 (codes "run")) _ _ (map-all IsBounded run (option_and_then (run_names rows) (input_names rows)) (each _ (option_and_then (run_names rows) (input_names rows)) (λ names. tt)))
     (if-all IsBounded (bytes_eq found.0 (codes "check")) _ _ (map-all IsBounded check (input_names rows) (each _ (input_names rows) (λ names. tt)))
     (if-all IsBounded (bytes_eq found.0 (codes "verify")) _ _ (map-all IsBounded verify (verify_names rows) (each _ (verify_names rows) (λ names. tt)))
+    (if-all IsBounded (bytes_eq found.0 (codes "live")) _ _ (map-all IsBounded run (option_and_then (run_names rows) (live_names rows)) (each _ (option_and_then (run_names rows) (live_names rows)) (λ names. tt)))
+    (if-all IsBounded (bytes_eq found.0 (codes "verify-live")) _ _ (map-all IsBounded verify (option_and_then (shown_by_names rows) (live_names rows)) (each _ (option_and_then (shown_by_names rows) (live_names rows)) (λ names. tt)))
+    (if-all IsBounded (bytes_eq found.0 (codes "seek")) _ _ (map-all IsBounded seek (seek_names rows) (each _ (seek_names rows) (λ names. tt)))
     (if-all IsBounded (bytes_eq found.0 (codes "make")) _ _ (map-all IsBounded make (make_names rows) (make-bounded rows))
     (if-all IsBounded (bytes_eq found.0 (codes "export")) _ _ (map-all IsBounded export (export_names rows) (export-bounded rows))
-    (if-all IsBounded (bytes_eq found.0 (codes "import")) _ None (map-all IsBounded import (import_names rows) (import-bounded rows)) tt)))))
+    (if-all IsBounded (bytes_eq found.0 (codes "import")) _ None (map-all IsBounded import (import_names rows) (import-bounded rows)) tt))))))))
 
 command-bounded : (words : List (List ℕ)) → MatchOption (command_of words) ⊤ IsBounded
 unfolding command_of
@@ -141,4 +160,7 @@ pub export-placed : (words : List (List ℕ)) (names : ExportNames) → command_
 export-placed words names is = subst (λ command. MatchOption command ⊤ IsBounded) is (command-bounded words)
 
 pub import-placed : (words : List (List ℕ)) (names : ImportNames) → command_of words ≡ Some (import names) → (1 ≤ names.step) × (names.step ≤ step_limit)
-import-placed words names is = subst (λ command. MatchOption command ⊤ IsBounded) is (command-bounded words)
+import-placed words names is = let bounded : IsBounded (import names) = subst (λ command. MatchOption command ⊤ IsBounded) is (command-bounded words) in bounded.0
+
+pub import-valued : (words : List (List ℕ)) (names : ImportNames) → command_of words ≡ Some (import names) → names.shown.inputs.owners ≡ None
+import-valued words names is = let bounded : IsBounded (import names) = subst (λ command. MatchOption command ⊤ IsBounded) is (command-bounded words) in bounded.1

@@ -8,7 +8,7 @@ use Rattle.std.proofs.lemmas.List.Sums.{sum_by-append, sum_by-cons}
 use Rattle.std.proofs.lemmas.Slice.Eq.{bytes_eq-Decides}
 use Rattle.auction_core.proofs.Finds.{find_cases}
 use Rattle.pack_defs.proofs.Members.{Contains-here, Contains-there, list_any-from}
-use Rattle.auction_cmd.specs.Words.{ImportNames, MakeNames, RunNames, imported_names, is_repeated_among, is_repeated_in, made_names, names_given, output_names, repeated_import, repeated_made, repeated_output}
+use Rattle.auction_cmd.specs.Words.{ImportNames, MakeNames, RunNames, imported_names, is_repeated_among, is_repeated_in, made_names, names_given, output_names, owners_given, repeated_import, repeated_made, repeated_output}
 use Rattle.auction_cmd.specs.Ends.{output_texts, pair_of_texts}
 use Rattle.auction_cmd.specs.Made.{texts_under}
 use Rattle.auction_cmd.proofs.DeliveryLemmas.{AreApart}
@@ -42,12 +42,13 @@ unfolding repeated_output
 own-names names result channels transcript once =
     let twice : List ℕ → Bool = λ name. is_repeated_in name names in
     let inputs = names.inputs in
+    let read = inputs.domains ∷ inputs.rows ∷ inputs.scenario ∷ owners_given inputs.owners in
     let first : names.result ≢ names.channels = λ same. not-found twice (output_names names) names.result once (Contains-here names.result (names.channels ∷ names.transcript ∷ []))
-    (given-twice names (inputs.domains ∷ inputs.rows ∷ inputs.scenario ∷ []) [] (names.transcript ∷ []) names.result names.channels refl same) in
+    (given-twice names [] [] (names.transcript ∷ read) names.result names.channels refl same) in
     let last : names.result ≢ names.transcript = λ same. not-found twice (output_names names) names.result once (Contains-here names.result (names.channels ∷ names.transcript ∷ []))
-    (given-twice names (inputs.domains ∷ inputs.rows ∷ inputs.scenario ∷ []) (names.channels ∷ []) [] names.result names.transcript refl same) in
+    (given-twice names [] (names.channels ∷ []) read names.result names.transcript refl same) in
     let behind : names.channels ≢ names.transcript = λ same. not-found twice (output_names names) names.channels once (Contains-there names.result names.channels (names.channels ∷ names.transcript ∷ []) (Contains-here names.channels (names.transcript ∷ [])))
-    (given-twice names (inputs.domains ∷ inputs.rows ∷ inputs.scenario ∷ names.result ∷ []) [] [] names.channels names.transcript refl same) in (
+    (given-twice names (names.result ∷ []) [] read names.channels names.transcript refl same) in (
       All-cons (λ name. names.result ≢ name) names.channels (names.transcript ∷ []) first (All-cons (λ name. names.result ≢ name) names.transcript [] last (All-nil (λ name. names.result ≢ name))),
       (
         All-cons (λ name. names.channels ≢ name) names.transcript [] behind (All-nil (λ name. names.channels ≢ name)),

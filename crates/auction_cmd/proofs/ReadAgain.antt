@@ -1,12 +1,11 @@
 -- The transcript that is written of a record is verified as that record, beside inputs that files hold.
-use Rattle.std.proofs.Common.{◌≡◌, ◌∙◌, ℕ, List, ap, subst, arith}
-use Rattle.std.specs.Prelude.{IfOk, None, Result, Ok, Err}
+use Rattle.std.proofs.Common.{◌≡◌, ◌∙◌, ℕ, List, ap, subst, sym, arith}
+use Rattle.std.specs.Prelude.{None, Result, Ok, Err}
 use Rattle.constraint_files.specs.Domains.{domains_of}
 use Rattle.constraint_files.specs.Rows.{PairsView, pairs_of}
 use Rattle.constraint_files.specs.declared.error.ReadErr.{ReadErr}
 use Rattle.outside_io.specs.Files.{StoredFile}
 use Rattle.pack_defs.specs.Book.{BookView}
-use Rattle.pack_defs.specs.Scenario.{IsWithinLimits}
 use Rattle.pack_defs.specs.declared.domain.Domain.{Domain}
 use Rattle.pack_defs.specs.declared.pair.Pair.{Pair}
 use Rattle.pack_defs.specs.declared.scenario.Scenario.{Scenario}
@@ -15,7 +14,6 @@ use Rattle.scenario_json.specs.declared.join.JoinErr.TheVariants.{MissingDomain,
 use Rattle.scenario_json.specs.Joined.{joined}
 use Rattle.scenario_json.specs.ScenarioOf.{scenario_of}
 use Rattle.scenario_json.proofs.ChannelsOf.{book-kept}
-use Rattle.scenario_json.proofs.Limits.{read-limits}
 use Rattle.auction_core.specs.declared.record.Ending.TheVariants.{Done}
 use Rattle.auction_core.specs.declared.record.Record.{Record}
 use Rattle.auction_core.specs.Backed.{IsBacked}
@@ -29,10 +27,11 @@ use Rattle.transcript_check.proofs.SoundLemmas.{same-again, sound-shown, transcr
 use Rattle.auction_cmd.specs.declared.inputs.Inputs.{Inputs}
 use Rattle.auction_cmd.specs.declared.refusal.Input.{Input}
 use Rattle.auction_cmd.specs.declared.refusal.Input.TheVariants.{Domains, Rows, Scenario as ScenarioFile}
-use Rattle.auction_cmd.specs.Inputs.{and_then, file_of, inputs_from, inputs_of, rows_read, scenario_read}
+use Rattle.auction_cmd.specs.declared.sources.Sources.{Sources}
+use Rattle.auction_cmd.specs.Inputs.{and_then, file_of, inputs_by, inputs_from, inputs_of, rows_read, scenario_read, sources_of, valued_of}
 use Rattle.auction_cmd.specs.Verified.{CanBeNamed, record_by, shown_or, verified}
 use Rattle.auction_cmd.specs.Words.{InputNames}
-use Rattle.auction_cmd.proofs.ReadingLemmas.{accepted-scenario, then-ok}
+use Rattle.auction_cmd.proofs.ReadingLemmas.{accepted-limits, accepted-valued, said-else, then-ok}
 
 -- ---- accepted inputs
 
@@ -48,31 +47,39 @@ from-parts sc pairs (Ok book) inputs e =
 from-parts sc pairs (Err (MissingDomain s)) inputs e = cc
 from-parts sc pairs (Err NoSpace) inputs e = cc
 
--- the book is made of the domains that a file holds
-accepted-book : (files : List StoredFile) (names : InputNames) (inputs : Inputs) → inputs_of files names ≡ Ok inputs →
-    (bytes : List ℕ) × (domains : List Domain) × (pairs : List Pair) × (domains_of bytes ≡ Ok domains) × (joined inputs.scenario domains pairs ≡ Ok inputs.book)
-unfolding inputs_of
-accepted-book files names inputs e =
-    let (domains, domains-read, rest) = then-ok (and_then (file_of files names.domains Domains) (λ bytes. rows_read Domains (domains_of bytes))) _ inputs e in
-    let (pairs, pairs-read, more) = then-ok (and_then (file_of files names.rows Rows) (λ bytes. rows_read Rows (pairs_of bytes domains))) _ inputs rest in
-    let (sc, read, joined-ok) = then-ok (and_then (file_of files names.scenario ScenarioFile) (λ bytes. scenario_read (scenario_of bytes))) _ inputs more in
+-- the domains are those that a file holds
+pub sources-domains : (files : List StoredFile) (names : InputNames) (sources : Sources) → sources_of files names ≡ Ok sources → (bytes : List ℕ) × (domains_of bytes ≡ Ok sources.domains)
+unfolding sources_of
+sources-domains files names sources e =
+    let (domains, domains-read, rest) = then-ok {B = Sources} (and_then (file_of files names.domains Domains) (λ bytes. rows_read Domains (domains_of bytes))) _ sources e in
+    let (pairs, pairs-read, more) = then-ok {B = Sources} (and_then (file_of files names.rows Rows) (λ bytes. rows_read Rows (pairs_of bytes domains))) _ sources rest in
+    let (sc, scenario-read, made) = then-ok {B = Sources} (and_then (file_of files names.scenario ScenarioFile) (λ bytes. scenario_read (scenario_of bytes))) _ sources more in
     let (bytes, loaded, held) = then-ok (file_of files names.domains Domains) (λ bytes. rows_read Domains (domains_of bytes)) domains domains-read in
-    let (same, made) = from-parts sc pairs (joined sc domains pairs.list) inputs joined-ok in
-    (bytes, domains, pairs.list, rows-ok Domains (domains_of bytes) domains held, subst (λ (s : Scenario). joined s domains pairs.list ≡ Ok inputs.book) same made)
+    let same : record { domains = domains; pairs = pairs; scenario = sc } ≡ sources = cc in
+    (bytes, rows-ok Domains (domains_of bytes) domains held ∙ ap (λ (s : Sources). Ok s.domains) same)
+
+-- the book is made of the domains that a file holds
+valued-book : (files : List StoredFile) (names : InputNames) (inputs : Inputs) → valued_of files names ≡ Ok inputs →
+    (bytes : List ℕ) × (domains : List Domain) × (pairs : List Pair) × (domains_of bytes ≡ Ok domains) × (joined inputs.scenario domains pairs ≡ Ok inputs.book)
+valued-book files names inputs e =
+    let (sources, read, joined-ok) = then-ok (sources_of files names) inputs_by inputs e in
+    let (bytes, held) = sources-domains files names sources read in
+    let (same, made) = from-parts sources.scenario sources.pairs (joined sources.scenario sources.domains sources.pairs.list) inputs joined-ok in
+    (bytes, sources.domains, sources.pairs.list, held, subst (λ (s : Scenario). joined s sources.domains sources.pairs.list ≡ Ok inputs.book) same made)
 
 -- so its channels are those of a file
-accepted-channels : (files : List StoredFile) (names : InputNames) (inputs : Inputs) → inputs_of files names ≡ Ok inputs → HasFileChannels inputs.book
-accepted-channels files names inputs e s c h =
-    let (bytes, domains, pairs, read, made) = accepted-book files names inputs e in
+valued-channels : (files : List StoredFile) (names : InputNames) (inputs : Inputs) → valued_of files names ≡ Ok inputs → HasFileChannels inputs.book
+valued-channels files names inputs e s c h =
+    let (bytes, domains, pairs, read, made) = valued-book files names inputs e in
     book-kept bytes domains inputs.scenario pairs inputs.book s c read made h
 
--- and the scenario is within the limits
-accepted-limits : (files : List StoredFile) (names : InputNames) (inputs : Inputs) → inputs_of files names ≡ Ok inputs → IsWithinLimits inputs.scenario
-accepted-limits files names inputs e =
-    let (bytes, held) = accepted-scenario files names inputs e in
-    subst (λ r. IfOk r IsWithinLimits) held (read-limits bytes)
+accepted-channels : (files : List StoredFile) (names : InputNames) (inputs : Inputs) → inputs_of files names ≡ Ok inputs → HasFileChannels inputs.book
+accepted-channels files names inputs e =
+    let (valued, read, more) = accepted-valued files names inputs e in
+    let (said, same) = said-else files names.owners valued inputs more in
+    subst (λ (i : Inputs). HasFileChannels i.book) (sym same) (valued-channels files names valued read)
 
--- so they are those of an auction
+-- so the inputs are those of an auction
 pub accepted-auction : (files : List StoredFile) (names : InputNames) (inputs : Inputs) → inputs_of files names ≡ Ok inputs → CanBeNamed inputs → IsAuction inputs.scenario inputs.book
 accepted-auction files names inputs e can =
     let named = can (accepted-channels files names inputs e) in

@@ -200,7 +200,7 @@ module _ (names : RunNames) (before after : Outside) (status : ℕ) (found : Opt
         accepted = done.accepted;
         result = subst (λ U. MatchOption after.files ⊥ (λ new. bytes_of new names.result ≡ Some (result_of run_order done.inputs U))) none result;
         summary = subst (λ U. Writes before.held after.held (summary_of done.inputs U) (Ok tt)) none done.summary;
-        paid = λ f bought. threshold done.inputs.scenario done.inputs.book run_order f (accepted-ascend files names.inputs done.inputs done.accepted) (accepted-values files names.inputs done.inputs done.accepted) bought;
+        paid = λ valued f bought. threshold done.inputs.scenario done.inputs.book run_order f (accepted-ascend files names.inputs done.inputs done.accepted) (accepted-values files names.inputs done.inputs valued done.accepted) bought;
       }
 
   pub run-stored : (files : List StoredFile) → RunEnds names before after status found → IsOnce names found → before.files ≡ Some files → status ≡ 4 → IsUnwritten files names before after found

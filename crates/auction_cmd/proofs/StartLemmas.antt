@@ -1,5 +1,5 @@
 -- What may be relied on of `run` where it ends early: at its inputs, at its start, or for want of memory.
-use Rattle.std.proofs.Common.{◌≡◌, ◌≢◌, ◌⊎◌, ◌∙◌, ℕ, true, false, inl, inr, List, [], ◌∷◌, refl, sym, ap, subst, arith, Option, Some}
+use Rattle.std.proofs.Common.{◌≡◌, ◌⊎◌, ◌∙◌, ℕ, true, false, inl, inr, List, [], ◌∷◌, refl, sym, ap, subst, arith, Option, Some}
 use Rattle.std.specs.Prelude.{Ok, IsTrue}
 use Rattle.std.proofs.lemmas.Bool.{true≢false}
 use Rattle.pack_defs.specs.Lists.{is_in}
@@ -33,7 +33,7 @@ use Rattle.auction_cmd.proofs.RunLemmas.{ended-statuses, never}
 use Rattle.auction_cmd.proofs.Statuses.{either-done, not-in, off, one-of, within}
 
 -- a set of no station fits
-nobody-fits : (book : BookView) (set : List ℕ) → set ≡ [] → fits book set ≡ true
+pub nobody-fits : (book : BookView) (set : List ℕ) → set ≡ [] → fits book set ≡ true
 nobody-fits book set none = rw none (fits-from book [] (record { entries = []; stations = refl; clean = record { on_domain = λ x l. absurd (Contains-nil x l); apart = λ x y l m. absurd (Contains-nil x l) } }))
 
 module _ (names : RunNames) (before after : Outside) (status : ℕ) (found : Option Record) where

@@ -1,5 +1,5 @@
 -- What may be relied on of `verify` follows from how it ends, case by case.
-use Rattle.std.proofs.Common.{◌≡◌, ◌≢◌, ◌⊎◌, ◌<◌, ◌≤◌, ◌∙◌, ◌-◌, ℕ, inl, inr, List, [], ◌∷◌, length, refl, sym, subst, arith, Option, Some, None}
+use Rattle.std.proofs.Common.{◌≡◌, ◌≢◌, ◌⊎◌, ◌<◌, ◌≤◌, ◌∙◌, ℕ, inl, inr, List, [], ◌∷◌, length, refl, sym, subst, arith, Option, Some, None}
 use Rattle.std.specs.Prelude.{Contains, Ok, Err, IsTrue}
 use Rattle.pack_defs.specs.ClockRule.{FrozenAt}
 use Rattle.pack_defs.specs.Lists.{is_in}
@@ -103,10 +103,10 @@ module _ (names : VerifyNames) (before after : Outside) (status : ℕ) (found : 
   all-recorded (Sound inputs text rec are can held is of kept p) h = (inputs, rec, are, kept, of)
 
   -- where every test was decided, what is paid is the threshold price
-  all-paid : (files : List StoredFile) (inputs : Inputs) (rec : Record) (f : FrozenAt) → inputs_of files names.inputs ≡ Ok inputs →
+  all-paid : (files : List StoredFile) (inputs : Inputs) (rec : Record) (f : FrozenAt) → names.inputs.owners ≡ None → inputs_of files names.inputs ≡ Ok inputs →
       Contains (outcome rec.order inputs []).frozen f → IsThresholdPrice inputs.scenario inputs.book rec.order f.station f.price
-  all-paid files inputs rec f is bought =
-      threshold inputs.scenario inputs.book rec.order f (accepted-ascend files names.inputs inputs is) (accepted-values files names.inputs inputs is) bought
+  all-paid files inputs rec f valued is bought =
+      threshold inputs.scenario inputs.book rec.order f (accepted-ascend files names.inputs inputs is) (accepted-values files names.inputs inputs valued is) bought
 
   -- ---- a transcript that is refused
 
@@ -177,7 +177,7 @@ verify-promises names before after status found end = record {
   done = λ files told h. all-done names before after status found files end told h;
   cut = λ files told four. all-cut names before after status found files end told four;
   unrecorded = all-unrecorded names before after status found end;
-  paid = λ files inputs rec f told is kept zero bought. all-paid names before after status found files inputs rec f is bought;
+  paid = λ files inputs rec f told valued is kept zero bought. all-paid names before after status found files inputs rec f valued is bought;
   printed = all-printed names before after status found end;
   recorded = all-recorded names before after status found end;
   refused = λ files told nine. all-refused names before after status found files end told nine;

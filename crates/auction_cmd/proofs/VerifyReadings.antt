@@ -1,5 +1,5 @@
 -- What may be relied on of `verify` where an input or the transcript was not read.
-use Rattle.std.proofs.Common.{◌≡◌, ◌≢◌, ◌⊎◌, ◌<◌, ◌∙◌, ◌-◌, ℕ, true, inl, inr, List, [], ◌∷◌, length, refl, sym, arith, Option, Some, None}
+use Rattle.std.proofs.Common.{◌≡◌, ◌≢◌, ◌⊎◌, ◌<◌, ◌∙◌, ℕ, true, inl, inr, List, [], ◌∷◌, length, refl, sym, arith, Option, Some, None}
 use Rattle.std.specs.Prelude.{Ok, Err, IsSome}
 use Rattle.outside_io.specs.Faults.{HasRisen}
 use Rattle.outside_io.specs.Files.{StoredFile, bytes_of}
@@ -77,9 +77,9 @@ module _ (names : VerifyNames) (before after : Outside) (status : ℕ) (found : 
   all-unread_says (Sound inputs text rec are can held is of kept p) three =
       absurd (off (0 ∷ 1 ∷ 4 ∷ []) status 3 (printed-statuses (result_of rec.order inputs (undecided_of rec.steps)) (undecided_of rec.steps) before after status p) three refl)
 
-  -- the four files are the inputs and the transcript
+  -- the files are the inputs and the transcript
   inputs-there : (files : List StoredFile) → AreAllThere files names → AreThere files names.inputs
-  inputs-there files there = record { domains = there.domains; rows = there.rows; scenario = there.scenario }
+  inputs-there files there = record { domains = there.domains; rows = there.rows; scenario = there.scenario; owners = there.owners }
 
   pub is-there : (held : Option (List ℕ)) → IsSome held → held ≡ None → ⊥
   is-there (Some bytes) some none = cc

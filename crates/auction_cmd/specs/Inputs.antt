@@ -8,17 +8,24 @@ use Rattle.constraint_files.specs.Domains.{domains_of}
 use Rattle.constraint_files.specs.Rows.{PairsView, pairs_of}
 use Rattle.constraint_files.specs.declared.error.ReadErr.{ReadErr}
 use Rattle.constraint_files.specs.declared.error.ReadErr.TheVariants.{Row as RefusedRow, NoMemory as NoRoom}
+use Rattle.pack_defs.specs.declared.owners.OwnerLine.{OwnerLine}
 use Rattle.pack_defs.specs.declared.scenario.Scenario.{Scenario}
 use Rattle.pack_defs.specs.Book.{BookView}
+use Rattle.pack_defs.specs.Prices.{falls}
+use Rattle.pack_defs.specs.Scenario.{facilities, with_owners}
+use Rattle.owner_line.specs.OwnersOf.{owners_of}
+use Rattle.owner_line.specs.declared.error.OwnerErr.{OwnerErr}
+use Rattle.owner_line.specs.declared.error.OwnerErr.TheVariants.{Row as RefusedLine, NoMemory as NoList}
 use Rattle.scenario_json.specs.declared.error.ScenarioErr.{ScenarioErr}
 use Rattle.scenario_json.specs.declared.join.JoinErr.{JoinErr}
 use Rattle.scenario_json.specs.declared.join.JoinErr.TheVariants.{MissingDomain as NoDomain, NoMemory as NoSpace}
 use Rattle.scenario_json.specs.Joined.{joined}
 use Rattle.scenario_json.specs.ScenarioOf.{scenario_of}
 use Rattle.auction_cmd.specs.declared.refusal.Input.{Input}
-use Rattle.auction_cmd.specs.declared.refusal.Input.TheVariants.{Domains, Rows, Scenario as ScenarioFile}
-use Rattle.auction_cmd.specs.declared.refusal.Refusal.TheVariants.{TooLong, Row, Scenario as BadScenario, MissingDomain}
+use Rattle.auction_cmd.specs.declared.refusal.Input.TheVariants.{Domains, Rows, Scenario as ScenarioFile, Owners as OwnersFile}
+use Rattle.auction_cmd.specs.declared.refusal.Refusal.TheVariants.{TooLong, Row, Scenario as BadScenario, MissingDomain, Owners as BadOwners}
 use Rattle.auction_cmd.specs.declared.inputs.Inputs.{Inputs}
+use Rattle.auction_cmd.specs.declared.sources.Sources.{Sources}
 use Rattle.auction_cmd.specs.declared.inputs.Stop.{Stop}
 use Rattle.auction_cmd.specs.declared.inputs.Stop.TheVariants.{CannotRead, Refused, NoMemory}
 use Rattle.auction_cmd.specs.Words.{InputNames}
@@ -70,14 +77,54 @@ inputs_from sc pairs (Ok book) =
 inputs_from sc pairs (Err (NoDomain s)) = Err (Refused (MissingDomain s))
 inputs_from sc pairs (Err NoSpace) = Err NoMemory
 
--- The inputs that the files of these names hold, or the first one that stops the reading: the domains, then the rows,
--- then the scenario, each there, within the limit and accepted by its reader; then the book that they make.
-unfoldable pub inputs_of : List StoredFile → InputNames → Result Inputs Stop
-inputs_of files names =
+-- What the domains, the rows and the scenario of these names hold, or the first one that stops the reading: each there, within
+-- the limit and accepted by its reader, in this order.
+unfoldable pub sources_of : List StoredFile → InputNames → Result Sources Stop
+sources_of files names =
     and_then (and_then (file_of files names.domains Domains) (λ bytes. rows_read Domains (domains_of bytes))) (λ domains.
     and_then (and_then (file_of files names.rows Rows) (λ bytes. rows_read Rows (pairs_of bytes domains))) (λ pairs.
     and_then (and_then (file_of files names.scenario ScenarioFile) (λ bytes. scenario_read (scenario_of bytes))) (λ sc.
-    inputs_from sc pairs (joined sc domains pairs.list))))
+    Ok (record { domains = domains; pairs = pairs; scenario = sc }))))
+
+-- the inputs that these make
+abbrev pub inputs_by : Sources → Result Inputs Stop
+inputs_by s = inputs_from s.scenario s.pairs (joined s.scenario s.domains s.pairs.list)
+
+-- the inputs that the files of these names hold, with the book that they make, or the first one that stops the reading
+abbrev pub valued_of : List StoredFile → InputNames → Result Inputs Stop
+valued_of files names = and_then (sources_of files names) inputs_by
+
+-- the answer is the book that these make, or the station that has no domain row; want of memory may come at any time
+abbrev pub IsBookOf : Sources → Result BookView Stop → Type 0
+IsBookOf s (Ok book) = joined s.scenario s.domains s.pairs.list ≡ Ok book
+IsBookOf s (Err (CannotRead i)) = ⊥
+IsBookOf s (Err (Refused why)) = inputs_by s ≡ Err (Refused why)
+IsBookOf s (Err NoMemory) = ⊤
+
+-- what an owners' file says, or which of its lines is refused
+abbrev pub owners_read : Result (List OwnerLine) OwnerErr → Result (List OwnerLine) Stop
+owners_read (Ok lines) = Ok lines
+owners_read (Err (RefusedLine line why)) = Err (Refused (BadOwners line why))
+owners_read (Err NoList) = Err NoMemory
+
+-- what the owners' file of this name says of the stations of this scenario, from the opening price to its last fall
+abbrev pub said_in : List StoredFile → List ℕ → Scenario → Result (List OwnerLine) Stop
+said_in files name sc =
+    and_then (file_of files name OwnersFile) (λ bytes. owners_read (owners_of bytes (length (falls sc)) (facilities sc)))
+
+-- the inputs of the live auction in which the owners say these lines: the values stand for nothing
+abbrev pub live_inputs : Inputs → List OwnerLine → Inputs
+live_inputs inputs lines = record inputs { scenario = with_owners inputs.scenario (Some lines) }
+
+-- these inputs, with what the owners' file says, where one is named
+abbrev pub with_said : List StoredFile → Option (List ℕ) → Inputs → Result Inputs Stop
+with_said files None inputs = Ok inputs
+with_said files (Some name) inputs = and_then (said_in files name inputs.scenario) (λ lines. Ok (live_inputs inputs lines))
+
+-- The inputs that the files of these names hold, or the first one that stops the reading: the domains, then the rows, then
+-- the scenario, then the book that they make; and then, where an owners' file is named, what the owners say.
+unfoldable pub inputs_of : List StoredFile → InputNames → Result Inputs Stop
+inputs_of files names = and_then (valued_of files names) (with_said files names.owners)
 
 -- What a call answers, seen so, is what the files hold. Memory may run out; and a folder that isn't steady may fail to
 -- read a file that is there.

@@ -5,6 +5,7 @@ pub mod ExportPromises
 pub mod Faults
 pub mod ImportPromises
 pub mod Inputs
+pub mod LivePromises
 pub mod Made
 pub mod MakePromises
 pub mod Outside
@@ -14,6 +15,8 @@ pub mod Promises
 pub mod Records
 pub mod Refusals
 pub mod Says
+pub mod Seek
+pub mod SeekPromises
 pub mod Settling
 pub mod Transcripts
 pub mod Verified

@@ -1,6 +1,6 @@
 -- What the words of the command line have the program do.
 use Rattle.std.specs.Prelude.{ℕ, List, Option, Some, None}
-use Rattle.auction_cmd.specs.Words.{Command, run, check, verify, make, export, import, InputNames, RunNames, VerifyNames, MakeNames, ExportNames, ImportNames, command_of, repeated_export, repeated_import, repeated_made, repeated_output}
+use Rattle.auction_cmd.specs.Words.{Command, run, check, verify, seek, make, export, import, InputNames, RunNames, VerifyNames, SeekNames, MakeNames, ExportNames, ImportNames, command_of, repeated_export, repeated_import, repeated_made, repeated_output, repeated_seek}
 
 -- nothing, where they are no command; to refuse an output name that is given twice; or a command
 pub data Plan : Type 0 where
@@ -9,6 +9,7 @@ pub data Plan : Type 0 where
   runs : RunNames → Plan
   checks : InputNames → Plan
   verifies : VerifyNames → Plan
+  seeks : SeekNames → Plan
   makes : MakeNames → Plan
   exports : ExportNames → Plan
   imports : ImportNames → Plan
@@ -17,6 +18,11 @@ pub data Plan : Type 0 where
 abbrev pub run_plan : RunNames → Option (List ℕ) → Plan
 run_plan names (Some name) = repeats name
 run_plan names None = runs names
+
+-- a search for the least top channel, unless the name of the file to store is given twice
+abbrev pub seek_plan : SeekNames → Option (List ℕ) → Plan
+seek_plan names (Some name) = repeats name
+seek_plan names None = seeks names
 
 -- a made auction, unless a name is given twice
 abbrev pub make_plan : MakeNames → Option (List ℕ) → Plan
@@ -38,6 +44,7 @@ command_plan None = no_command
 command_plan (Some (run names)) = run_plan names (repeated_output names)
 command_plan (Some (check names)) = checks names
 command_plan (Some (verify names)) = verifies names
+command_plan (Some (seek names)) = seek_plan names (repeated_seek names)
 command_plan (Some (make names)) = make_plan names (repeated_made names)
 command_plan (Some (export names)) = export_plan names (repeated_export names)
 command_plan (Some (import names)) = import_plan names (repeated_import names)

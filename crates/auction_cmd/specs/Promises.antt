@@ -24,15 +24,17 @@ use Rattle.auction_cmd.specs.Ends.{AreHeld, run_texts}
 use Rattle.auction_cmd.specs.ExportPromises.{ExportPromises}
 use Rattle.auction_cmd.specs.ImportPromises.{ImportPromises}
 use Rattle.auction_cmd.specs.Inputs.{inputs_of}
+use Rattle.auction_cmd.specs.LivePromises.{IsLive}
 use Rattle.auction_cmd.specs.MakePromises.{MakePromises}
 use Rattle.auction_cmd.specs.Outside.{Outside, IsSaid}
-use Rattle.auction_cmd.specs.Plan.{Plan, no_command, repeats, runs, checks, verifies, makes, exports, imports}
+use Rattle.auction_cmd.specs.Plan.{Plan, no_command, repeats, runs, checks, verifies, seeks, makes, exports, imports}
 use Rattle.auction_cmd.specs.Records.{IsOpenRecordOf, IsRecordBy, IsRecordOf, StartFits, StartUnfit, done_status, outcome, result_of, run_order, summary_of}
 use Rattle.auction_cmd.specs.Refusals.{line_of, name_of}
 use Rattle.auction_cmd.specs.Says.{memory_line, open_line, twice_line, unfit_line, unread_line, unwritten_line}
+use Rattle.auction_cmd.specs.SeekPromises.{SeekPromises}
 use Rattle.auction_cmd.specs.Verified.{verified}
 use Rattle.auction_cmd.specs.VerifyPromises.{IsOr, VerifyPromises}
-use Rattle.auction_cmd.specs.Words.{ExportNames, ImportNames, InputNames, MakeNames, RunNames, VerifyNames, output_names}
+use Rattle.auction_cmd.specs.Words.{ExportNames, ImportNames, InputNames, MakeNames, RunNames, SeekNames, VerifyNames, output_names, seek_inputs}
 
 -- the inputs that a plan reads which reads no other file, if it reads any
 abbrev pub inputs_read : Plan → Option InputNames
@@ -41,9 +43,22 @@ inputs_read (repeats name) = None
 inputs_read (runs names) = Some names.inputs
 inputs_read (checks names) = Some names
 inputs_read (verifies names) = None
+inputs_read (seeks names) = Some (seek_inputs names)
 inputs_read (makes names) = None
 inputs_read (exports names) = None
 inputs_read (imports names) = None
+
+-- the inputs of the plans that have a record of their auction, carried out here or shown by a transcript
+abbrev pub carries_out : Plan → Option InputNames
+carries_out no_command = None
+carries_out (repeats name) = None
+carries_out (runs names) = Some names.inputs
+carries_out (checks names) = None
+carries_out (verifies names) = Some names.inputs
+carries_out (seeks names) = None
+carries_out (makes names) = None
+carries_out (exports names) = None
+carries_out (imports names) = None
 
 -- the plan reads no file and stores none
 abbrev pub asks_nothing : Plan → Bool
@@ -52,6 +67,7 @@ asks_nothing (repeats name) = true
 asks_nothing (runs names) = false
 asks_nothing (checks names) = false
 asks_nothing (verifies names) = false
+asks_nothing (seeks names) = false
 asks_nothing (makes names) = false
 asks_nothing (exports names) = false
 asks_nothing (imports names) = false
@@ -63,6 +79,7 @@ records_first (repeats name) = true
 records_first (runs names) = true
 records_first (checks names) = true
 records_first (verifies names) = true
+records_first (seeks names) = true
 records_first (makes names) = false
 records_first (exports names) = false
 records_first (imports names) = true
@@ -74,9 +91,22 @@ verifies_first (repeats name) = false
 verifies_first (runs names) = false
 verifies_first (checks names) = false
 verifies_first (verifies names) = true
+verifies_first (seeks names) = false
 verifies_first (makes names) = false
 verifies_first (exports names) = true
 verifies_first (imports names) = true
+
+-- the plan seeks a top channel
+abbrev pub seeks_top : Plan → Bool
+seeks_top no_command = false
+seeks_top (repeats name) = false
+seeks_top (runs names) = false
+seeks_top (checks names) = false
+seeks_top (verifies names) = false
+seeks_top (seeks names) = true
+seeks_top (makes names) = false
+seeks_top (exports names) = false
+seeks_top (imports names) = false
 
 -- the plan names a step
 abbrev pub asks_step : Plan → Bool
@@ -85,15 +115,17 @@ asks_step (repeats name) = false
 asks_step (runs names) = false
 asks_step (checks names) = false
 asks_step (verifies names) = false
+asks_step (seeks names) = false
 asks_step (makes names) = false
 asks_step (exports names) = true
 asks_step (imports names) = true
 
--- the three input files are there
+-- the three input files are there, and the owners' file, where one is named
 pub record AreThere (files : List StoredFile) (names : InputNames) : Type 0 where
   pub domains : IsSome (bytes_of files names.domains)
   pub rows : IsSome (bytes_of files names.rows)
   pub scenario : IsSome (bytes_of files names.scenario)
+  pub owners : MatchOption names.owners ⊤ (λ name. IsSome (bytes_of files name))
 
 -- The auction of these inputs was carried out: the record is the auction's. RESULT holds the text of the clock rule's result
 -- with the tests left open that the record shows undecided, CHANNELS that of the record's map, which violates no row, and
@@ -111,14 +143,14 @@ pub record IsDone (files : List StoredFile) (names : RunNames) (before after : O
   pub verifiable : verified inputs (transcript_text inputs.scenario inputs.book rec) ≡ Ok rec
 
 -- The auction of these inputs was carried out with every test decided: what RESULT holds and what the summary says hang on
--- the three input files alone, and each station that is bought is paid the greatest admissible value with which it would
--- have been bought.
+-- the input files alone; and where the values stand for the owners, each station that is bought is paid the greatest
+-- admissible value with which it would have been bought.
 pub record IsDecided (files : List StoredFile) (names : RunNames) (before after : Outside) : Type 0 where
   pub inputs : Inputs
   pub accepted : inputs_of files names.inputs ≡ Ok inputs
   pub result : MatchOption after.files ⊥ (λ new. bytes_of new names.result ≡ Some (result_of run_order inputs []))
   pub summary : Writes before.held after.held (summary_of inputs []) (Ok tt)
-  pub paid : (f : FrozenAt) → Contains (outcome run_order inputs []).frozen f →
+  pub paid : names.inputs.owners ≡ None → (f : FrozenAt) → Contains (outcome run_order inputs []).frozen f →
       IsThresholdPrice inputs.scenario inputs.book run_order f.station f.price
 
 -- A store of an auction that was carried out failed, or memory ran out at it: the texts before it stand under their names,
@@ -182,7 +214,7 @@ pub record IsLeftOpen (files : List StoredFile) (names : RunNames) (before after
   pub auction : IsOpenRecordOf inputs rec
   pub line : IsSaid before after open_line
 
-pub record Promises (plan : Plan) (before after : Outside) (status : ℕ) (found : Option Record) : Type 0 where
+pub record Promises (plan : Plan) (before after : Outside) (status : ℕ) (found below : Option Record) : Type 0 where
   pub statuses : IsTrue (is_in (0 ∷ 1 ∷ 2 ∷ 3 ∷ 4 ∷ 5 ∷ 6 ∷ 7 ∷ 8 ∷ 9 ∷ 10 ∷ []) status)
   -- Status 2 comes exactly where the words are no command, but for want of memory.
   pub usage : plan ≡ no_command → (status ≡ 2) ⊎ (status ≡ 8)
@@ -288,6 +320,16 @@ pub record Promises (plan : Plan) (before after : Outside) (status : ℕ) (found
       IsOr 0 before status ⊎ (status ≡ 4)
   -- What may be relied on of `verify`.
   pub verify : (names : VerifyNames) → plan ≡ verifies names → VerifyPromises names before after status found
+  -- What may be relied on of a live auction, one with an owners' file, beside that; and of one without, the record has no owners.
+  pub live : (files : List StoredFile) (names : RunNames) (owners : List ℕ) →
+      before.files ≡ Some files → plan ≡ runs names → names.inputs.owners ≡ Some owners → IsSome found → IsLive files names.inputs owners found
+  pub unsaid : (files : List StoredFile) (names : InputNames) →
+      before.files ≡ Some files → carries_out plan ≡ Some names → names.owners ≡ None → MatchOption found ⊤ (λ rec. rec.scenario.owners ≡ None)
+  pub verified_live : (files : List StoredFile) (names : VerifyNames) (owners : List ℕ) →
+      before.files ≡ Some files → plan ≡ verifies names → names.inputs.owners ≡ Some owners → IsSome found → IsLive files names.inputs owners found
+  -- What may be relied on of `seek`, which alone has a second record.
+  pub seek : (names : SeekNames) → plan ≡ seeks names → SeekPromises names before after status found below
+  pub no_other : seeks_top plan ≡ false → below ≡ None
   -- What may be relied on of `make`: what it stores, and that it ends at 0, 1, 4 or 8.
   pub make : (names : MakeNames) → plan ≡ makes names → MakePromises names before after status found
   -- What may be relied on of `export` and of `import`.

@@ -1,5 +1,6 @@
 -- The line that says which input is refused, and why.
 use Rattle.std.specs.Prelude.{ℕ, ◌==◌, if◌then◌else◌, List, ◌++◌, codes, decimal}
+use Rattle.std.specs.Option.{option_map_or}
 use Rattle.constraint_files.specs.declared.error.RowWhy.{RowWhy}
 use Rattle.constraint_files.specs.declared.error.RowWhy.TheVariants.{ShortRow, BadKey, BadNumber, ChannelRange, BadOffset, SecondDomain, TooMany}
 use Rattle.scenario_json.specs.declared.error.ScenarioErr.{ScenarioErr}
@@ -7,16 +8,19 @@ use Rattle.scenario_json.specs.declared.error.ScenarioErr.TheVariants.{Syntax, M
 use Rattle.scenario_json.specs.declared.name.Name.{Name}
 use Rattle.scenario_json.specs.Name.{name_text}
 use Rattle.auction_cmd.specs.declared.refusal.Input.{Input}
-use Rattle.auction_cmd.specs.declared.refusal.Input.TheVariants.{Domains, Rows, Scenario as ScenarioFile}
+use Rattle.auction_cmd.specs.declared.refusal.Input.TheVariants.{Domains, Rows, Scenario as ScenarioFile, Owners as OwnersFile}
 use Rattle.auction_cmd.specs.declared.refusal.Refusal.{Refusal}
-use Rattle.auction_cmd.specs.declared.refusal.Refusal.TheVariants.{TooLong, Row, Scenario, MissingDomain}
+use Rattle.auction_cmd.specs.declared.refusal.Refusal.TheVariants.{TooLong, Row, Scenario, MissingDomain, Owners}
+use Rattle.owner_line.specs.declared.error.OwnerWhy.{OwnerWhy}
+use Rattle.owner_line.specs.declared.error.OwnerWhy.TheVariants as owner
 use Rattle.auction_cmd.specs.Words.{InputNames}
 
--- the name of an input file
+-- the name of an input file; where no owners' file is named, the scenario has what stands for it
 abbrev pub name_of : InputNames → Input → List ℕ
 name_of names Domains = names.domains
 name_of names Rows = names.rows
 name_of names ScenarioFile = names.scenario
+name_of names OwnersFile = option_map_or (λ name. name) names.owners names.scenario
 
 -- the file that is refused
 abbrev pub input_of : Refusal → Input
@@ -24,6 +28,7 @@ input_of (TooLong input) = input
 input_of (Row input line why) = input
 input_of (Scenario error) = ScenarioFile
 input_of (MissingDomain s) = Domains
+input_of (Owners line why) = OwnersFile
 
 -- the words for the refusal of a record
 unfoldable pub row_text : RowWhy → List ℕ
@@ -34,6 +39,15 @@ row_text ChannelRange = codes "channel out of range"
 row_text BadOffset = codes "channels do not fit the key"
 row_text SecondDomain = codes "second domain row"
 row_text TooMany = codes "too many"
+
+-- the words for the refusal of an owner's line
+unfoldable pub owner_text : OwnerWhy → List ℕ
+owner_text owner.Fields = codes "not three fields"
+owner_text owner.BadNumber = codes "bad number"
+owner_text owner.RoundRange = codes "round out of range"
+owner_text owner.UnknownStation = codes "unknown station"
+owner_text owner.BadWord = codes "bad word"
+owner_text owner.Repeated = codes "repeated"
 
 -- the place in a list, where there is one, and the line's end
 abbrev pub place_text : ℕ → List ℕ
@@ -60,6 +74,7 @@ refusal_text (TooLong input) = codes ": too long\n"
 refusal_text (Row input line why) = codes ": line " ++ decimal line ++ codes ": " ++ row_text why ++ codes "\n"
 refusal_text (Scenario error) = scenario_text error
 refusal_text (MissingDomain s) = codes ": no domain row for station " ++ decimal s ++ codes "\n"
+refusal_text (Owners line why) = codes ": line " ++ decimal line ++ codes ": " ++ owner_text why ++ codes "\n"
 
 -- the line of a refusal, of these input files
 abbrev pub line_of : InputNames → Refusal → List ℕ

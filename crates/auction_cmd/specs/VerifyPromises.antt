@@ -1,5 +1,5 @@
 -- What may be relied on of `verify`, a clause each.
-use Rattle.std.specs.Prelude.{Contains, ◌≡◌, ◌≢◌, ◌⊎◌, ◌<◌, ◌≤◌, ℕ, true, List, [], ◌∷◌, length, Option, Some, None, Ok, Err, IsSome, IsTrue}
+use Rattle.std.specs.Prelude.{Contains, ◌≡◌, ◌≢◌, ◌⊎◌, ◌<◌, ◌≤◌, ℕ, true, List, [], ◌∷◌, length, Option, Some, None, Ok, Err, IsSome, IsTrue, MatchOption, ⊤}
 use Rattle.pack_defs.specs.Lists.{is_in}
 use Rattle.pack_defs.specs.ClockRule.{FrozenAt}
 use Rattle.pack_defs.specs.Threshold.{IsThresholdPrice}
@@ -51,11 +51,12 @@ pub record IsVerified (files : List StoredFile) (names : VerifyNames) (found : O
 abbrev pub verified_text : {files : List StoredFile} {names : VerifyNames} {found : Option Record} → IsVerified files names found → List ℕ
 verified_text v = result_of v.rec.order v.inputs (undecided_of v.rec.steps)
 
--- the four files are there
+-- the files that are read are there: four, and the owners' file, where one is named
 pub record AreAllThere (files : List StoredFile) (names : VerifyNames) : Type 0 where
   pub domains : IsSome (bytes_of files names.inputs.domains)
   pub rows : IsSome (bytes_of files names.inputs.rows)
   pub scenario : IsSome (bytes_of files names.inputs.scenario)
+  pub owners : MatchOption names.inputs.owners ⊤ (λ name. IsSome (bytes_of files name))
   pub transcript : IsSome (bytes_of files names.transcript)
 
 pub record VerifyPromises (names : VerifyNames) (before after : Outside) (status : ℕ) (found : Option Record) : Type 0 where
@@ -74,9 +75,9 @@ pub record VerifyPromises (names : VerifyNames) (before after : Outside) (status
   pub recorded : IsTrue (is_in (0 ∷ 1 ∷ 4 ∷ []) status) →
       (inputs : Inputs) × (rec : Record) × AreHeld names.inputs before inputs × (found ≡ Some rec) × IsRecordIn rec.order inputs rec
   pub unrecorded : IsTrue (is_in (3 ∷ 5 ∷ 8 ∷ 9 ∷ []) status) → found ≡ None
-  -- Where every test was decided, each station that is bought is paid the greatest admissible value with which it would have
-  -- been bought, by the rule in the transcript's order.
-  pub paid : (files : List StoredFile) (inputs : Inputs) (rec : Record) (f : FrozenAt) → before.files ≡ Some files →
+  -- Where every test was decided and the values stand for the owners, each station that is bought is paid the greatest
+  -- admissible value with which it would have been bought, by the rule in the transcript's order.
+  pub paid : (files : List StoredFile) (inputs : Inputs) (rec : Record) (f : FrozenAt) → before.files ≡ Some files → names.inputs.owners ≡ None →
       inputs_of files names.inputs ≡ Ok inputs → found ≡ Some rec → status ≡ 0 →
       Contains (outcome rec.order inputs []).frozen f → IsThresholdPrice inputs.scenario inputs.book rec.order f.station f.price
   -- Also where the folder tells nothing, the record is one of the auction of some inputs, carried through, and its result was

@@ -10,31 +10,40 @@ use Rattle.clap.specs.declared.builder.value_parser.ValueParser.TheVariants.{Uns
 use Rattle.auction_cmd.specs.declared.make_words.MakeArgs.{MakeArgs}
 use Rattle.auction_cmd.specs.declared.proof_words.ExportArgs.{ExportArgs}
 use Rattle.auction_cmd.specs.declared.proof_words.ImportArgs.{ImportArgs}
+use Rattle.auction_cmd.specs.declared.seek_words.SeekArgs.{SeekArgs}
 use Rattle.auction_cmd.specs.declared.words.InputArgs.{InputArgs}
 use Rattle.auction_cmd.specs.declared.words.RunArgs.{RunArgs}
 use Rattle.auction_cmd.specs.declared.words.VerifyArgs.{VerifyArgs}
 use Rattle.auction_cmd.specs.declared.words.Order.{Order}
-use Rattle.auction_cmd.specs.declared.words.Order.TheVariants.{Run, Check, Verify, Make, Export, Import}
+use Rattle.auction_cmd.specs.declared.words.Order.TheVariants.{Run, Check, Verify, Seek, Make, Export, Import}
 use Rattle.auction_cmd.specs.declared.words.WordsFault.{WordsFault}
 use Rattle.auction_cmd.specs.declared.words.WordsFault.TheVariants.{NoMemory, Refused}
 
--- the names of the input files
+-- the names of the input files; the owners' file has one where the auction is live
 pub record InputNames : Type 0 where
   pub domains : List ℕ
   pub rows : List ℕ
   pub scenario : List ℕ
+  pub owners : Option (List ℕ)
 
--- the names of the files of `run`
+-- the names of the files of `run` or, with an owners' file, of `live`
 pub record RunNames : Type 0 where
   pub inputs : InputNames
   pub result : List ℕ
   pub channels : List ℕ
   pub transcript : List ℕ
 
--- the names of the files of `verify`
+-- the names of the files of `verify` or, with an owners' file, of `verify-live`
 pub record VerifyNames : Type 0 where
   pub inputs : InputNames
   pub transcript : List ℕ
+
+-- the names of the files of `seek`
+pub record SeekNames : Type 0 where
+  pub domains : List ℕ
+  pub rows : List ℕ
+  pub scenario : List ℕ
+  pub channels : List ℕ
 
 -- the seed and the size of `make`, and the names of the files that it stores
 pub record MakeNames : Type 0 where
@@ -62,6 +71,7 @@ pub data Command : Type 0 where
   run : RunNames → Command
   check : InputNames → Command
   verify : VerifyNames → Command
+  seek : SeekNames → Command
   make : MakeNames → Command
   export : ExportNames → Command
   import : ImportNames → Command
@@ -91,12 +101,25 @@ output_ids = codes "RESULT" ∷ codes "CHANNELS" ∷ codes "TRANSCRIPT" ∷ []
 abbrev pub run_app : App
 run_app = with_required (new_app (codes "run")) (input_ids ++ output_ids)
 
+-- the arguments that name the input files of a live auction
+abbrev pub live_ids : List Text
+live_ids = input_ids ++ codes "OWNERS" ∷ []
+
+abbrev pub live_app : App
+live_app = with_required (new_app (codes "live")) (live_ids ++ output_ids)
+
 -- the arguments that name the files of an auction that was carried out
 abbrev pub shown_ids : List Text
 shown_ids = input_ids ++ codes "TRANSCRIPT" ∷ []
 
 abbrev pub verify_app : App
 verify_app = with_required (new_app (codes "verify")) shown_ids
+
+abbrev pub verify_live_app : App
+verify_live_app = with_required (new_app (codes "verify-live")) (live_ids ++ codes "TRANSCRIPT" ∷ [])
+
+abbrev pub seek_app : App
+seek_app = with_required (new_app (codes "seek")) (input_ids ++ codes "CHANNELS" ∷ [])
 
 -- the greatest seed, the most stations of a made auction, and the last step that can be asked about
 abbrev pub seed_limit : ℕ
@@ -137,8 +160,16 @@ bare_app = on_top (λ s. record s { has_version = true; subcommand_required = tr
 abbrev pub reading_app : App
 reading_app = with_subcommand (with_subcommand (with_subcommand bare_app run_app.top) check_app.top) verify_app.top
 
+-- and with those of a live auction
+abbrev pub live_reading_app : App
+live_reading_app = with_subcommand (with_subcommand reading_app live_app.top) verify_live_app.top
+
+-- and with the one that seeks the least top channel
+abbrev pub seeking_app : App
+seeking_app = with_subcommand live_reading_app seek_app.top
+
 abbrev pub program_app : App
-program_app = with_subcommand (with_subcommand (with_subcommand reading_app make_app.top) export_app.top) import_app.top
+program_app = with_subcommand (with_subcommand (with_subcommand seeking_app make_app.top) export_app.top) import_app.top
 
 -- ---- what was read
 
@@ -146,29 +177,43 @@ program_app = with_subcommand (with_subcommand (with_subcommand reading_app make
 abbrev pub with_value : {X : Type 0} → List Row → Text → (Text → Option X) → Option X
 with_value rows id build = option_and_then build (first_of id rows)
 
--- the names of the input files, where each is there
+-- the names of the input files, where each is there; none names an owners' file
 abbrev pub input_names : List Row → Option InputNames
 input_names rows =
     with_value rows (codes "DOMAINS") (λ domains.
     with_value rows (codes "ROWS") (λ pairs.
     with_value rows (codes "SCENARIO") (λ scenario.
-    Some (record { domains = domains; rows = pairs; scenario = scenario }))))
+    Some (record { domains = domains; rows = pairs; scenario = scenario; owners = None }))))
 
--- the names of the files of `run`, where each is there
-abbrev pub run_names : List Row → Option RunNames
-run_names rows =
+-- the names of the input files of a live auction, where each is there
+abbrev pub live_names : List Row → Option InputNames
+live_names rows =
     option_and_then (λ inputs.
+    with_value rows (codes "OWNERS") (λ owners. Some (record inputs { owners = Some owners })))
+    (input_names rows)
+
+-- the names of these input files and of the files that a run stores, where each is there
+abbrev pub run_names : List Row → InputNames → Option RunNames
+run_names rows inputs =
     with_value rows (codes "RESULT") (λ result.
     with_value rows (codes "CHANNELS") (λ channels.
     with_value rows (codes "TRANSCRIPT") (λ transcript.
-    Some (record { inputs = inputs; result = result; channels = channels; transcript = transcript })))))
-    (input_names rows)
+    Some (record { inputs = inputs; result = result; channels = channels; transcript = transcript }))))
+
+-- the names of these input files and of a transcript, where it is there
+abbrev pub shown_by_names : List Row → InputNames → Option VerifyNames
+shown_by_names rows inputs = with_value rows (codes "TRANSCRIPT") (λ transcript. Some (record { inputs = inputs; transcript = transcript }))
 
 -- the names of the files of `verify`, where each is there
 abbrev pub verify_names : List Row → Option VerifyNames
-verify_names rows =
-    option_and_then (λ inputs.
-    with_value rows (codes "TRANSCRIPT") (λ transcript. Some (record { inputs = inputs; transcript = transcript })))
+verify_names rows = option_and_then (shown_by_names rows) (input_names rows)
+
+-- the names of the files of `seek`, where each is there
+abbrev pub seek_names : List Row → Option SeekNames
+seek_names rows =
+    option_and_then (λ (inputs : InputNames).
+    with_value rows (codes "CHANNELS") (λ channels.
+    Some (record { domains = inputs.domains; rows = inputs.rows; scenario = inputs.scenario; channels = channels })))
     (input_names rows)
 
 -- The number that the text is, where it is one from the least to the most: decimal digits, behind a plus or behind none.
@@ -214,12 +259,15 @@ import_names rows =
 -- the command of this name, where each of its arguments is there
 abbrev pub named_command : Text × List Row → Option Command
 named_command found =
-    if bytes_eq found.0 (codes "run") then option_map run (run_names found.1)
+    if bytes_eq found.0 (codes "run") then option_map run (option_and_then (run_names found.1) (input_names found.1))
     else (if bytes_eq found.0 (codes "check") then option_map check (input_names found.1)
     else (if bytes_eq found.0 (codes "verify") then option_map verify (verify_names found.1)
+    else (if bytes_eq found.0 (codes "live") then option_map run (option_and_then (run_names found.1) (live_names found.1))
+    else (if bytes_eq found.0 (codes "verify-live") then option_map verify (option_and_then (shown_by_names found.1) (live_names found.1))
+    else (if bytes_eq found.0 (codes "seek") then option_map seek (seek_names found.1)
     else (if bytes_eq found.0 (codes "make") then option_map make (make_names found.1)
     else (if bytes_eq found.0 (codes "export") then option_map export (export_names found.1)
-    else (if bytes_eq found.0 (codes "import") then option_map import (import_names found.1) else None)))))
+    else (if bytes_eq found.0 (codes "import") then option_map import (import_names found.1) else None))))))))
 
 -- The command that the words are, the first of which is the program's name; none where `clap` has a fault for them, or an
 -- argument has no value.
@@ -229,11 +277,17 @@ command_of words =
 
 -- ---- names given twice
 
--- the names of `run`, in the order of its arguments
-abbrev pub names_given : RunNames → List (List ℕ)
-names_given names = names.inputs.domains ∷ names.inputs.rows ∷ names.inputs.scenario
-    ∷ names.result ∷ names.channels ∷ names.transcript ∷ []
+-- the name of the owners' file, if there is one
+abbrev pub owners_given : Option (List ℕ) → List (List ℕ)
+owners_given None = []
+owners_given (Some owners) = owners ∷ []
 
+-- the names of the files of `run` or `live`: those that are stored, and those that are read
+abbrev pub names_given : RunNames → List (List ℕ)
+names_given names = names.result ∷ names.channels ∷ names.transcript
+    ∷ names.inputs.domains ∷ names.inputs.rows ∷ names.inputs.scenario ∷ owners_given names.inputs.owners
+
+-- those that are stored, in the order of the arguments
 abbrev pub output_names : RunNames → List (List ℕ)
 output_names names = names.result ∷ names.channels ∷ names.transcript ∷ []
 
@@ -277,6 +331,18 @@ imported_names names = shown_names names.shown ++ names.proof ∷ names.result �
 unfoldable pub repeated_import : ImportNames → Option (List ℕ)
 repeated_import names = find (is_repeated_among (imported_names names)) (names.result ∷ names.transcript ∷ [])
 
+-- the names of the files of `seek`, in the order of its arguments
+abbrev pub sought_names : SeekNames → List (List ℕ)
+sought_names names = names.domains ∷ names.rows ∷ names.scenario ∷ names.channels ∷ []
+
+-- the name of the file that `seek` stores, where it is given more than once
+unfoldable pub repeated_seek : SeekNames → Option (List ℕ)
+repeated_seek names = find (is_repeated_among (sought_names names)) (names.channels ∷ [])
+
+-- the input files of `seek`, of which none tells what owners say
+abbrev pub seek_inputs : SeekNames → InputNames
+seek_inputs names = record { domains = names.domains; rows = names.rows; scenario = names.scenario; owners = None }
+
 -- ---- the code's values, as the definitions see them
 
 abbrev pub inputs_seen : InputArgs → InputNames
@@ -284,6 +350,7 @@ inputs_seen args = record {
   domains = args.domains.now;
   rows = args.rows.now;
   scenario = args.scenario.now;
+  owners = option_map (λ name. name.now) args.owners;
 }
 
 abbrev pub names_seen : RunArgs → RunNames
@@ -312,10 +379,19 @@ import_seen args = record {
   transcript = args.transcript.now;
 }
 
+abbrev pub seek_seen : SeekArgs → SeekNames
+seek_seen args = record {
+  domains = args.domains.now;
+  rows = args.rows.now;
+  scenario = args.scenario.now;
+  channels = args.channels.now;
+}
+
 abbrev pub order_seen : Order → Command
 order_seen (Run args) = run (names_seen args)
 order_seen (Check args) = check (inputs_seen args)
 order_seen (Verify args) = verify (verify_seen args)
+order_seen (Seek args) = seek (seek_seen args)
 order_seen (Make args) = make (make_seen args)
 order_seen (Export args) = export (export_seen args)
 order_seen (Import args) = import (import_seen args)

@@ -17,6 +17,7 @@ use crate::import::import;
 use crate::make::make;
 use crate::run::run;
 use crate::says::say;
+use crate::seek::seek;
 use crate::verify::verify;
 use crate::words::{Order, WordsFault, read_words};
 use outside_io::folder::Folder;
@@ -30,6 +31,7 @@ use std::thread::Threads;
 fn refuse_twice<K: Sink>(out: &mut K, name: &str) -> Finish
     ensures status { result.status ≡ 5 }
     ensures none { result.result ≡ None }
+    ensures no_other { result.below ≡ None }
     ensures says { Says (K.held out.old) (K.held out.new) (K.faults out.old) (K.faults out.new) (twice_line name.now) }
 {
     say(out, &[name, ": given twice\n"]);
@@ -48,7 +50,7 @@ fn carry_out<F: Folder, K: Sink, G: Gate + Sync, W: Threads + Wait + Sync>(
     ensures ends { Ends (plan_of (map string_bytes words.now))
         (outside (F.files folder.old) (F.faults folder.old) (F.steady folder.old) (K.held out.old) (K.faults out.old) (K.sure out.old))
         (outside (F.files folder.new) (F.faults folder.new) (F.steady folder.new) (K.held out.new) (K.faults out.new) (K.sure out.new))
-        result.status result.result }
+        result.status result.result result.below }
     ensures counted { IsCounted
         (outside (F.files folder.old) (F.faults folder.old) (F.steady folder.old) (K.held out.old) (K.faults out.old) (K.sure out.old))
         (outside (F.files folder.new) (F.faults folder.new) (F.steady folder.new) (K.held out.new) (K.faults out.new) (K.sure out.new))
@@ -61,6 +63,10 @@ fn carry_out<F: Folder, K: Sink, G: Gate + Sync, W: Threads + Wait + Sync>(
         },
         Ok(Order::Check(files)) => check(alloc, &files, folder, out),
         Ok(Order::Verify(files)) => verify(alloc, &files, folder, out),
+        Ok(Order::Seek(files)) => match files.given_twice() {
+            Some(name) => refuse_twice(out, name),
+            None => seek(rt, alloc, &files, folder, out, gate),
+        },
         Ok(Order::Make(files)) => match files.given_twice() {
             Some(name) => refuse_twice(out, name),
             None => make(rt, alloc, &files, folder, out, gate),
@@ -90,6 +96,11 @@ fn carry_out<F: Folder, K: Sink, G: Gate + Sync, W: Threads + Wait + Sync>(
 /// - `check DOMAINS ROWS SCENARIO` reads the three inputs and writes how many stations and pairs they have.
 /// - `verify DOMAINS ROWS SCENARIO TRANSCRIPT` reads the three inputs and a transcript, checks each of its steps and writes
 ///   the result that it shows.
+/// - `live DOMAINS ROWS SCENARIO OWNERS RESULT CHANNELS TRANSCRIPT` does what `run` does, but the owners say round by round, in
+///   the file OWNERS, which station stays; the stations' values are read and checked, and not used.
+/// - `verify-live DOMAINS ROWS SCENARIO OWNERS TRANSCRIPT` does what `verify` does with the transcript of such a live auction.
+/// - `seek DOMAINS ROWS SCENARIO CHANNELS` seeks the least top channel, from 14 to the scenario's own, up to which the stations
+///   fit that start on air, by auctions of these stations alone, stores a channel up to it for each of them and writes it.
 /// - `make SEED SIZE DOMAINS ROWS SCENARIO` makes the three files of an auction of SIZE stations from the number SEED, stores
 ///   them in this order, carries the auction out as `run` does and writes the summary. The same SEED and SIZE make the same
 ///   files.
@@ -99,13 +110,13 @@ fn carry_out<F: Folder, K: Sink, G: Gate + Sync, W: Threads + Wait + Sync>(
 ///   undecided step STEP by a log in LRAT's lines that refutes that formula, stores the result and the transcript of the record
 ///   that is left, in this order, and writes the summary.
 ///
-/// The status is 0 where all is done and every test was decided; 1 where all is done and some test was not; 2 where the
-/// words are no command, help and version included; 3 where a file can't be read; 4 where a file can't be stored, or the
-/// summary, the counts or the result can't be written; 5 where an output name is given twice, or a file is too long or an
-/// input refused; 6 where the start set doesn't fit; 7 where no worker decides whether it does; 8 for want of memory; 9 where
-/// the transcript's text is refused or a step of it isn't shown; 10 where it has no step STEP or, for `import`, that isn't
-/// undecided, or the log's text is refused or it refutes nothing. At each but 0 and 1 a line says so; where the sink fails at
-/// the summary, the counts or the result there is none.
+/// The status is 0 where all is done and every test was decided; 1 where all is done and some test was not, for `seek` that
+/// of one channel less; 2 where the words are no command, help and version included; 3 where a file can't be read; 4 where a
+/// file can't be stored, or the summary, the counts, the result or the top channel can't be written; 5 where an output name
+/// is given twice, or a file is too long or an input refused; 6 where the start set doesn't fit; 7 where no worker decides
+/// whether it does; 8 for want of memory; 9 where the transcript's text is refused or a step of it isn't shown; 10 where it
+/// has no step STEP or, for `import`, that isn't undecided, or the log's text is refused or it refutes nothing. At each but
+/// 0 and 1 a line says so; where the sink fails at the summary, the counts, the result or the top channel there is none.
 pub fn auction_main<F: Folder, K: Sink, G: Gate + Sync, W: Threads + Wait + Sync>(
     rt: &W,
     alloc: Global,
@@ -118,13 +129,13 @@ pub fn auction_main<F: Folder, K: Sink, G: Gate + Sync, W: Threads + Wait + Sync
     ensures ends { Ends (plan_of (map string_bytes words.now))
         (outside (F.files folder.old) (F.faults folder.old) (F.steady folder.old) (K.held out.old) (K.faults out.old) (K.sure out.old))
         (outside (F.files folder.new) (F.faults folder.new) (F.steady folder.new) (K.held out.new) (K.faults out.new) (K.sure out.new))
-        result.status result.result }
+        result.status result.result result.below }
 
     // What may be relied on, a clause each.
     ensures promises { Promises (plan_of (map string_bytes words.now))
         (outside (F.files folder.old) (F.faults folder.old) (F.steady folder.old) (K.held out.old) (K.faults out.old) (K.sure out.old))
         (outside (F.files folder.new) (F.faults folder.new) (F.steady folder.new) (K.held out.new) (K.faults out.new) (K.sure out.new))
-        result.status result.result }
+        result.status result.result result.below }
 
     // At which statuses the outside's counts of faults stand.
     ensures counted { IsCounted

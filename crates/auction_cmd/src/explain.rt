@@ -45,6 +45,7 @@ pub fn say_memory<K: Sink>(out: &mut K)
 pub fn starve<K: Sink>(out: &mut K) -> Finish
     ensures status { result.status ≡ 8 }
     ensures none { result.result ≡ None }
+    ensures no_other { result.below ≡ None }
     ensures line { Says (K.held out.old) (K.held out.new) (K.faults out.old) (K.faults out.new) memory_line }
 {
     say_memory(out);

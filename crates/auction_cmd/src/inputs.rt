@@ -1,23 +1,27 @@
-//! The inputs of an auction, read from three files.
+//! The inputs of an auction, read from three files; and what its owners say, where it is live, read from a fourth.
 
-ghost use Rattle.std.specs.Prelude.{◌≡◌, List, Some, IfOk};
+ghost use Rattle.std.specs.Prelude.{◌≡◌, List, Some, IfOk, option_map};
 ghost use Rattle.outside_io.specs.Files.{StoredFile};
 ghost use Rattle.pack_defs.specs.Book.{stations_of};
 ghost use Rattle.pack_defs.specs.Scenario.{IsWithinLimits, facilities};
 ghost use Rattle.scenario_json.specs.ScenarioOf.{scenario_of};
-ghost use Rattle.auction_cmd.specs.Inputs.{Agrees, CountsFault, and_then, file_of, inputs_of, scenario_read, stop_of};
+ghost use Rattle.auction_cmd.specs.declared.inputs.Stop.TheVariants.{NoMemory};
+ghost use Rattle.auction_cmd.specs.Inputs.{Agrees, CountsFault, and_then, file_of, inputs_of, said_in, scenario_read, stop_of, valued_of, with_said};
 ghost use Rattle.auction_cmd.specs.Words.{inputs_seen};
 
-use crate::constraints::{domains_from, pairs_from};
 use crate::refusal::{Input, Refusal};
+use crate::sources::{book_of, read_sources};
 use crate::words::InputArgs;
+use offer_sched::offers::last_round;
 use outside_io::folder::{Folder, LoadErr};
+use owner_line::error::OwnerErr;
+use owner_line::read::read_owners;
 use pack_defs::book::Book;
+use pack_defs::owners::Owners;
 use pack_defs::scenario::Scenario;
 use scenario_json::error::ScenarioErr;
-use scenario_json::join::{JoinErr, join};
 use scenario_json::scenario::read_scenario;
-use std::alloc::Global;
+use std::alloc::{AllocError, Global};
 
 /// The greatest length of an input file, in bytes.
 pub(crate) const FILE_LIMIT: u64 = 268_435_456;
@@ -33,9 +37,18 @@ pub enum Stop {
     NoMemory,
 }
 
+impl From<AllocError> for Stop {
+    ghost from_gives = { λ _ e. e ≡ NoMemory };
+
+    fn from(_error: AllocError) -> Stop {
+        Stop::NoMemory
+    }
+}
+
 /// The inputs of an auction.
 #[derive(Drop)]
 pub struct Inputs {
+    /// The scenario; of a live auction with what its owners say.
     pub scenario: Scenario,
     pub book: Book,
     /// The fields of the rows file that pair a station with itself.
@@ -71,7 +84,11 @@ fn load<F: Folder>(alloc: Global, folder: &mut F, name: &str, input: Input) -> R
 }
 
 // The scenario that a file holds.
-fn scenario_from<F: Folder>(alloc: Global, folder: &mut F, name: &str) -> Result<Scenario, Stop>
+pub(crate) fn scenario_from<F: Folder>(
+    alloc: Global,
+    folder: &mut F,
+    name: &str,
+) -> Result<Scenario, Stop>
     ensures told { (files : List StoredFile) → F.files folder.old ≡ Some files →
         Agrees (λ sc. sc) (F.steady folder.old) (and_then (file_of files name.now Input.Scenario) (λ bytes. scenario_read (scenario_of bytes))) result }
     ensures limits { IfOk result IsWithinLimits }
@@ -87,8 +104,89 @@ fn scenario_from<F: Folder>(alloc: Global, folder: &mut F, name: &str) -> Result
     }
 }
 
+// The inputs that the domains, the rows and the scenario hold, read in this order, and the book that they make.
+fn read_valued<F: Folder>(
+    alloc: Global,
+    folder: &mut F,
+    names: &InputArgs<'_>,
+) -> Result<Inputs, Stop>
+    ensures told { (files : List StoredFile) → F.files folder.old ≡ Some files →
+        Agrees (λ i. i) (F.steady folder.old) (valued_of files (inputs_seen names.now)) result }
+    ensures limits { IfOk result (λ i. IsWithinLimits i.scenario) }
+    ensures stations { IfOk result (λ i. stations_of i.book ≡ facilities i.scenario) }
+    ensures files { F.files folder.new ≡ F.files folder.old }
+    ensures steady { F.steady folder.new ≡ F.steady folder.old }
+    ensures counted { CountsFault (F.faults folder.old) (F.faults folder.new) result }
+{
+    let sources = read_sources(alloc, folder, names)?;
+    let book = book_of(alloc, &sources)?;
+    Ok(Inputs {
+        scenario: sources.scenario,
+        book,
+        self_pairs: sources.pairs.self_pairs(),
+        strangers: sources.pairs.strangers(),
+    })
+}
+
+// The facility numbers of the stations.
+fn ids_of(alloc: Global, scenario: &Scenario) -> Result<Vec<u32>, AllocError>
+    ensures { IfOk result (λ v. v.items ≡ facilities scenario.now) }
+{
+    let stations = scenario.stations.as_slice();
+    stations.iter().map(|station| station.id).collect(alloc)
+}
+
+// What the owners' file says of the stations of this scenario.
+fn owners_from<F: Folder>(
+    alloc: Global,
+    folder: &mut F,
+    name: &str,
+    scenario: &Scenario,
+) -> Result<Owners, Stop>
+    requires { IsWithinLimits scenario.now }
+    ensures told { (files : List StoredFile) → F.files folder.old ≡ Some files →
+        Agrees (λ lines. lines) (F.steady folder.old) (said_in files name.now scenario.now) result }
+    ensures files { F.files folder.new ≡ F.files folder.old }
+    ensures steady { F.steady folder.new ≡ F.steady folder.old }
+    ensures counted { CountsFault (F.faults folder.old) (F.faults folder.new) result }
+{
+    let ids = ids_of(alloc, scenario)?;
+    let falls = last_round(scenario) - 1;
+    let bytes = load(alloc, folder, name, Input::Owners)?;
+    match read_owners(alloc, &bytes, falls, &ids) {
+        Ok(owners) => Ok(owners),
+        Err(OwnerErr::Row { line, why }) => Err(Stop::Refused(Refusal::Owners { line, why })),
+        Err(OwnerErr::NoMemory) => Err(Stop::NoMemory),
+    }
+}
+
+// These inputs with what the owners' file says, where one is named.
+fn with_said<F: Folder>(
+    alloc: Global,
+    folder: &mut F,
+    name: Option<&str>,
+    inputs: Inputs,
+) -> Result<Inputs, Stop>
+    requires { IsWithinLimits inputs.scenario }
+    ensures told { (files : List StoredFile) → F.files folder.old ≡ Some files →
+        Agrees (λ i. i) (F.steady folder.old) (with_said files (option_map (λ n. n.now) name.entry) inputs) result }
+    ensures limits { IfOk result (λ i. IsWithinLimits i.scenario) }
+    ensures stations { IfOk result (λ i. (i.book ≡ inputs.book) × (facilities i.scenario ≡ facilities inputs.scenario)) }
+    ensures files { F.files folder.new ≡ F.files folder.old }
+    ensures steady { F.steady folder.new ≡ F.steady folder.old }
+    ensures counted { CountsFault (F.faults folder.old) (F.faults folder.new) result }
+{
+    let Some(name) = name else {
+        return Ok(inputs);
+    };
+    let owners = owners_from(alloc, folder, name, &inputs.scenario)?;
+    let mut live = inputs;
+    live.scenario.owners = Some(owners);
+    Ok(live)
+}
+
 /// The inputs that these files of the folder hold: the domains, the rows and the scenario, read in this order, and the
-/// book that they make.
+/// book that they make; and then, where an owners' file is named, what the owners say.
 #[tactic(auto, unfolding(crate::specs::Inputs::inputs_of))]
 pub fn read_inputs<F: Folder>(
     alloc: Global,
@@ -104,17 +202,6 @@ pub fn read_inputs<F: Folder>(
     ensures steady { F.steady folder.new ≡ F.steady folder.old }
     ensures counted { CountsFault (F.faults folder.old) (F.faults folder.new) result }
 {
-    let domains = domains_from(alloc, folder, names.domains)?;
-    let pairs = pairs_from(alloc, folder, names.rows, &domains)?;
-    let scenario = scenario_from(alloc, folder, names.scenario)?;
-    match join(alloc, &scenario, &domains, &pairs) {
-        Ok(book) => Ok(Inputs {
-            scenario,
-            book,
-            self_pairs: pairs.self_pairs(),
-            strangers: pairs.strangers(),
-        }),
-        Err(JoinErr::MissingDomain(station)) => Err(Stop::Refused(Refusal::MissingDomain(station))),
-        Err(JoinErr::NoMemory) => Err(Stop::NoMemory),
-    }
+    let inputs = read_valued(alloc, folder, names)?;
+    with_said(alloc, folder, names.owners, inputs)
 }

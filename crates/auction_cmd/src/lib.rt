@@ -16,9 +16,11 @@ pub mod proof_words;
 pub mod refusal;
 mod run;
 mod says;
+mod seek;
+pub mod seek_words;
 pub mod settling;
 mod shown;
-#[cfg(test)]
-mod tests;
+mod sources;
+mod tops;
 mod verify;
 pub mod words;

@@ -1,7 +1,7 @@
 //! Why an input is refused, and the line that says so.
 
 ghost use Rattle.std.specs.Prelude.{◌≡◌, ◌≤◌, ◌++◌, codes, decimal};
-ghost use Rattle.auction_cmd.specs.Refusals.{input_of, line_of, place_text, refusal_text, row_text, scenario_text};
+ghost use Rattle.auction_cmd.specs.Refusals.{input_of, line_of, owner_text, place_text, refusal_text, row_text, scenario_text};
 ghost use Rattle.auction_cmd.specs.Says.{Says};
 ghost use Rattle.auction_cmd.specs.Words.{inputs_seen};
 
@@ -10,6 +10,7 @@ use crate::words::InputArgs;
 use constraint_files::error::RowWhy;
 use itoa::Buffer;
 use outside_io::sink::Sink;
+use owner_line::error::OwnerWhy;
 use scenario_json::error::ScenarioErr;
 
 /// An input file.
@@ -18,6 +19,7 @@ pub enum Input {
     Domains,
     Rows,
     Scenario,
+    Owners,
 }
 
 /// Why the inputs are refused.
@@ -35,6 +37,11 @@ pub enum Refusal {
     Scenario(ScenarioErr),
     /// The least station of the scenario that has no row in the domains file.
     MissingDomain(u32),
+    /// A record of the owners' file is refused. It stands in this line, where the first line is 1.
+    Owners {
+        line: u64,
+        why: OwnerWhy,
+    },
 }
 
 impl Refusal {
@@ -47,6 +54,7 @@ impl Refusal {
             Refusal::Row { input, .. } => *input,
             Refusal::Scenario(_) => Input::Scenario,
             Refusal::MissingDomain(_) => Input::Domains,
+            Refusal::Owners { .. } => Input::Owners,
         }
     }
 }
@@ -64,6 +72,21 @@ fn row_text(why: RowWhy) -> &'static str
         RowWhy::BadOffset => "channels do not fit the key",
         RowWhy::SecondDomain => "second domain row",
         RowWhy::TooMany => "too many",
+    }
+}
+
+// The words for the refusal of an owner's line.
+#[tactic(auto, unfolding(crate::specs::Refusals::owner_text))]
+fn owner_text(why: OwnerWhy) -> &'static str
+    ensures { result.now ≡ owner_text why }
+{
+    match why {
+        OwnerWhy::Fields => "not three fields",
+        OwnerWhy::BadNumber => "bad number",
+        OwnerWhy::RoundRange => "round out of range",
+        OwnerWhy::UnknownStation => "unknown station",
+        OwnerWhy::BadWord => "bad word",
+        OwnerWhy::Repeated => "repeated",
     }
 }
 
@@ -144,6 +167,7 @@ fn say_refusal<K: Sink>(out: &mut K, file: &str, refusal: Refusal)
     match refusal {
         Refusal::TooLong(_) => say(out, &[file, ": too long\n"]),
         Refusal::Row { line, why, .. } => say_row(out, file, line, row_text(why)),
+        Refusal::Owners { line, why } => say_row(out, file, line, owner_text(why)),
         Refusal::Scenario(error) => say_scenario(out, file, error),
         Refusal::MissingDomain(id) => {
             let mut number = Buffer::new();

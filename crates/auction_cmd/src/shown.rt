@@ -164,6 +164,7 @@ pub fn shown_by<F: Folder, K: Sink>(
         (outside (F.files folder.new) (F.faults folder.new) (F.steady folder.new) (K.held out.new) (K.faults out.new) (K.sure out.new))
         finish.status finish.result) }
     ensures none { IfErr result (λ finish. finish.result ≡ None) }
+    ensures no_other { IfErr result (λ finish. finish.below ≡ None) }
     ensures counted { IfErr result (λ finish. IsCounted
         (outside (F.files folder.old) (F.faults folder.old) (F.steady folder.old) (K.held out.old) (K.faults out.old) (K.sure out.old))
         (outside (F.files folder.new) (F.faults folder.new) (F.steady folder.new) (K.held out.new) (K.faults out.new) (K.sure out.new))

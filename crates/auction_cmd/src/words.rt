@@ -1,17 +1,18 @@
 //! The words of the command line, as `clap` reads them.
 
-ghost use Rattle.std.specs.Prelude.{◌≡◌, ◌≢◌, IfErr, IfOk, None, Some, count_by, false, map, option_and_then, option_map, string_bytes};
+ghost use Rattle.std.specs.Prelude.{◌≡◌, ◌≢◌, IfErr, IfOk, None, Some, codes, count_by, false, map, option_and_then, option_map, string_bytes};
 ghost use Rattle.std.specs.Str.{bytes_eq};
 ghost use Rattle.clap.specs.Words.{app_of, first_of, found_of, kind_of, new_app, rows_of, rule_of, subcommand_rows_of};
 ghost use Rattle.clap.specs.declared.builder.command.Command.TheViews.{out-Command};
 ghost use Rattle.auction_cmd.specs.Refusals.{name_of};
-ghost use Rattle.auction_cmd.specs.Words.{IsRefused, bare_app, check_app, command_of, input_ids, input_names, inputs_seen, is_repeated_in, named_command, names_seen, order_seen, program_app, reading_app, repeated_output, required_rule, run_app, run_names, shown_ids, verify_app, verify_names, verify_seen, with_required};
+ghost use Rattle.auction_cmd.specs.Words.{IsRefused, bare_app, check_app, command_of, input_ids, input_names, inputs_seen, is_repeated_in, live_app, live_ids, live_names, live_reading_app, named_command, names_seen, order_seen, program_app, reading_app, repeated_output, required_rule, run_app, run_names, seeking_app, shown_by_names, shown_ids, verify_app, verify_live_app, verify_names, verify_seen, with_required};
 
 use crate::make_words::{MakeArgs, make_args, make_command};
 use crate::proof_words::{
     ExportArgs, ImportArgs, export_args, export_command, import_args, import_command,
 };
 use crate::refusal::Input;
+use crate::seek_words::{SeekArgs, seek_args, seek_command};
 use clap::error::ErrorKind;
 use clap::{Arg, ArgMatches, Command, Error};
 use std::alloc::{AllocError, Global};
@@ -25,9 +26,11 @@ pub struct InputArgs<'a> {
     pub rows: &'a str,
     /// The scenario file.
     pub scenario: &'a str,
+    /// The owners' file, where the auction is live.
+    pub owners: Option<&'a str>,
 }
 
-/// The names of the files of `run`, as they are given.
+/// The names of the files of `run` or `live`, as they are given.
 #[derive(Clone, Copy, Debug, PartialEq, Eq)]
 pub struct RunArgs<'a> {
     /// The input files.
@@ -52,12 +55,14 @@ pub struct VerifyArgs<'a> {
 /// A command with its arguments.
 #[derive(Clone, Copy, Debug, PartialEq, Eq)]
 pub enum Order<'a> {
-    /// Run the auction.
+    /// Run the auction, by the stations' values or live.
     Run(RunArgs<'a>),
     /// Check the input files.
     Check(InputArgs<'a>),
-    /// Verify a transcript.
+    /// Verify a transcript, of an auction by the stations' values or of a live one.
     Verify(VerifyArgs<'a>),
+    /// Seek the least top channel.
+    Seek(SeekArgs<'a>),
     /// Make an auction and run it.
     Make(MakeArgs<'a>),
     /// Store the formula of a step's test.
@@ -75,7 +80,7 @@ pub enum WordsFault {
 }
 
 impl<'a> InputArgs<'a> {
-    /// The name of an input file.
+    /// The name of an input file. Where no owners' file is named it is the scenario's, which has what stands for it.
     pub fn of(&self, input: Input) -> &'a str
         ensures { result.now ≡ name_of (inputs_seen self.now) input }
     {
@@ -83,6 +88,7 @@ impl<'a> InputArgs<'a> {
             Input::Domains => self.domains,
             Input::Rows => self.rows,
             Input::Scenario => self.scenario,
+            Input::Owners => self.owners.unwrap_or(self.scenario),
         }
     }
 }
@@ -109,16 +115,26 @@ impl<'a> RunArgs<'a> {
     fn is_repeated(&self, name: &str) -> bool
         ensures { result ≡ is_repeated_in name.now (names_seen self.now) }
     {
-        let inputs = self.inputs;
-        let given = [
-            inputs.domains,
-            inputs.rows,
-            inputs.scenario,
-            self.result,
-            self.channels,
-            self.transcript,
-        ];
-        times_in(&given, name) > 1
+        let InputArgs {
+            domains,
+            rows,
+            scenario,
+            owners,
+        } = self.inputs;
+        let (result, channels, transcript) = (self.result, self.channels, self.transcript);
+        let times = match owners {
+            Some(owners) => times_in(
+                &[
+                    result, channels, transcript, domains, rows, scenario, owners,
+                ],
+                name,
+            ),
+            None => times_in(
+                &[result, channels, transcript, domains, rows, scenario],
+                name,
+            ),
+        };
+        times > 1
     }
 }
 
@@ -138,7 +154,7 @@ pub(crate) fn required<'a>(alloc: Global, name: &'a str, help: &'a str) -> Arg<'
 }
 
 // A command of this name that takes the names of the input files.
-fn input_command<'a>(
+pub(crate) fn input_command<'a>(
     alloc: Global,
     name: &'a str,
     about: &'a str,
@@ -165,27 +181,69 @@ fn input_command<'a>(
         ))
 }
 
+// A command of this name that takes the names of the input files of a live auction.
+fn live_input_command<'a>(
+    alloc: Global,
+    name: &'a str,
+    about: &'a str,
+) -> Result<Command<'a>, AllocError>
+    ensures app { IfOk result (λ c. app_of c ≡ with_required (new_app name.entry.now) live_ids) }
+    ensures local { IfOk result (λ c. (out-Command c).has_globals ≡ false) }
+{
+    input_command(alloc, name, about)?.arg(required(
+        alloc,
+        "OWNERS",
+        "What the owners say: lines of round, facility, stay or leave",
+    ))
+}
+
+// The name of the file for the result of a run.
+fn result_name<'a>(alloc: Global) -> Arg<'a>
+    ensures rule { rule_of result ≡ required_rule (codes "RESULT") }
+    ensures local { result.global ≡ false }
+{
+    let help = "Where to store what became of each station and what it is paid";
+    required(alloc, "RESULT", help)
+}
+
+// The name of the file for its channels.
+fn channels_name<'a>(alloc: Global) -> Arg<'a>
+    ensures rule { rule_of result ≡ required_rule (codes "CHANNELS") }
+    ensures local { result.global ≡ false }
+{
+    let help = "Where to store the channel of each station on air";
+    required(alloc, "CHANNELS", help)
+}
+
+// The name of the file for its transcript.
+fn transcript_name<'a>(alloc: Global) -> Arg<'a>
+    ensures rule { rule_of result ≡ required_rule (codes "TRANSCRIPT") }
+    ensures local { result.global ≡ false }
+{
+    let help = "Where to store the transcript, which shows the result";
+    required(alloc, "TRANSCRIPT", help)
+}
+
 fn run_command<'a>(alloc: Global) -> Result<Command<'a>, AllocError>
     ensures app { IfOk result (λ c. app_of c ≡ run_app) }
     ensures local { IfOk result (λ c. (out-Command c).has_globals ≡ false) }
 {
     let about = "Runs the auction, stores its three outputs and prints the summary";
     input_command(alloc, "run", about)?
-        .arg(required(
-            alloc,
-            "RESULT",
-            "Where to store what became of each station and what it is paid",
-        ))?
-        .arg(required(
-            alloc,
-            "CHANNELS",
-            "Where to store the channel of each station on air",
-        ))?
-        .arg(required(
-            alloc,
-            "TRANSCRIPT",
-            "Where to store the transcript, which shows the result",
-        ))
+        .arg(result_name(alloc))?
+        .arg(channels_name(alloc))?
+        .arg(transcript_name(alloc))
+}
+
+fn live_command<'a>(alloc: Global) -> Result<Command<'a>, AllocError>
+    ensures app { IfOk result (λ c. app_of c ≡ live_app) }
+    ensures local { IfOk result (λ c. (out-Command c).has_globals ≡ false) }
+{
+    let about = "Runs the auction by what the owners say in each round";
+    live_input_command(alloc, "live", about)?
+        .arg(result_name(alloc))?
+        .arg(channels_name(alloc))?
+        .arg(transcript_name(alloc))
 }
 
 fn check_command<'a>(alloc: Global) -> Result<Command<'a>, AllocError>
@@ -216,8 +274,20 @@ fn verify_command<'a>(alloc: Global) -> Result<Command<'a>, AllocError>
     ensures app { IfOk result (λ c. app_of c ≡ verify_app) }
     ensures local { IfOk result (λ c. (out-Command c).has_globals ≡ false) }
 {
-    let about = "Checks a transcript and prints the result it shows; stores nothing";
+    let about = "Checks a transcript and prints its result; stores nothing";
     shown_command(alloc, "verify", about)
+}
+
+fn verify_live_command<'a>(alloc: Global) -> Result<Command<'a>, AllocError>
+    ensures app { IfOk result (λ c. app_of c ≡ verify_live_app) }
+    ensures local { IfOk result (λ c. (out-Command c).has_globals ≡ false) }
+{
+    let about = "Checks a live auction's transcript and prints its result";
+    live_input_command(alloc, "verify-live", about)?.arg(required(
+        alloc,
+        "TRANSCRIPT",
+        "The transcript of a live auction of these inputs",
+    ))
 }
 
 // The program without its commands. Its name in the texts is its own, however it was called.
@@ -244,10 +314,28 @@ fn reading_program<'a>(alloc: Global) -> Result<Command<'a>, AllocError>
         .subcommand(verify_command(alloc)?)
 }
 
+// The same with those of a live auction.
+fn live_reading_program<'a>(alloc: Global) -> Result<Command<'a>, AllocError>
+    ensures app { IfOk result (λ c. app_of c ≡ live_reading_app) }
+    ensures local { IfOk result (λ c. (out-Command c).has_globals ≡ false) }
+{
+    reading_program(alloc)?
+        .subcommand(live_command(alloc)?)?
+        .subcommand(verify_live_command(alloc)?)
+}
+
+// The same with the one that seeks the least top channel.
+fn seeking_program<'a>(alloc: Global) -> Result<Command<'a>, AllocError>
+    ensures app { IfOk result (λ c. app_of c ≡ seeking_app) }
+    ensures local { IfOk result (λ c. (out-Command c).has_globals ≡ false) }
+{
+    live_reading_program(alloc)?.subcommand(seek_command(alloc)?)
+}
+
 fn program<'a>(alloc: Global) -> Result<Command<'a>, AllocError>
     ensures { IfOk result (λ c. app_of c ≡ program_app) }
 {
-    reading_program(alloc)?
+    seeking_program(alloc)?
         .subcommand(make_command(alloc)?)?
         .subcommand(export_command(alloc)?)?
         .subcommand(import_command(alloc)?)
@@ -270,13 +358,24 @@ pub(crate) fn input_args<'a>(matches: &ArgMatches<'a>) -> Option<InputArgs<'a>>
         domains,
         rows,
         scenario,
+        owners: None,
     })
 }
 
-fn run_args<'a>(matches: &ArgMatches<'a>) -> Option<RunArgs<'a>>
-    ensures { option_map names_seen result ≡ run_names (rows_of (found_of matches.now)) }
+fn live_args<'a>(matches: &ArgMatches<'a>) -> Option<InputArgs<'a>>
+    ensures { option_map inputs_seen result ≡ live_names (rows_of (found_of matches.now)) }
 {
     let inputs = input_args(matches)?;
+    let owners = value_of(matches, "OWNERS")?;
+    Some(InputArgs {
+        owners: Some(owners),
+        ..inputs
+    })
+}
+
+fn run_args<'a>(matches: &ArgMatches<'a>, inputs: InputArgs<'a>) -> Option<RunArgs<'a>>
+    ensures { option_map names_seen result ≡ run_names (rows_of (found_of matches.now)) (inputs_seen inputs.entry) }
+{
     let result = value_of(matches, "RESULT")?;
     let channels = value_of(matches, "CHANNELS")?;
     let transcript = value_of(matches, "TRANSCRIPT")?;
@@ -288,12 +387,17 @@ fn run_args<'a>(matches: &ArgMatches<'a>) -> Option<RunArgs<'a>>
     })
 }
 
+fn shown_args<'a>(matches: &ArgMatches<'a>, inputs: InputArgs<'a>) -> Option<VerifyArgs<'a>>
+    ensures { option_map verify_seen result ≡ shown_by_names (rows_of (found_of matches.now)) (inputs_seen inputs.entry) }
+{
+    let transcript = value_of(matches, "TRANSCRIPT")?;
+    Some(VerifyArgs { inputs, transcript })
+}
+
 pub(crate) fn verify_args<'a>(matches: &ArgMatches<'a>) -> Option<VerifyArgs<'a>>
     ensures { option_map verify_seen result ≡ verify_names (rows_of (found_of matches.now)) }
 {
-    let inputs = input_args(matches)?;
-    let transcript = value_of(matches, "TRANSCRIPT")?;
-    Some(VerifyArgs { inputs, transcript })
+    shown_args(matches, input_args(matches)?)
 }
 
 // The command that `clap` found, with its arguments.
@@ -302,11 +406,17 @@ fn order_of<'a>(matches: &ArgMatches<'a>) -> Option<Order<'a>>
 {
     let (name, inner) = matches.subcommand()?;
     if name == "run" {
-        Some(Order::Run(run_args(inner)?))
+        Some(Order::Run(run_args(inner, input_args(inner)?)?))
     } else if name == "check" {
         Some(Order::Check(input_args(inner)?))
     } else if name == "verify" {
         Some(Order::Verify(verify_args(inner)?))
+    } else if name == "live" {
+        Some(Order::Run(run_args(inner, live_args(inner)?)?))
+    } else if name == "verify-live" {
+        Some(Order::Verify(shown_args(inner, live_args(inner)?)?))
+    } else if name == "seek" {
+        Some(Order::Seek(seek_args(inner)?))
     } else if name == "make" {
         Some(Order::Make(make_args(inner)?))
     } else if name == "export" {
@@ -337,11 +447,12 @@ fn fault_from(alloc: Global, error: &Error) -> WordsFault
 }
 
 /// The command that the words are, of which the first is the program's name: `run DOMAINS ROWS SCENARIO RESULT CHANNELS
-/// TRANSCRIPT`, `check DOMAINS ROWS SCENARIO`, `verify DOMAINS ROWS SCENARIO TRANSCRIPT`, `make SEED SIZE DOMAINS ROWS
-/// SCENARIO`, `export DOMAINS ROWS SCENARIO TRANSCRIPT STEP CNF` or `import DOMAINS ROWS SCENARIO TRANSCRIPT STEP LRAT RESULT
-/// NEWTRANSCRIPT`. A name that begins with `-` stands after `--`, but for a lone `-`. SEED is a number up to 2^64 - 1, SIZE
-/// one from 1 to 4,096, STEP one from 1 to 4,294,967,295; a plus may stand before each, and zeros. Help and the version are
-/// no command: their texts come with `Refused`.
+/// TRANSCRIPT`, `check DOMAINS ROWS SCENARIO`, `verify DOMAINS ROWS SCENARIO TRANSCRIPT`, `live DOMAINS ROWS SCENARIO OWNERS
+/// RESULT CHANNELS TRANSCRIPT`, `verify-live DOMAINS ROWS SCENARIO OWNERS TRANSCRIPT`, `seek DOMAINS ROWS SCENARIO
+/// CHANNELS`, `make SEED SIZE DOMAINS ROWS SCENARIO`, `export DOMAINS ROWS SCENARIO TRANSCRIPT STEP CNF` or `import DOMAINS
+/// ROWS SCENARIO TRANSCRIPT STEP LRAT RESULT NEWTRANSCRIPT`. A name that begins with `-` stands after `--`, but for a lone
+/// `-`. SEED is a number up to 2^64 - 1, SIZE one from 1 to 4,096, STEP one from 1 to 4,294,967,295; a plus may stand before
+/// each, and zeros. Help and the version are no command: their texts come with `Refused`.
 #[tactic(auto, unfolding(crate::specs::Words::command_of))]
 pub fn read_words<'a>(alloc: Global, words: &'a [String]) -> Result<Order<'a>, WordsFault>
     ensures order { IfOk result (λ o. command_of (map string_bytes words.entry.now) ≡ Some (order_seen o)) }

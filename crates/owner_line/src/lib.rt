@@ -2,6 +2,7 @@
 #![tactic(auto)]
 
 pub mod error;
+pub mod laws;
 mod line;
 pub mod read;
 #[cfg(test)]

@@ -4,6 +4,8 @@
 #[cfg(test)]
 mod gate_tests;
 #[cfg(test)]
+mod live_tests;
+#[cfg(test)]
 mod memory_tests;
 mod muster;
 mod parting;

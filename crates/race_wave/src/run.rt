@@ -1,7 +1,8 @@
 //! A whole auction.
 
-ghost use Rattle.std.specs.Prelude.{◌≡◌, ◌≤◌, IfOk, length, map};
+ghost use Rattle.std.specs.Prelude.{◌≡◌, ◌≤◌, IfOk, Some, length, map};
 ghost use Rattle.solver_gate.specs.Racers.{worker_of};
+ghost use Rattle.pack_defs.specs.Scenario.{with_owners};
 ghost use Rattle.auction_core.specs.Backed.{IsBacked};
 ghost use Rattle.auction_core.specs.Setup.{IsOfAuction};
 ghost use Rattle.turn_lock.specs.Passes.{IsIdle, known_of, standing};
@@ -20,6 +21,7 @@ use auction_core::auction::Auction;
 use auction_core::record::Record;
 use pack_defs::book::Book;
 use pack_defs::order::Order;
+use pack_defs::owners::Owners;
 use pack_defs::scenario::Scenario;
 use pack_defs::worker::Worker;
 use solver_gate::gate::Gate;
@@ -148,4 +150,22 @@ pub fn run_auction<G: Gate + Sync, W: Threads + Wait + Sync>(
     }
     let record = auction.into_result(alloc, sc.copy(alloc)?)?;
     Ok(record)
+}
+
+/// The record of the live auction of this scenario and book: its owners say these lines, and the stations' values stand for
+/// nothing. It is carried out as `run_auction` carries out that of the scenario of these owners, so its record has them. The
+/// only error is want of memory.
+pub fn run_live<G: Gate + Sync, W: Threads + Wait + Sync>(
+    rt: &W,
+    alloc: Global,
+    sc: &Scenario,
+    book: &Book,
+    owners: &Owners,
+    gate: &G,
+) -> Result<Record, NoMemory>
+    requires { IsOfAuction sc.now book.now }
+    ensures { IfOk result (IsBacked (with_owners sc.now (Some owners.now)) book.now Order.ByVolume) }
+{
+    let live = sc.with_owners(alloc, owners)?;
+    run_auction(rt, alloc, &live, book, gate)
 }

@@ -15,10 +15,11 @@ use std::sync::Wait;
 use std::test::Fail;
 use std::thread::Threads;
 
-// How a test is settled: by a fit, by a proof, by a proof of this worker, or by no worker.
+// How a test is settled: by a fit, as the one before, by a proof, by a proof of this worker, or by no worker.
 #[derive(Clone, Copy)]
 pub(crate) enum By {
     Fit,
+    Same,
     Proof,
     ProofOf(u32),
     None,
@@ -26,7 +27,8 @@ pub(crate) enum By {
 
 fn is_settled(shown: &Shown, by: By) -> bool {
     match (shown, by) {
-        (Shown::Fits(_), By::Fit) | (Shown::Undecided(_), By::None) => true,
+        (Shown::Fits(_), By::Fit) | (Shown::Same, By::Same) => true,
+        (Shown::Undecided(_), By::None) => true,
         (
             Shown::Refuted {
                 worker: _,
@@ -46,10 +48,10 @@ fn is_settled(shown: &Shown, by: By) -> bool {
 }
 
 // The round and the station of a test, and how it is settled.
-type Test = (u32, u32, By);
+pub(crate) type Test = (u32, u32, By);
 
 // Whether the steps are of these tests, in order.
-fn are_of(steps: &[Step], tests: &[Test]) -> bool {
+pub(crate) fn are_of(steps: &[Step], tests: &[Test]) -> bool {
     if steps.len() != tests.len() {
         return false;
     }

@@ -5,3 +5,4 @@ pub mod Limits
 pub mod ChannelsOf
 pub mod WrittenLemmas
 pub mod WrittenText
+pub mod StartLemmas

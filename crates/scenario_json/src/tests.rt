@@ -5,6 +5,7 @@ mod joined;
 mod kinds;
 mod limits;
 mod order;
+mod starts;
 mod texts;
 mod written;
 

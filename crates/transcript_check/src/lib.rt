@@ -4,6 +4,8 @@
 mod answers;
 mod error;
 pub mod laws;
+#[cfg(test)]
+mod live_tests;
 mod numbers;
 mod receipts;
 #[cfg(test)]

@@ -16,7 +16,7 @@ use transcript_text::TextErr;
 use transcript_text::read::read_transcript;
 
 // A text, its first step that is not shown, and why; the step counts for nothing where all is shown.
-type Row<'a> = (&'a [u8], u64, Option<ShownWhy>);
+pub(crate) type Row<'a> = (&'a [u8], u64, Option<ShownWhy>);
 
 // What the check finds in a text that is read by one scenario, in an auction of maybe another.
 fn found(
@@ -33,6 +33,15 @@ fn found(
     match verify(alloc, book, sc, transcript) {
         Ok(_) => Ok(None),
         Err(e) => Ok(Some(e)),
+    }
+}
+
+// Whether what was found is what the row says.
+pub(crate) fn is_as_said(found: Option<VerifyErr>, row: Row<'_>) -> bool {
+    match (found, row.2) {
+        (None, None) => true,
+        (Some(VerifyErr::NotShown { step, why }), Some(wanted)) => step == row.1 && why == wanted,
+        _ => false,
     }
 }
 
@@ -53,17 +62,11 @@ fn is_found(
     let Ok(found) = found(alloc, read_by, sc, book, &text) else {
         return Ok(false);
     };
-    match (found, row.2) {
-        (None, None) => Ok(true),
-        (Some(VerifyErr::NotShown { step, why }), Some(wanted)) => {
-            Ok(step == row.1 && why == wanted)
-        }
-        _ => Ok(false),
-    }
+    Ok(is_as_said(found, row))
 }
 
 // The first of these texts, each behind this one, in which the check finds something else.
-fn misjudged<'a>(
+pub(crate) fn misjudged<'a>(
     alloc: Global,
     read_by: &Scenario,
     sc: &Scenario,
@@ -83,11 +86,11 @@ fn misjudged<'a>(
 }
 
 // All is shown.
-const SOUND: Option<ShownWhy> = None;
+pub(crate) const SOUND: Option<ShownWhy> = None;
 
-const ORDER: Option<ShownWhy> = Some(ShownWhy::Order);
+pub(crate) const ORDER: Option<ShownWhy> = Some(ShownWhy::Order);
 
-const KIND: Option<ShownWhy> = Some(ShownWhy::NotValid(Place::Kind));
+pub(crate) const KIND: Option<ShownWhy> = Some(ShownWhy::NotValid(Place::Kind));
 
 const COUNT: Option<ShownWhy> = Some(ShownWhy::NotValid(Place::Count));
 
@@ -97,10 +100,10 @@ const STATION_1: Option<ShownWhy> = Some(ShownWhy::NotValid(Place::Station(1)));
 
 const STATION_2: Option<ShownWhy> = Some(ShownWhy::NotValid(Place::Station(2)));
 
-const STATION_3: Option<ShownWhy> = Some(ShownWhy::NotValid(Place::Station(3)));
+pub(crate) const STATION_3: Option<ShownWhy> = Some(ShownWhy::NotValid(Place::Station(3)));
 
 // Stations 1 and 2 on channel 14.
-const APART: Option<ShownWhy> = Some(ShownWhy::NotValid(Place::PairOf(Pair {
+pub(crate) const APART: Option<ShownWhy> = Some(ShownWhy::NotValid(Place::PairOf(Pair {
     f: 1,
     a: 14,
     g: 2,
@@ -113,13 +116,13 @@ const LINE_2: Option<ShownWhy> = Some(ShownWhy::NotValid(Place::LineAt(2)));
 
 const MOVE_1: Option<ShownWhy> = Some(ShownWhy::NotValid(Place::MoveAt(1)));
 
+// A transcript of three stations with values of 50, 70 and 10.
+pub(crate) const THREE_BIDS: &[u8] =
+    b"transcript 1\nstart empty\nfit 1 1 1\nat 1 14\nfit 1 2 1\nat 2 14\nfit 1 3 1\nat 3 15\nfit 2 1 1\nat 1 15\nlog 2 3 0 2\non 1 2 3\n13 -1 0 7 2 8 3 12 0\n14 0 13 1 9 2 10 3 11 0\nend 5\n";
+
 // Whole transcripts, in which round 1 tests stations 1 to 3 and round 2 stations 1 and 3.
 const WHOLE: &[Row] = &[
-    (
-        b"transcript 1\nstart empty\nfit 1 1 1\nat 1 14\nfit 1 2 1\nat 2 14\nfit 1 3 1\nat 3 15\nfit 2 1 1\nat 1 15\nlog 2 3 0 2\non 1 2 3\n13 -1 0 7 2 8 3 12 0\n14 0 13 1 9 2 10 3 11 0\nend 5\n",
-        0,
-        SOUND,
-    ),
+    (THREE_BIDS, 0, SOUND),
     (b"transcript 1\nstart empty\nend 0\n", 1, ORDER),
     (
         b"transcript 1\nstart empty\nfit 1 2 1\nat 2 14\nend 1\n",
@@ -277,12 +280,12 @@ fn rounds_by_volume(rt: HostRuntime) -> Result<(), Fail> {
 }
 
 // Station 2 is on air from the start, so that station 1 is tested beside it in both rounds.
+pub(crate) const BESIDE_SECOND: &[u8] =
+    b"transcript 1\nstart fit 1\nat 2 14\nfit 1 1 1\nat 1 15\nfit 1 3 1\nat 3 15\nsame 2 1\nlog 2 3 0 2\non 1 2 3\n13 -1 0 7 2 8 3 12 0\n14 0 13 1 9 2 10 3 11 0\nend 4\n";
+
+// That transcript, and others of the same auction.
 const BESIDE: &[Row] = &[
-    (
-        b"transcript 1\nstart fit 1\nat 2 14\nfit 1 1 1\nat 1 15\nfit 1 3 1\nat 3 15\nsame 2 1\nlog 2 3 0 2\non 1 2 3\n13 -1 0 7 2 8 3 12 0\n14 0 13 1 9 2 10 3 11 0\nend 4\n",
-        0,
-        SOUND,
-    ),
+    (BESIDE_SECOND, 0, SOUND),
     (
         b"transcript 1\nstart fit 1\nat 2 14\nfit 1 1 1\nat 1 15\nfit 1 3 1\nat 3 15\nend 2\n",
         3,

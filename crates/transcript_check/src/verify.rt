@@ -8,6 +8,7 @@ ghost use Rattle.auction_core.specs.declared.record.Shown.TheVariants as Shown;
 ghost use Rattle.auction_core.specs.Backed.{IsBacked, after_start, record_of};
 ghost use Rattle.cert_types.specs.Valid.{fit_fault};
 ghost use Rattle.pack_defs.specs.ClockRule.{clock_tests};
+ghost use Rattle.pack_defs.specs.Scenario.{with_owners};
 ghost use Rattle.pack_defs.specs.declared.order.Order.{Order};
 ghost use Rattle.transcript_text.specs.declared.transcript.TranscriptStep.{TranscriptStep};
 ghost use Rattle.transcript_check.specs.Checked.{FinishTells, IsAt, Tells, found_in, is_empty_shown};
@@ -24,6 +25,7 @@ use auction_core::record::{Record, Shown};
 use cert_types::answer::Place;
 use pack_defs::book::Book;
 use pack_defs::channel_map::ChannelMap;
+use pack_defs::owners::Owners;
 use pack_defs::scenario::Scenario;
 use std::alloc::Global;
 use transcript_text::transcript::{Transcript, TranscriptStep};
@@ -212,4 +214,28 @@ pub fn verify(
         Ok(rec) => Ok(rec),
         Err(e) => Err(e),
     }
+}
+
+/// Verifies a transcript of the live auction of this scenario and book: its owners say these lines, and the stations' values
+/// stand for nothing. It does what `verify` does with the scenario of these owners, so a record that it gives has them. It
+/// costs a copy of the scenario and of the lines more than that.
+///
+/// # Errors
+///
+/// The first step that is not shown, and why; or want of memory.
+pub fn verify_live(
+    alloc: Global,
+    book: &Book,
+    sc: &Scenario,
+    owners: &Owners,
+    transcript: Transcript,
+) -> Result<Record, VerifyErr>
+    requires { IsOfAuction sc.now book.now }
+    ensures sound { IfOk result (λ rec. IsSound (with_owners sc.now (Some owners.now)) book.now transcript) }
+    ensures shown { IfOk result (λ rec. not_shown (with_owners sc.now (Some owners.now)) book.now transcript ≡ None) }
+    ensures same { IfOk result (λ rec. rec ≡ transcript_record (with_owners sc.now (Some owners.now)) book.now transcript) }
+    ensures why { IfErr result (λ e. Explains e (not_shown (with_owners sc.now (Some owners.now)) book.now transcript)) }
+{
+    let live = sc.with_owners(alloc, owners)?;
+    verify(alloc, book, &live, transcript)
 }

@@ -1,4 +1,3 @@
-use Rattle.std.proofs.Common.{◌≡◌, ap, length}
 use Rattle.auction_cmd.specs.Ends.CheckEnds.{Counted, CountsCut}
 use Rattle.auction_cmd.proofs.EndLemmas.{cut-over}
 use Rattle.auction_cmd.proofs.SaysLemmas.{says-write}

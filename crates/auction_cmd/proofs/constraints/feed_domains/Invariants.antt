@@ -1,4 +1,4 @@
-use Rattle.std.proofs.Common.{◌≡◌, ◌-◌, ℕ}
+use Rattle.std.proofs.Common.{◌≡◌, ◌-◌}
 use Rattle.constraint_files.specs.Domains.{domains_fed}
 use Rattle.auction_cmd.proofs.FeedLemmas.{IsFeeding}
 use Rattle.auction_cmd.proofs.constraints.feed_domains.Given as goal

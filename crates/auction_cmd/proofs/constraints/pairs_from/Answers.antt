@@ -1,4 +1,4 @@
-use Rattle.std.proofs.Common.{[], List, ℕ, ◌≡◌}
+use Rattle.std.proofs.Common.{[]}
 use Rattle.std.proofs.lemmas.Result.{err_from_is_err_and}
 use Rattle.constraint_files.specs.Rows.{pairs_fed, pairs_of}
 use Rattle.auction_cmd.specs.Inputs.{file_of, rows_read}

@@ -1,5 +1,5 @@
 -- Each text was stored, and then the summary was written, or some of it.
-use Rattle.std.proofs.Common.{◌≡◌, inl, refl}
+use Rattle.std.proofs.Common.{inl, refl}
 use Rattle.auction_cmd.specs.Delivery.IsPrinted.{Written, CutShort}
 use Rattle.auction_cmd.proofs.EndLemmas.{cut-over}
 use Rattle.auction_cmd.proofs.SaysLemmas.{says-write}

@@ -1,5 +1,5 @@
 -- The status says whether a test was left open.
-use Rattle.std.proofs.Common.{◌≡◌, ◌∙◌, true, false, ap, sym}
+use Rattle.std.proofs.Common.{◌∙◌, true, false, ap, sym}
 use Rattle.std.specs.List.{list_any}
 use Rattle.auction_core.specs.Backed.{is_undecided}
 use Rattle.auction_cmd.proofs.EndLemmas.{status-by}

@@ -1,4 +1,4 @@
-use Rattle.std.proofs.Common.{◌≡◌, refl, subst}
+use Rattle.std.proofs.Common.{refl, subst}
 use Rattle.auction_core.specs.Backed.{undecided_of}
 use Rattle.auction_cmd.specs.Ends.{run_texts}
 use Rattle.auction_cmd.specs.Records.{IsOpenRecordOf, IsRecordBy, IsRecordOf, IsRefutedRecordOf, done_status, summary_of}

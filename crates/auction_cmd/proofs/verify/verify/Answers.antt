@@ -1,5 +1,5 @@
 -- Each end, from what its steps did: the outside is what it was until the result is printed.
-use Rattle.std.proofs.Common.{◌≡◌, ◌∙◌, refl}
+use Rattle.std.proofs.Common.{◌∙◌, refl}
 use Rattle.auction_cmd.specs.Delivery.IsPrinted.{Written, CutShort}
 use Rattle.auction_cmd.specs.Words.{verify_seen}
 use Rattle.auction_cmd.proofs.EndLemmas.{cut-over}

@@ -1,0 +1,83 @@
+//! The words of `seek`: the input files, and the file for the channels of the least top.
+
+ghost use Rattle.std.specs.Prelude.{◌≡◌, IfOk, false, option_map};
+ghost use Rattle.clap.specs.Words.{app_of, found_of, rows_of};
+ghost use Rattle.clap.specs.declared.builder.command.Command.TheViews.{out-Command};
+ghost use Rattle.auction_cmd.specs.Words.{inputs_seen, is_repeated_among, repeated_seek, seek_app, seek_inputs, seek_names, seek_seen, sought_names};
+
+use crate::words::{InputArgs, input_args, input_command, required, times_in, value_of};
+use clap::{ArgMatches, Command};
+use std::alloc::{AllocError, Global};
+
+/// The arguments of `seek`, as they are given.
+#[derive(Clone, Copy, Debug, PartialEq, Eq)]
+pub struct SeekArgs<'a> {
+    /// The domain file.
+    pub domains: &'a str,
+    /// The rows file.
+    pub rows: &'a str,
+    /// The scenario file.
+    pub scenario: &'a str,
+    /// The file for the channels.
+    pub channels: &'a str,
+}
+
+impl<'a> SeekArgs<'a> {
+    /// The name of the file to store, if it equals another name given. Names are compared byte by byte, so `a` and `./a`
+    /// differ. Two names of files to read may be equal.
+    #[tactic(auto, unfolding(crate::specs::Words::repeated_seek))]
+    pub fn given_twice(&self) -> Option<&'a str>
+        ensures { option_map (λ name. name.now) result ≡ repeated_seek (seek_seen self.now) }
+    {
+        if self.is_repeated(self.channels) {
+            Some(self.channels)
+        } else {
+            None
+        }
+    }
+
+    // Whether this name is given more than once.
+    fn is_repeated(&self, name: &str) -> bool
+        ensures { result ≡ is_repeated_among (sought_names (seek_seen self.now)) name.now }
+    {
+        let given = [self.domains, self.rows, self.scenario, self.channels];
+        times_in(&given, name) > 1
+    }
+
+    /// The input files. None of them tells what owners say.
+    pub fn inputs(&self) -> InputArgs<'a>
+        ensures { inputs_seen result ≡ seek_inputs (seek_seen self.now) }
+    {
+        InputArgs {
+            domains: self.domains,
+            rows: self.rows,
+            scenario: self.scenario,
+            owners: None,
+        }
+    }
+}
+
+pub(crate) fn seek_command<'a>(alloc: Global) -> Result<Command<'a>, AllocError>
+    ensures app { IfOk result (λ c. app_of c ≡ seek_app) }
+    ensures local { IfOk result (λ c. (out-Command c).has_globals ≡ false) }
+{
+    let about = "Seeks the least top channel at which the start set fits";
+    input_command(alloc, "seek", about)?.arg(required(
+        alloc,
+        "CHANNELS",
+        "Where to store the channel of each station of the start set there",
+    ))
+}
+
+pub(crate) fn seek_args<'a>(matches: &ArgMatches<'a>) -> Option<SeekArgs<'a>>
+    ensures { option_map seek_seen result ≡ seek_names (rows_of (found_of matches.now)) }
+{
+    let inputs = input_args(matches)?;
+    let channels = value_of(matches, "CHANNELS")?;
+    Some(SeekArgs {
+        domains: inputs.domains,
+        rows: inputs.rows,
+        scenario: inputs.scenario,
+        channels,
+    })
+}

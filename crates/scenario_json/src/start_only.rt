@@ -1,0 +1,68 @@
+//! The scenario of the stations that start on air, and of no others.
+
+ghost use Rattle.std.specs.Prelude.{◌≡◌, ◌≤◌, IfOk, filter};
+ghost use Rattle.pack_defs.specs.Scenario.{IsWithinLimits};
+ghost use Rattle.scenario_json.specs.StartOnly.{declines_opening, start_only};
+
+use pack_defs::fall::Fall;
+use pack_defs::items::Items;
+use pack_defs::owners::Owners;
+use pack_defs::scenario::Scenario;
+use pack_defs::station::Station;
+use std::alloc::{AllocError, Global};
+
+/// The scenario of the start set alone, up to this top channel, from 14 to 51: the stations that decline the opening offer,
+/// in their order, and a price that never falls. The opening price, the workers and what the owners say are those of the
+/// scenario. It takes one pass over the stations, and one over the owners' lines. The only error is want of memory.
+pub fn start_only(alloc: Global, sc: &Scenario, top: u8) -> Result<Scenario, AllocError>
+    requires limits { IsWithinLimits sc.now }
+    requires least_top { 14 ≤ top }
+    requires top { top ≤ 51 }
+    ensures { IfOk result (λ only. only ≡ start_only sc.now top) }
+{
+    let stations = starting(alloc, sc)?;
+    let workers = Vec::from_slice(alloc, sc.workers.as_slice())?;
+    let owners = copied_owners(alloc, sc)?;
+    Ok(Scenario {
+        version: 1,
+        top,
+        opening: sc.opening,
+        fall: Fall::Listed(Items::from_vec(Vec::new(alloc))),
+        stations: Items::from_vec(stations),
+        workers: Items::from_vec(workers),
+        owners,
+    })
+}
+
+// The stations that decline the opening offer, in their order.
+fn starting(alloc: Global, sc: &Scenario) -> Result<Vec<Station>, AllocError>
+    ensures { IfOk result (λ v. v.items ≡ filter (declines_opening sc.now) sc.now.stations) }
+{
+    let stations = sc.stations.as_slice().iter().copied();
+    stations
+        .filter(|station| declines_opening(sc, station))
+        .collect(alloc)
+}
+
+// Whether the station declines the opening offer. Where owners say lines, its value says nothing.
+fn declines_opening(sc: &Scenario, station: &Station) -> bool
+    ensures { result ≡ declines_opening sc.now station.now }
+{
+    if let Some(owners) = &sc.owners {
+        return !owners.stays(0, station.id);
+    }
+    match station.value {
+        Some(value) => u64::from(sc.opening) * u64::from(station.volume) < value,
+        None => true,
+    }
+}
+
+// What the owners say, if they say anything but their values.
+fn copied_owners(alloc: Global, sc: &Scenario) -> Result<Option<Owners>, AllocError>
+    ensures { IfOk result (λ copy. copy ≡ sc.now.owners) }
+{
+    match &sc.owners {
+        None => Ok(None),
+        Some(owners) => Ok(Some(owners.copy(alloc)?)),
+    }
+}

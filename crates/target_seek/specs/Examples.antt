@@ -1,0 +1,20 @@
+-- A small auction: one station, which may use one channel alone.
+use Rattle.std.specs.Prelude.{ℕ, [], ◌∷◌, None}
+use Rattle.pack_defs.specs.declared.fall.Fall.TheVariants.{Listed}
+use Rattle.target_seek.specs.Tops.{SeekBase}
+
+-- a station without a value, which so starts on air, and may use this channel
+unfoldable pub one_station : ℕ → SeekBase
+one_station channel = record {
+  scenario = record {
+    version = 1;
+    top = 51;
+    opening = 100;
+    fall = Listed [];
+    stations = record { id = 1; volume = 1; value = None } ∷ [];
+    workers = [];
+    owners = None;
+  };
+  domains = record { station = 1; channels = channel ∷ [] } ∷ [];
+  pairs = [];
+}

@@ -1,0 +1,4 @@
+pub mod Tops
+pub mod Halving
+pub mod Searching
+pub mod Examples

@@ -1,0 +1,177 @@
+//! A search for the least top channel, by halving, which a caller drives.
+
+ghost use Rattle.std.specs.Prelude.{◌≡◌, ◌≤◌, ◌<◌, ◌+◌, ◌++◌, ◌∷◌, ℕ, [], IsSome, List, MatchOption, None, Some, length, ⊤};
+ghost use Rattle.target_seek.specs.Halving.{all_left, found_at, left_after, middle_of, next_at, next_of, stage_after, tops_left};
+ghost use Rattle.target_seek.specs.Searching.{IsSearching};
+ghost use Rattle.target_seek.specs.Tops.{AreTrue, AskedTop, IsSought, IsTruth, SeekBase};
+
+use crate::seek::Sought;
+use crate::top_test::TopAnswer;
+
+/// A search for the least top channel up to which the start set fits, which its caller drives: while a top is `next`, the
+/// caller finds out about it and tells the answer; then the search has `found` something. The last top is asked about first,
+/// and then the one in the middle of those that are left, at most seven in all. A top whose test is left open counts as one at
+/// which the set doesn't fit.
+#[derive(Clone, Copy)]
+pub struct TopSearch {
+    stage: Stage,
+}
+
+impl TopSearch {
+    /// A search from the first to the last of these tops, of which nothing was asked yet.
+    pub fn new(first: u8, last: u8) -> TopSearch
+        requires least { 14 ≤ first }
+        requires ordered { first ≤ last }
+        requires most { last ≤ 51 }
+        ensures { IsSearching first last [] result }
+    {
+        TopSearch {
+            stage: Stage::Unasked { first, last },
+        }
+    }
+
+    /// The top to ask about next; none once the search is over.
+    pub fn next(&self) -> Option<u8>
+        ensures next { result ≡ next_of self.now }
+        ensures within { (first last : ℕ) (asked : List AskedTop) → IsSearching first last asked self.now →
+            MatchOption result ⊤ (λ top. (first ≤ top) × (top ≤ last) × (length asked < 7)) }
+    {
+        match self.stage {
+            Stage::Unasked { last, .. } => Some(last),
+            Stage::Halving(left) if left.low < left.high => Some(left.middle()),
+            Stage::Halving(_) | Stage::LastIsUnfit | Stage::LastIsOpen => None,
+        }
+    }
+
+    /// The search once this was told of the top that it asks about.
+    pub fn told(self, answer: TopAnswer) -> TopSearch
+        requires { IsSome (next_of self) }
+        ensures searching { (first last : ℕ) (asked : List AskedTop) (top : ℕ) → IsSearching first last asked self → next_of self ≡ Some top →
+            IsSearching first last (asked ++ record { top = top; answer = answer } ∷ []) result }
+        ensures nearer { tops_left result < tops_left self }
+    {
+        TopSearch {
+            stage: self.stage.after(answer),
+        }
+    }
+
+    /// What was found, once the search is over.
+    pub fn found(self) -> Sought
+        requires { next_of self ≡ None }
+        ensures sought { (first last : ℕ) (asked : List AskedTop) → IsSearching first last asked self →
+            IsSought first last asked result × (length asked ≤ 7) }
+        ensures truth { (base : SeekBase) (first last : ℕ) (asked : List AskedTop) → IsSearching first last asked self → AreTrue base asked →
+            IsTruth base first last result }
+    {
+        match self.stage {
+            Stage::Unasked { .. } => unreachable!(),
+            Stage::LastIsUnfit => Sought::NoneFits,
+            Stage::LastIsOpen => Sought::LastOpen,
+            Stage::Halving(left) => left.sought(),
+        }
+    }
+}
+
+// How far a search has come.
+#[derive(Clone, Copy)]
+enum Stage {
+    // Nothing was asked yet of these tops.
+    Unasked { first: u8, last: u8 },
+    // At the last top the start set doesn't fit.
+    LastIsUnfit,
+    // The test of the last top was left open.
+    LastIsOpen,
+    // It fits at the last top, and these are left.
+    Halving(Left),
+}
+
+impl Stage {
+    // How far it has come after this answer.
+    fn after(self, answer: TopAnswer) -> Stage
+        requires { IsSome (next_at self) }
+        ensures { result ≡ stage_after self answer }
+    {
+        match self {
+            Stage::Unasked { first, last } => match answer {
+                TopAnswer::Fits => Stage::Halving(Left::all(first, last)),
+                TopAnswer::Unfit => Stage::LastIsUnfit,
+                TopAnswer::Open => Stage::LastIsOpen,
+            },
+            Stage::Halving(left) => Stage::Halving(left.after(left.middle(), answer)),
+            Stage::LastIsUnfit | Stage::LastIsOpen => unreachable!(),
+        }
+    }
+}
+
+// What was told of the top below the lowest one that is left.
+#[derive(Clone, Copy)]
+enum Below {
+    // There is none: the lowest one that is left is the first of all.
+    Nothing,
+    Unfit,
+    Open,
+}
+
+// The tops that are left. At the highest of them the start set fits; no top up to which it fits is known below the lowest.
+#[derive(Clone, Copy)]
+struct Left {
+    low: u8,
+    high: u8,
+    below: Below,
+}
+
+impl Left {
+    // All tops from the first to the last.
+    fn all(first: u8, last: u8) -> Left
+        ensures { result ≡ all_left first last }
+    {
+        Left {
+            low: first,
+            high: last,
+            below: Below::Nothing,
+        }
+    }
+
+    // The top in the middle, the lower one of two.
+    fn middle(self) -> u8
+        requires { self.low < self.high }
+        ensures { result ≡ middle_of self }
+    {
+        self.low + (self.high - self.low) / 2
+    }
+
+    // The tops that are left after this answer about one of them.
+    fn after(self, top: u8, answer: TopAnswer) -> Left
+        requires { top < self.high }
+        ensures { result ≡ left_after self top answer }
+    {
+        match answer {
+            TopAnswer::Fits => Left { high: top, ..self },
+            TopAnswer::Unfit => self.above(top, Below::Unfit),
+            TopAnswer::Open => self.above(top, Below::Open),
+        }
+    }
+
+    // The tops above this one, of which this was told.
+    fn above(self, top: u8, below: Below) -> Left
+        requires { top < self.high }
+        ensures { result ≡ record { low = top + 1; high = self.high; below = below } }
+    {
+        Left {
+            low: top + 1,
+            high: self.high,
+            below,
+        }
+    }
+
+    // What is found where one top is left.
+    fn sought(self) -> Sought
+        ensures { result ≡ found_at self.high self.below }
+    {
+        let top = self.high;
+        match self.below {
+            Below::Nothing | Below::Unfit => Sought::Least { top },
+            Below::Open => Sought::AboveOpen { top },
+        }
+    }
+}

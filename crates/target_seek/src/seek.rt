@@ -1,0 +1,45 @@
+//! The search for the least top channel.
+
+ghost use Rattle.std.specs.Prelude.{◌≡◌, ◌≤◌, ◌++◌, List, None, length, IfOk};
+ghost use Rattle.target_seek.specs.Halving.{next_of};
+ghost use Rattle.target_seek.specs.Searching.{IsSearching};
+ghost use Rattle.target_seek.specs.Tops.{AskedTop, IsSought, IsTruth};
+
+use crate::search::TopSearch;
+use crate::top_test::TopTest;
+use std::alloc::AllocError as NoMemory;
+
+/// What a search for the least top channel found.
+#[derive(Clone, Copy, Debug, PartialEq, Eq)]
+pub enum Sought {
+    /// The start set doesn't fit up to the last top, and so up to no lesser one.
+    NoneFits,
+    /// Whether it fits up to the last top was not found out.
+    LastOpen,
+    /// It fits up to this top, and up to none of the lesser ones from the first on.
+    Least { top: u8 },
+    /// It fits up to this top; whether it fits up to the one below was not found out.
+    AboveOpen { top: u8 },
+}
+
+/// The least top channel from the first to the last of these up to which the start set fits, found by halving: the last one is
+/// asked about first, and then the one in the middle of those that are left, at most seven in all. A top whose test is left
+/// open counts as one at which the set doesn't fit. The only error is want of memory, which a test met; what was asked until
+/// then is the beginning of such a search, which can be begun again.
+pub fn seek_top<T: TopTest>(first: u8, last: u8, test: &mut T) -> Result<Sought, NoMemory>
+    requires least { 14 ≤ first }
+    requires ordered { first ≤ last }
+    requires most { last ≤ 51 }
+    ensures base { T.base test.new ≡ T.base test.old }
+    ensures asked { (more : List AskedTop) × (search : TopSearch) × (T.asked test.new ≡ T.asked test.old ++ more)
+        × (length more ≤ 7) × IsSearching first last more search
+        × IfOk result (λ sought. (next_of search ≡ None) × IsSought first last more sought) }
+    ensures truth { IfOk result (IsTruth (T.base test.old) first last) }
+{
+    let mut search = TopSearch::new(first, last);
+    while let Some(top) = search.next() {
+        let answer = test.ask(top)?;
+        search = search.told(answer);
+    }
+    Ok(search.found())
+}
