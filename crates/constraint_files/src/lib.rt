@@ -16,5 +16,3 @@ mod plain_lines;
 mod record;
 pub mod records;
 mod table;
-#[cfg(test)]
-mod tests;

@@ -3,8 +3,4 @@
 
 pub mod looks;
 mod mend;
-#[cfg(test)]
-mod samples;
-#[cfg(test)]
-mod tests;
 mod ways;

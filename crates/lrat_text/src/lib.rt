@@ -7,8 +7,6 @@ pub mod field;
 pub mod laws;
 pub mod lines;
 pub mod read;
-#[cfg(test)]
-mod tests;
 pub mod write;
 
 pub use error::LratErr;

@@ -12,11 +12,5 @@ mod last_map;
 pub mod laws;
 mod queries;
 pub mod replace;
-#[cfg(test)]
-mod replace_tests;
-#[cfg(test)]
-mod samples;
 pub mod settle;
 pub mod task;
-#[cfg(test)]
-mod task_tests;

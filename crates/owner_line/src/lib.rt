@@ -5,5 +5,3 @@ pub mod error;
 pub mod laws;
 mod line;
 pub mod read;
-#[cfg(test)]
-mod tests;

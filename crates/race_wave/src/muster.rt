@@ -33,8 +33,8 @@ fn joined<R: Drop>(passes: Vec<Pass>, racers: Vec<R>, mut runners: Vec<Runner<R>
     runners
 }
 
-// The workers of a new board.
-pub(crate) fn mustered<R: Racer + Drop>(
+/// The workers of a new board: its passes, each with the racer of its place. It takes no memory, since the room is there.
+pub fn mustered<R: Racer + Drop>(
     board: &Board,
     passes: Vec<Pass>,
     racers: Vec<R>,

@@ -31,8 +31,8 @@ pub(crate) fn room_for(alloc: Global, count: u32) -> Result<Room, NoMemory>
     })
 }
 
-// The passes and the racers, in order.
-pub(crate) fn parted<R: Drop>(
+/// The passes and the racers of these workers, in order. It takes no memory, since the room is there.
+pub fn parted<R: Drop>(
     runners: Vec<Runner<R>>,
     mut passes: Vec<Pass>,
     mut racers: Vec<R>,

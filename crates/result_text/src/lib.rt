@@ -1,13 +1,7 @@
 //! The texts of a finished auction: of its result, its channels and its summary, from its record.
 #![tactic(auto)]
 
-#[cfg(test)]
-mod carried;
 pub mod channels;
 pub mod counts;
 mod replay;
 pub mod rows;
-#[cfg(test)]
-mod samples;
-#[cfg(test)]
-mod tests;

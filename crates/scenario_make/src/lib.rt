@@ -17,9 +17,5 @@ mod draws;
 pub mod laws;
 mod lines;
 pub mod make;
-#[cfg(test)]
-mod plain;
 mod rows;
 mod stations;
-#[cfg(test)]
-mod tests;

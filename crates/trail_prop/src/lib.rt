@@ -7,12 +7,6 @@ pub mod good;
 pub mod look;
 pub mod plain;
 pub mod propagate;
-#[cfg(test)]
-mod random_tests;
-#[cfg(test)]
-mod samples;
-#[cfg(test)]
-mod tests;
 pub mod trail;
 pub mod turn;
 pub mod watches;

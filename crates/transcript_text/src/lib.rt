@@ -15,15 +15,9 @@ mod parts;
 mod pieces;
 pub mod read;
 pub mod reader;
-#[cfg(test)]
-mod reader_tests;
 mod reading;
-#[cfg(test)]
-mod samples;
 mod steps;
 pub mod test_set;
-#[cfg(test)]
-mod tests;
 pub mod transcript;
 pub mod write;
 

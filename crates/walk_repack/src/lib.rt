@@ -10,11 +10,7 @@ mod look;
 mod memory;
 mod pick;
 mod places;
-#[cfg(test)]
-mod samples;
 mod steps;
 mod tables;
-#[cfg(test)]
-mod tests;
 mod trouble;
 pub mod walk;

@@ -1,0 +1,98 @@
+//! Auctions in which the owners' lines stand in the place of values.
+
+ghost use Rattle.std.specs.Prelude.{◌≡◌};
+ghost use Rattle.auction_core.specs.Setup.{IsOfAuction};
+
+use crate::auctions::samples::{Crew, Given, three_stations, two_rounds};
+use crate::auctions::tests::{ALL_ON_AIR, BESIDE_SECOND, Came, Case, Want, are_told, came};
+use auction_core::auction::Auction;
+use auction_core::record::Ending;
+use pack_defs::book::Book;
+use pack_defs::order::Order;
+use pack_defs::owners::{OwnerLine, Owners};
+use pack_defs::scenario::Scenario;
+use std::alloc::{AllocError as NoMemory, Global};
+use std::test::Fail;
+
+// Owners that say of these rounds and stations that they stay.
+fn staying(alloc: Global, stays: &[(u32, u32)]) -> Result<Owners, NoMemory> {
+    let mut owners = Owners::new(alloc);
+    for (round, station) in stays {
+        owners.add(OwnerLine {
+            round: *round,
+            station: *station,
+            stays: true,
+        })?;
+    }
+    Ok(owners)
+}
+
+// What a live auction came to with these postings; nothing where one is told otherwise, or where it does not end.
+fn ended(
+    alloc: Global,
+    auction: Auction,
+    live: Scenario,
+    cases: &[Case],
+) -> Result<Option<Came>, NoMemory>
+    requires { live ≡ auction.scenario }
+{
+    let mut auction = auction;
+    if !are_told(alloc, &mut auction, cases)? || !auction.ended() {
+        return Ok(None);
+    }
+    let number = auction.number();
+    let record = auction.into_result(alloc, live)?;
+    Ok(Some(came(&record, number)))
+}
+
+// The live auction of a scenario and a book, whose owners say these lines.
+fn played_live(
+    alloc: Global,
+    sc: &Scenario,
+    book: &Book,
+    owners: &Owners,
+    cases: &[Case],
+) -> Result<Option<Came>, NoMemory>
+    requires { IsOfAuction sc.now book.now }
+{
+    let live = sc.with_owners(alloc, owners)?;
+    let auction = Auction::start_live(alloc, sc, book, owners, Order::ByFacility)?;
+    ended(alloc, auction, live, cases)
+}
+
+// The same of three stations without values.
+fn of_three(alloc: Global, owners: &Owners, cases: &[Case]) -> Result<Option<Came>, NoMemory> {
+    let sc = two_rounds(alloc, ALL_ON_AIR, Crew::Learner)?;
+    played_live(alloc, &sc, &three_stations(alloc)?, owners, cases)
+}
+
+const LIVE: &[(&[(u32, u32)], &[Case], Came)] = &[
+    // Station 2 leaves in round 1 and station 1 in round 2, and station 3 never, so it is frozen at 60 cents.
+    (
+        &[(0, 1), (1, 1), (0, 2), (0, 3), (1, 3), (2, 3)],
+        &[
+            (0, 1, Given::Fit(1, 14), Want::Next(2)),
+            (0, 2, Given::Fit(2, 14), Want::Next(3)),
+            (0, 3, Given::Fit(3, 15), Want::Next(4)),
+            (0, 4, Given::Fit(1, 15), Want::Next(5)),
+            (0, 5, Given::Refuted, Want::Last),
+        ],
+        ((Ending::Done, 6, 5, 60), 0, false, Some(15)),
+    ),
+    // Without its line for the opening station 2 is on air from the start.
+    (
+        &[(0, 1), (1, 1), (0, 3), (1, 3), (2, 3)],
+        BESIDE_SECOND,
+        ((Ending::Done, 5, 4, 60), 1, false, Some(15)),
+    ),
+];
+
+#[test]
+fn owners_say_who_stays(rt: HostRuntime) -> Result<(), Fail> {
+    for (stays, cases, want) in LIVE {
+        let owners = staying(rt.alloc(), stays)?;
+        let came = of_three(rt.alloc(), &owners, cases)?;
+        assert_eq!(rt; came, Some(*want));
+    }
+    Ok(())
+}

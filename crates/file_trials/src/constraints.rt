@@ -1,0 +1,3 @@
+//! Tests of `constraint_files`.
+
+mod tests;

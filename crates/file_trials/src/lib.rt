@@ -1,0 +1,11 @@
+//! The readers of the files that an auction is given, and auctions that are made.
+#![tactic(auto)]
+
+#[cfg(test)]
+mod constraints;
+#[cfg(test)]
+mod made;
+#[cfg(test)]
+mod owners;
+#[cfg(test)]
+mod scenarios;

@@ -1,0 +1,4 @@
+//! Tests of `scenario_make`.
+
+mod plain;
+mod tests;

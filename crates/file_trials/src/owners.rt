@@ -1,0 +1,3 @@
+//! Tests of `owner_line`.
+
+mod tests;

@@ -1,0 +1,3 @@
+//! Tests of `scenario_json`.
+
+mod tests;

@@ -1,0 +1,4 @@
+//! Tests of `answer_board`.
+
+mod samples;
+mod tests;

@@ -1,0 +1,8 @@
+//! Tests of `race_wave`.
+
+mod gate_tests;
+mod live_tests;
+mod memory_tests;
+mod repeated_tests;
+mod samples;
+mod tests;

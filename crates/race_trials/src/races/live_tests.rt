@@ -1,0 +1,260 @@
+//! Whole live auctions: what the owners of three stations say decides them, and no value does.
+
+ghost use Rattle.std.specs.Prelude.{◌≡◌, ◌∷◌, []};
+ghost use Rattle.pack_defs.specs.Scenario.{IsWithinLimits, facilities};
+
+use crate::races::samples::{all_on_air, learner, three_bids, three_stations};
+use crate::races::tests::{By, Test, are_of};
+use auction_core::record::{Ending, Record};
+use pack_defs::channel_map::ChannelMap;
+use pack_defs::owners::{OwnerLine, Owners};
+use pack_defs::scenario::Scenario;
+use race_wave::run::run_live;
+use solver_gate::gate::EmptyGate;
+use std::alloc::{AllocError as NoMemory, Global};
+use std::sync::Wait;
+use std::test::Fail;
+use std::thread::Threads;
+
+// What the owners say: round, station, whether it stays.
+type Lines = &'static [(u32, u32, bool)];
+
+// How an auction ends: its total in cents, its tests, and the stations on air.
+type End = (Ending, u64, &'static [Test], &'static [u32]);
+
+// Owners that say these lines.
+fn saying(alloc: Global, lines: Lines) -> Result<Owners, NoMemory> {
+    let mut owners = Owners::new(alloc);
+    for (round, station, stays) in lines {
+        owners.add(OwnerLine {
+            round: *round,
+            station: *station,
+            stays: *stays,
+        })?;
+    }
+    Ok(owners)
+}
+
+// Whether the record's scenario has these owners.
+fn has_owners(record: &Record, owners: &Owners) -> bool {
+    match record.owners() {
+        Some(said) => said.lines() == owners.lines(),
+        None => false,
+    }
+}
+
+// Whether these stations alone are on air.
+fn are_on_air(map: &ChannelMap, stations: &[u32]) -> bool {
+    for station in stations {
+        if map.get(*station).is_none() {
+            return false;
+        }
+    }
+    map.len() as usize == stations.len()
+}
+
+fn is_end(record: &Record, end: End) -> bool {
+    let (ending, total, tests, on_air) = end;
+    record.ending == ending
+        && record.total == total
+        && are_of(record.steps.as_slice(), tests)
+        && are_on_air(&record.map, on_air)
+}
+
+// Whether the live auction of these owners ends so.
+fn ends<W: Threads + Wait + Sync>(
+    rt: &W,
+    alloc: Global,
+    sc: &Scenario,
+    lines: Lines,
+    end: End,
+) -> Result<bool, NoMemory>
+    requires limits { IsWithinLimits sc.now }
+    requires stations { facilities sc.now ≡ 1 ∷ 2 ∷ 3 ∷ [] }
+{
+    let book = three_stations(alloc)?;
+    let owners = saying(alloc, lines)?;
+    let record = run_live(rt, alloc, sc, &book, &owners, &EmptyGate)?;
+    Ok(has_owners(&record, &owners) && is_end(&record, end))
+}
+
+// The place of the first of these rows whose auction ends otherwise, from 0.
+fn ends_otherwise<W: Threads + Wait + Sync>(
+    rt: &W,
+    alloc: Global,
+    sc: &Scenario,
+    rows: &[(Lines, End)],
+) -> Result<Option<usize>, NoMemory>
+    requires limits { IsWithinLimits sc.now }
+    requires stations { facilities sc.now ≡ 1 ∷ 2 ∷ 3 ∷ [] }
+{
+    for i in 0..rows.len() {
+        let (lines, end) = rows[i];
+        if !ends(rt, alloc, sc, lines, end)? {
+            return Ok(Some(i));
+        }
+    }
+    Ok(None)
+}
+
+// What the owners say, and how the auction ends. The offers are 100, 60 and 20 cents, and there is room for two.
+const LIVE: &[(Lines, End)] = &[
+    // As by values of 50, 70 and 10.
+    (
+        &[
+            (0, 1, true),
+            (1, 1, true),
+            (0, 2, true),
+            (0, 3, true),
+            (1, 3, true),
+            (2, 3, true),
+        ],
+        (
+            Ending::Done,
+            60,
+            &[
+                (1, 1, By::Fit),
+                (1, 2, By::Fit),
+                (1, 3, By::Fit),
+                (2, 1, By::Fit),
+                (2, 3, By::Proof),
+            ],
+            &[1, 2],
+        ),
+    ),
+    // Station 2 declines the opening offer, whatever it says later.
+    (
+        &[
+            (0, 1, true),
+            (1, 1, true),
+            (1, 2, true),
+            (2, 2, true),
+            (0, 3, true),
+            (1, 3, true),
+            (2, 3, true),
+        ],
+        (
+            Ending::Done,
+            60,
+            &[
+                (1, 1, By::Fit),
+                (1, 3, By::Fit),
+                (2, 1, By::Same),
+                (2, 3, By::Proof),
+            ],
+            &[1, 2],
+        ),
+    ),
+    // Station 1 stays in each round, and is tested once more behind the last fall.
+    (
+        &[
+            (0, 1, true),
+            (1, 1, true),
+            (2, 1, true),
+            (0, 2, true),
+            (0, 3, true),
+            (1, 3, true),
+        ],
+        (
+            Ending::Done,
+            20,
+            &[
+                (1, 1, By::Fit),
+                (1, 2, By::Fit),
+                (1, 3, By::Fit),
+                (2, 1, By::Fit),
+                (2, 3, By::Same),
+                (3, 1, By::Proof),
+            ],
+            &[2, 3],
+        ),
+    ),
+    // All stay in each round, and whoever fits behind the last fall goes on air.
+    (
+        &[
+            (0, 1, true),
+            (1, 1, true),
+            (2, 1, true),
+            (0, 2, true),
+            (1, 2, true),
+            (2, 2, true),
+            (0, 3, true),
+            (1, 3, true),
+            (2, 3, true),
+        ],
+        (
+            Ending::Done,
+            20,
+            &[
+                (1, 1, By::Fit),
+                (1, 2, By::Fit),
+                (1, 3, By::Fit),
+                (2, 1, By::Same),
+                (2, 2, By::Same),
+                (2, 3, By::Same),
+                (3, 1, By::Same),
+                (3, 2, By::Fit),
+                (3, 3, By::Proof),
+            ],
+            &[1, 2],
+        ),
+    ),
+    // Station 1 leaves at once, and is not back where it says later that it stays.
+    (
+        &[
+            (0, 1, true),
+            (2, 1, true),
+            (0, 2, true),
+            (1, 2, true),
+            (0, 3, true),
+            (1, 3, true),
+            (2, 3, true),
+        ],
+        (
+            Ending::Done,
+            60,
+            &[
+                (1, 1, By::Fit),
+                (1, 2, By::Fit),
+                (1, 3, By::Fit),
+                (2, 2, By::Same),
+                (2, 3, By::Proof),
+            ],
+            &[1, 2],
+        ),
+    ),
+    // Stations 1 and 3 say that they leave.
+    (
+        &[
+            (0, 1, false),
+            (0, 2, true),
+            (1, 2, true),
+            (2, 2, true),
+            (0, 3, true),
+            (1, 3, false),
+        ],
+        (
+            Ending::Done,
+            60,
+            &[(1, 2, By::Fit), (1, 3, By::Fit), (2, 2, By::Proof)],
+            &[1, 3],
+        ),
+    ),
+    // All decline the opening offer, of which two say so, or none.
+    (
+        &[(0, 1, false), (0, 2, false)],
+        (Ending::StartRefuted, 0, &[], &[]),
+    ),
+    (&[], (Ending::StartRefuted, 0, &[], &[])),
+];
+
+// Without values, and with values of 50, 70 and 10.
+#[test]
+fn owners_say_who_stays(rt: HostRuntime) -> Result<(), Fail> {
+    let alloc = rt.alloc();
+    let without = all_on_air(alloc, vec![in alloc; learner(1000)]?)?;
+    assert_eq!(rt; ends_otherwise(&rt, alloc, &without, LIVE)?, None);
+    let with = three_bids(alloc, vec![in alloc; learner(1000)]?, 1)?;
+    assert_eq!(rt; ends_otherwise(&rt, alloc, &with, LIVE)?, None);
+    Ok(())
+}

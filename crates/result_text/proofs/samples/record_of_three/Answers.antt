@@ -1,8 +1,0 @@
-use Rattle.std.proofs.Common.{◌∙◌}
-use Rattle.std.proofs.lemmas.Result.{IfOk-weaker}
-use Rattle.result_text.proofs.ExampleLemmas.{three-is}
-use Rattle.result_text.proofs.samples.record_of_three.Goals as goal
-
-pub returns : goal.returns
-returns c =
-    IfOk-weaker c.done.result _ _ (λ rec e. e ∙ three-is c.args.budget c.args.last c.in_ok-scenario.scenario c.in_ok-steps.steps.items c.in_ok-scenario.ensures c.in_ok-steps.ensures) c.done.ensures

@@ -1,0 +1,6 @@
+//! Tests of `cdcl_prove`.
+
+mod auction_tests;
+mod samples;
+mod searcher_tests;
+mod tests;

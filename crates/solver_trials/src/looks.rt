@@ -1,0 +1,4 @@
+//! Tests of `first_looks`.
+
+mod samples;
+mod tests;

@@ -1,0 +1,4 @@
+//! Tests of `walk_repack`.
+
+mod samples;
+mod tests;

@@ -1,0 +1,5 @@
+//! Tests of `open_tests`.
+
+mod replace_tests;
+mod samples;
+mod task_tests;

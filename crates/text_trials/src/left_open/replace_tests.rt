@@ -1,0 +1,156 @@
+//! A test that was left open, settled by a proof from outside; and logs cut at their first empty line.
+
+ghost use Rattle.std.specs.Prelude.{IfOk, IfSome, MatchBool};
+ghost use Rattle.pack_defs.specs.Scenario.{IsWithinLimits};
+ghost use Rattle.auction_core.specs.Backed.{IsBacked};
+ghost use Rattle.open_tests.specs.Settled.{IsLeftOpen};
+
+use crate::left_open::samples::{record_in, three_bids, three_stations};
+use auction_core::record::{Ending, Record, Shown};
+use cert_types::outside::certify_outside;
+use clause_db::lit::Lit;
+use open_tests::cut::up_to_empty;
+use open_tests::replace::replace_undecided;
+use open_tests::task::task_at;
+use pack_defs::book::Book;
+use result_text::rows::result_csv;
+use rup_check::line::Log;
+use rup_check::lines::Lines;
+use std::alloc::{AllocError as NoMemory, Global};
+use std::test::Fail;
+
+// Whether the record's result is this text.
+fn tells(alloc: Global, rec: &Record, book: &Book, rows: &[u8]) -> Result<bool, NoMemory>
+    requires backed { IsBacked rec.now.scenario book.now rec.now.order rec.now }
+    requires limits { IsWithinLimits rec.now.scenario }
+{
+    if rec.ending != Ending::Done {
+        return Ok(false);
+    }
+    let text = result_csv(alloc, rec, book)?;
+    Ok(text.as_slice() == rows)
+}
+
+// Whether the record has a step of this number, from 1, and it is shown undecided.
+fn is_left_open(rec: &Record, step: u32) -> bool
+    ensures { MatchBool result (IsLeftOpen rec.now step) (IsLeftOpen rec.now step → ⊥) }
+{
+    if step == 0 {
+        return false;
+    }
+    match rec.steps.as_slice().get(step as usize - 1) {
+        Some(x) => matches!(x.shown, Shown::Undecided(_)),
+        None => false,
+    }
+}
+
+// The record with the step of this number settled by the log, where it was left open and the log refutes its set.
+fn settled(
+    alloc: Global,
+    rec: Record,
+    book: &Book,
+    step: u32,
+    log: Log,
+) -> Result<Option<Record>, NoMemory>
+    requires backed { IsBacked rec.scenario book.now rec.order rec }
+    requires limits { IsWithinLimits rec.scenario }
+    ensures backed { IfOk result (λ found. IfSome found (λ r. IsBacked r.scenario book.now r.order r)) }
+    ensures limits { IfOk result (λ found. IfSome found (λ r. IsWithinLimits r.scenario)) }
+{
+    if !is_left_open(&rec, step) {
+        return Ok(None);
+    }
+    let task = task_at(alloc, &rec, book, step)?;
+    match certify_outside(alloc, book, &task, log) {
+        Ok(proof) => Ok(Some(replace_undecided(rec, book, step, proof))),
+        Err(_) => Ok(None),
+    }
+}
+
+// Stations 1 and 2 go on air, and the worker spends its line on the test of station 3 beside them.
+const LEFT_OPEN: &[u8] =
+    b"transcript 1\nstart empty\nfit 1 1 1\nat 1 14\nfit 1 2 1\nat 2 14\nfit 1 3 1\nat 3 15\nfit 2 1 1\nat 1 15\nundecided 2 3 1\nlines 0 1\n13 -1 0 7 2 8 3 12 0\nend 5\n";
+
+// The proof that the three do not fit: its first line, and the empty one.
+fn refuting(alloc: Global) -> Result<Log, NoMemory> {
+    let first = Lit {
+        var: 1,
+        positive: false,
+    };
+    let mut lines = Lines::new(alloc);
+    lines.push(&[first], &[7, 2, 8, 3, 12])?;
+    lines.push(&[], &[13, 1, 9, 2, 10, 3, 11])?;
+    Ok(Log { lines })
+}
+
+// Whether the step at this place, from 0, is shown by a proof from outside.
+fn is_by_proof(rec: &Record, place: usize) -> bool {
+    match rec.steps.as_slice().get(place) {
+        Some(step) => matches!(step.shown, Shown::Outside(_)),
+        None => false,
+    }
+}
+
+// Whether no step is left open.
+fn leaves_none(rec: &Record) -> bool {
+    for step in rec.steps.as_slice() {
+        if matches!(step.shown, Shown::Undecided(_)) {
+            return false;
+        }
+    }
+    true
+}
+
+#[test]
+fn a_test_left_open_is_settled(rt: HostRuntime) -> Result<(), Fail> {
+    let alloc = rt.alloc();
+    let book = three_stations(alloc)?;
+    let sc = three_bids(alloc, 70, 1)?;
+    let Some(rec) = record_in(alloc, &sc, &book, LEFT_OPEN) else {
+        return Err(Fail::new("no record"));
+    };
+    let before = b"facility,outcome,round,price\n1,exit,2,0\n2,exit,1,0\n3,undecided,2,60\n";
+    assert!(rt; tells(alloc, &rec, &book, before)?);
+    let Some(rec) = settled(alloc, rec, &book, 5, refuting(alloc)?)? else {
+        return Err(Fail::new("not settled"));
+    };
+    assert!(rt; is_by_proof(&rec, 4) && leaves_none(&rec));
+    let after = b"facility,outcome,round,price\n1,exit,2,0\n2,exit,1,0\n3,frozen,2,60\n";
+    assert!(rt; tells(alloc, &rec, &book, after)?);
+    Ok(())
+}
+
+// How many lines are kept of a log whose lines are empty where this says so.
+fn kept(alloc: Global, empty: &[bool]) -> Result<usize, NoMemory> {
+    let lit = Lit {
+        var: 0,
+        positive: true,
+    };
+    let mut lines = Lines::new(alloc);
+    for empty in empty {
+        if *empty {
+            lines.push(&[], &[1])?;
+        } else {
+            lines.push(&[lit], &[1])?;
+        }
+    }
+    Ok(up_to_empty(Log { lines }).lines.len())
+}
+
+// Which lines are empty, and how many are kept.
+const LOGS: &[(&[bool], usize)] = &[
+    (&[], 0),
+    (&[false, false], 2),
+    (&[false, true], 2),
+    (&[false, true, false], 2),
+    (&[true, false, true], 1),
+];
+
+#[test]
+fn a_log_ends_at_its_first_empty_line(rt: HostRuntime) -> Result<(), Fail> {
+    let alloc = rt.alloc();
+    for log in LOGS {
+        assert_eq!(rt; kept(alloc, log.0)?, log.1);
+    }
+    Ok(())
+}

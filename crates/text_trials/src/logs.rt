@@ -1,0 +1,3 @@
+//! Tests of `lrat_text`.
+
+mod tests;

@@ -1,0 +1,5 @@
+//! Tests of `result_text`.
+
+mod carried;
+mod samples;
+mod tests;
