@@ -1,0 +1,5 @@
+pub mod AnswerLemmas
+pub mod BitLemmas
+pub mod EntryLemmas
+pub mod LookLemmas
+pub mod NoneLaws

@@ -1,0 +1,7 @@
+-- The entries that are left decide as all do.
+use Rattle.std.proofs.Common.{◌≡◌, find}
+use Rattle.batch_cache.specs.Answering.{gives_refutation}
+use Rattle.batch_cache.proofs.search.first_refutation.Given as goal
+
+abbrev pub invariant-loop-key : goal.invariant-loop-key
+invariant-loop-key l = find (gives_refutation l.top l.book l.task l.worker) l.refutations.entries ≡ find (gives_refutation l.top l.book l.task l.worker) l.key-iterator

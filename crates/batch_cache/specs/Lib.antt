@@ -1,0 +1,5 @@
+pub mod Answering
+pub mod Kept
+pub mod Looks
+pub mod NoneKept
+pub mod StationBits

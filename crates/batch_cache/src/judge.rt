@@ -1,0 +1,80 @@
+//! What the check of answers says of a kept one.
+
+ghost use Rattle.std.specs.Prelude.{◌≡◌, IfOk};
+ghost use Rattle.pack_defs.specs.Book.{BookView};
+ghost use Rattle.pack_defs.specs.declared.worker.Worker.{Worker};
+ghost use Rattle.cert_types.specs.Certificate.{IsTaskOf, Tells};
+ghost use Rattle.cert_types.specs.Valid.{answer_fault};
+ghost use Rattle.cert_types.specs.declared.answer.Answer.{Answer};
+ghost use Rattle.cert_types.specs.declared.task.Task.{Task};
+ghost use Rattle.cert_types.specs.declared.answer.Answer.TheVariants as answer;
+ghost use Rattle.batch_cache.specs.Answering.{part_on};
+ghost use Rattle.batch_cache.specs.Looks.{when_valid};
+
+use crate::kept_refutation::KeptRefutation;
+use crate::part::part_on;
+use cert_types::answer::{Answer, CertifyWhy};
+use cert_types::certify::certify;
+use cert_types::task::Task;
+use pack_defs::book::Book;
+use pack_defs::channel_map::ChannelMap;
+use pack_defs::worker::Worker;
+use std::alloc::{AllocError as NoMemory, Global};
+
+/// The fit of a kept map's part on the task's set, if it is valid. The only error is want of memory.
+pub(crate) fn fit_of(
+    alloc: Global,
+    book: &Book,
+    task: &Task,
+    worker: &Worker,
+    map: &ChannelMap,
+) -> Result<Option<Answer>, NoMemory>
+    requires { IsTaskOf book.now task.now }
+    ensures { IfOk result (λ told. told ≡ when_valid book.now task.now worker.now (answer.Fit (part_on task.now.set map.now))) }
+{
+    let part = part_on(alloc, task.set.as_slice(), map)?;
+    judged(alloc, book, task, worker, Answer::Fit(part))
+}
+
+/// A copy of a kept refutation, if it is valid. The only error is want of memory.
+pub(crate) fn refutation_of(
+    alloc: Global,
+    book: &Book,
+    task: &Task,
+    worker: &Worker,
+    kept: &KeptRefutation,
+) -> Result<Option<Answer>, NoMemory>
+    requires { IsTaskOf book.now task.now }
+    ensures { IfOk result (λ told. told ≡ when_valid book.now task.now worker.now (answer.Refuted kept.now)) }
+{
+    let refutation = kept.copied(alloc)?;
+    judged(alloc, book, task, worker, Answer::Refuted(refutation))
+}
+
+// The answer, if it is valid.
+fn judged(
+    alloc: Global,
+    book: &Book,
+    task: &Task,
+    worker: &Worker,
+    answer: Answer,
+) -> Result<Option<Answer>, NoMemory>
+    requires { IsTaskOf book.now task.now }
+    ensures { IfOk result (λ told. told ≡ when_valid book.now task.now worker.now answer) }
+{
+    match certify(alloc, book, task, worker, answer) {
+        Ok(certified) => Ok(Some(certified.into_answer())),
+        Err(fault) => nothing_or_error(fault.why),
+    }
+}
+
+// Nothing of an answer that is refused, or want of memory.
+fn nothing_or_error(why: CertifyWhy) -> Result<Option<Answer>, NoMemory>
+    ensures { (book : BookView) (task : Task) (worker : Worker) (answer : Answer) → Tells why (answer_fault book task worker answer) →
+        IfOk result (λ told. told ≡ when_valid book task worker answer) }
+{
+    match why {
+        CertifyWhy::Rejected(_) => Ok(None),
+        CertifyWhy::NoMemory => Err(NoMemory),
+    }
+}

@@ -1,0 +1,82 @@
+//! The search for a kept answer, from the one that was used last on.
+
+ghost use Rattle.std.specs.Prelude.{◌≡◌, IfOk, find, option_map};
+ghost use Rattle.cert_types.specs.Certificate.{IsTaskOf};
+ghost use Rattle.batch_cache.specs.Answering.{gives_fit, gives_refutation};
+ghost use Rattle.batch_cache.specs.Looks.{fit_found, refutation_found};
+
+use crate::judge::{fit_of, refutation_of};
+use crate::kept_refutation::KeptRefutation;
+use crate::key::Key;
+use crate::signed_set::SignedSet;
+use cert_types::answer::Answer;
+use cert_types::task::Task;
+use lru::LruCache;
+use pack_defs::book::Book;
+use pack_defs::channel_map::ChannelMap;
+use pack_defs::worker::Worker;
+use std::alloc::{AllocError as NoMemory, Global};
+
+/// What was found: the key of the entry that answers, and the answer.
+#[derive(Drop)]
+pub(crate) struct FoundAnswer {
+    pub(crate) key: Key,
+    pub(crate) answer: Answer,
+}
+
+/// The fit of the most recently used map that gives one. The task's set is given with its bits too. The only error is want of
+/// memory.
+pub(crate) fn first_fit(
+    alloc: Global,
+    maps: &LruCache<Key, ChannelMap>,
+    top: u8,
+    book: &Book,
+    task: &Task,
+    worker: &Worker,
+    asked: &SignedSet,
+) -> Result<Option<FoundAnswer>, NoMemory>
+    requires task { IsTaskOf book.now task.now }
+    requires asked { asked.now ≡ task.now.set }
+    ensures { IfOk result (λ found. found ≡ option_map (fit_found task.now) (find (gives_fit top book.now task.now worker.now) maps.now.entries)) }
+{
+    for (key, map) in maps.iter() {
+        if !key.holds(top, asked) {
+            continue;
+        }
+        if let Some(answer) = fit_of(alloc, book, task, worker, map)? {
+            let key = key.copied(alloc)?;
+            return Ok(Some(FoundAnswer { key, answer }));
+        }
+    }
+    Ok(None)
+}
+
+/// A copy of the most recently used refutation that is valid. The task's set is given with its bits too. The only error is want
+/// of memory.
+pub(crate) fn first_refutation(
+    alloc: Global,
+    refutations: &LruCache<Key, KeptRefutation>,
+    top: u8,
+    book: &Book,
+    task: &Task,
+    worker: &Worker,
+    asked: &SignedSet,
+) -> Result<Option<FoundAnswer>, NoMemory>
+    requires task { IsTaskOf book.now task.now }
+    requires asked { asked.now ≡ task.now.set }
+    ensures { IfOk result (λ found. found ≡ option_map refutation_found (find (gives_refutation top book.now task.now worker.now) refutations.now.entries)) }
+{
+    for (key, kept) in refutations.iter() {
+        if key.top != top {
+            continue;
+        }
+        if !kept.may_answer(asked, worker) {
+            continue;
+        }
+        if let Some(answer) = refutation_of(alloc, book, task, worker, kept)? {
+            let key = key.copied(alloc)?;
+            return Ok(Some(FoundAnswer { key, answer }));
+        }
+    }
+    Ok(None)
+}
