@@ -1,8 +1,10 @@
-//! The readers of the files that an auction is given, and auctions that are made.
+//! Folders and sinks, the readers of the files that an auction is given, and auctions that are made.
 #![tactic(auto)]
 
 #[cfg(test)]
 mod constraints;
+#[cfg(test)]
+mod folders;
 #[cfg(test)]
 mod made;
 #[cfg(test)]

@@ -16,5 +16,3 @@ pub mod memory_folder;
 pub mod memory_sink;
 pub mod real;
 pub mod sink;
-#[cfg(test)]
-mod tests;

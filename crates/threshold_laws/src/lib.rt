@@ -6,7 +6,5 @@ mod clock;
 pub mod paid;
 pub mod plain;
 mod rule;
-#[cfg(test)]
-mod tests;
 mod turns;
 pub mod wins;

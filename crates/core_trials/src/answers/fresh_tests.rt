@@ -1,8 +1,8 @@
 //! The first line that is not new, beside a look at all earlier ones, over clauses and lines made at random.
 ghost use Rattle.std.specs.Prelude.{◌<◌};
 
-use crate::fresh::first_stale;
-use crate::samples::lits;
+use crate::answers::samples::lits;
+use cert_types::fresh::first_stale;
 use clause_db::list::ClauseList;
 use clause_db::lit::Lit;
 use rup_check::lines::Lines;

@@ -3,11 +3,11 @@ ghost use Rattle.std.specs.Prelude.{◌≡◌, ◌≤◌, IfOk, OnOk, length, ve
 ghost use Rattle.outside_io.specs.Faults.{HasRisen};
 ghost use Rattle.outside_io.specs.Pieces.{HandedAll};
 
-use crate::folder::{Folder, LoadErr, PIECE_SIZE, StoreErr};
-use crate::memory_folder::{MemoryFile, MemoryFolder};
-use crate::memory_sink::MemorySink;
-use crate::real::{RealFolder, RealSink};
-use crate::sink::{Failed, Sink};
+use outside_io::folder::{Folder, LoadErr, PIECE_SIZE, StoreErr};
+use outside_io::memory_folder::{MemoryFile, MemoryFolder};
+use outside_io::memory_sink::MemorySink;
+use outside_io::real::{RealFolder, RealSink};
+use outside_io::sink::{Failed, Sink};
 use std::alloc::{AllocError as NoMemory, Global};
 use std::fs;
 use std::test::Fail;

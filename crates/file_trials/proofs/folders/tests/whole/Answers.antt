@@ -1,7 +1,7 @@
 use Rattle.std.proofs.Common.{rules, ◌≡◌, ◌++◌, length, subst, sym}
 use Rattle.outside_io.specs.Pieces.{HandedSoFar}
 use Rattle.outside_io.proofs.PieceLaws.{handed-more, handed-all}
-use Rattle.outside_io.proofs.tests.whole.Goals as goal
+use Rattle.file_trials.proofs.folders.tests.whole.Goals as goal
 
 pub returns-then-is_empty-clause-told : goal.returns-then-is_empty-clause-told
 returns-then-is_empty-clause-told g c =

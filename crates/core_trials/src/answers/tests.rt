@@ -4,15 +4,15 @@ ghost use Rattle.std.specs.Prelude.{IsTrue};
 ghost use Rattle.pack_defs.specs.ChannelMap.{IsAscending};
 ghost use Rattle.pack_defs.specs.Lists.{is_ascending};
 
-use crate::answer::{Answer, CertifyFault, CertifyWhy, Place, Receipt, Refutation};
-use crate::certified::Certified;
-use crate::certify::certify;
-use crate::outside::certify_outside;
-use crate::samples::{
+use crate::answers::samples::{
     EMPTY_AGAIN, NOT_ONE, OUT_OF_TURN, THE_END, Text, crowded_stations, fit, four_stations,
     learner, log, on_one, proof, receipt, task, walk, walker,
 };
-use crate::start::start_map;
+use cert_types::answer::{Answer, CertifyFault, CertifyWhy, Place, Receipt, Refutation};
+use cert_types::certified::Certified;
+use cert_types::certify::certify;
+use cert_types::outside::certify_outside;
+use cert_types::start::start_map;
 use pack_defs::pair::Pair;
 use rup_check::cursors::{Hints, Literals};
 use rup_check::line::Log;

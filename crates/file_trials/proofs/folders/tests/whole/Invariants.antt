@@ -1,6 +1,6 @@
 use Rattle.std.proofs.Common.{◌≡◌, ◌≤◌, length}
 use Rattle.outside_io.specs.Pieces.{HandedSoFar}
-use Rattle.outside_io.proofs.tests.whole.Given as goal
+use Rattle.file_trials.proofs.folders.tests.whole.Given as goal
 
 abbrev pub invariant-loop : goal.invariant-loop
 invariant-loop g l =

@@ -1,11 +1,11 @@
 //! Receipts of lines, each with the place at which it is at fault.
 
-use crate::answer::Place;
-use crate::samples::{
+use crate::answers::samples::{
     CLAUSE_AGAIN, EMPTY_AGAIN, NOT_ONE, NOT_TWO, OUT_OF_TURN, PADDED, PADDED_LINE, THE_END, Text,
     WIDER, receipt,
 };
-use crate::tests::fault;
+use crate::answers::tests::fault;
+use cert_types::answer::Place;
 use std::alloc::{AllocError as NoMemory, Global};
 use std::test::Fail;
 

@@ -1,7 +1,7 @@
 use Rattle.std.proofs.Common.{◌≡◌, true, map, take}
 use Rattle.std.specs.List.{list_all}
 use Rattle.pack_defs.specs.Lists.{is_ascending}
-use Rattle.cert_types.proofs.changes_tests.domains.Given as goal
+use Rattle.core_trials.proofs.answers.changes_tests.domains.Given as goal
 
 abbrev pub invariant-loop-station : goal.invariant-loop-station
 invariant-loop-station l =

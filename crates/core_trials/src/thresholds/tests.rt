@@ -5,7 +5,6 @@ ghost use Rattle.std.specs.List.Sorted.{IsStrictlyIncreasing};
 ghost use Rattle.pack_defs.specs.Lists.{is_ascending};
 ghost use Rattle.pack_defs.specs.Scenario.{StationsAscend};
 
-use crate::wins::wins_at;
 use pack_defs::book::Book;
 use pack_defs::domain::Domain;
 use pack_defs::fall::Fall;
@@ -16,6 +15,7 @@ use pack_defs::scenario::Scenario;
 use pack_defs::station::Station;
 use std::alloc::{AllocError as NoMemory, Global};
 use std::test::Fail;
+use threshold_laws::wins::wins_at;
 
 // A station that may use channels 14 to 16.
 fn station_on(alloc: Global, station: u32) -> Result<Domain, NoMemory>

@@ -1,0 +1,3 @@
+//! Tests of `threshold_laws`.
+
+mod tests;

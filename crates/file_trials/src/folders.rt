@@ -1,0 +1,3 @@
+//! Tests of `outside_io`.
+
+mod tests;
