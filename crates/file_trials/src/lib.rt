@@ -1,6 +1,8 @@
-//! Folders and sinks, the readers of the files that an auction is given, and auctions that are made.
+//! Books and maps, folders and sinks, the readers of the files that an auction is given, and auctions that are made.
 #![tactic(auto)]
 
+#[cfg(test)]
+mod books;
 #[cfg(test)]
 mod constraints;
 #[cfg(test)]

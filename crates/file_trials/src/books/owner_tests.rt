@@ -1,0 +1,64 @@
+//! Which lines of owners stand.
+
+use pack_defs::owners::{OwnerLine, Owners};
+use std::alloc::{AllocError as NoMemory, Global};
+use std::test::Fail;
+
+// What is said, line by line: round, station, whether it stays; and whether the line is new.
+const SAID: &[(u32, u32, bool, bool)] = &[
+    (1, 7, true, true),
+    (0, 9, false, true),
+    (0, 7, true, true),
+    (1, 7, false, false),
+    (0, 9, false, false),
+    (2, 3, true, true),
+];
+
+// Round and station; whether a line stands for them, and whether it says stay.
+const ASKED: &[(u32, u32, bool, bool)] = &[
+    (0, 7, true, true),
+    (0, 9, true, false),
+    (1, 7, true, true),
+    (1, 9, false, false),
+    (2, 3, true, true),
+    (3, 2, false, false),
+    (7, 1, false, false),
+];
+
+// Whether each line is added or refused as it is to be.
+fn are_said(owners: &mut Owners) -> Result<bool, NoMemory> {
+    for (round, station, stays, is_new) in SAID {
+        let line = OwnerLine {
+            round: *round,
+            station: *station,
+            stays: *stays,
+        };
+        if owners.add(line)? != *is_new {
+            return Ok(false);
+        }
+    }
+    Ok(true)
+}
+
+// Whether each round and station is answered as it is to be.
+fn answers(owners: &Owners) -> bool {
+    for (round, station, is_said, stays) in ASKED {
+        if owners.is_said(*round, *station) != *is_said
+            || owners.stays(*round, *station) != *stays
+        {
+            return false;
+        }
+    }
+    true
+}
+
+#[test]
+fn lines_are_found_by_round_and_station(rt: HostRuntime) -> Result<(), Fail> {
+    let alloc = rt.alloc();
+    let mut owners = Owners::new(alloc);
+    assert!(rt; are_said(&mut owners)?);
+    let copy = owners.copy(alloc)?;
+    assert!(rt; answers(&owners) && answers(&copy));
+    assert_eq!(rt; copy.lines().len(), 4);
+    Ok(())
+}
