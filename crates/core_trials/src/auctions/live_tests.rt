@@ -1,10 +1,9 @@
 //! Auctions in which the owners' lines stand in the place of values.
 
-ghost use Rattle.std.specs.Prelude.{◌≡◌};
 ghost use Rattle.auction_core.specs.Setup.{IsOfAuction};
 
 use crate::auctions::samples::{Crew, Given, three_stations, two_rounds};
-use crate::auctions::tests::{ALL_ON_AIR, BESIDE_SECOND, Came, Case, Want, are_told, came};
+use crate::auctions::tests::{ALL_ON_AIR, BESIDE_SECOND, Came, Case, Want, ended};
 use auction_core::auction::Auction;
 use auction_core::record::Ending;
 use pack_defs::book::Book;
@@ -27,25 +26,7 @@ fn staying(alloc: Global, stays: &[(u32, u32)]) -> Result<Owners, NoMemory> {
     Ok(owners)
 }
 
-// What a live auction came to with these postings; nothing where one is told otherwise, or where it does not end.
-fn ended(
-    alloc: Global,
-    auction: Auction,
-    live: Scenario,
-    cases: &[Case],
-) -> Result<Option<Came>, NoMemory>
-    requires { live ≡ auction.scenario }
-{
-    let mut auction = auction;
-    if !are_told(alloc, &mut auction, cases)? || !auction.ended() {
-        return Ok(None);
-    }
-    let number = auction.number();
-    let record = auction.into_result(alloc, live)?;
-    Ok(Some(came(&record, number)))
-}
-
-// The live auction of a scenario and a book, whose owners say these lines.
+// What the live auction of a scenario and a book came to, whose owners say these lines.
 fn played_live(
     alloc: Global,
     sc: &Scenario,

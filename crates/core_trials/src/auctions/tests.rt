@@ -170,7 +170,25 @@ fn is_left_open(steps: &[Step]) -> bool {
     matches!(step.shown, Shown::Undecided(_))
 }
 
-// What an auction came to with these postings; nothing where one is told otherwise, or where it does not end.
+// What an auction of this scenario came to with these postings; nothing where one is told otherwise, or where it does not end.
+pub(crate) fn ended(
+    alloc: Global,
+    auction: Auction,
+    sc: Scenario,
+    cases: &[Case],
+) -> Result<Option<Came>, NoMemory>
+    requires { sc ≡ auction.scenario }
+{
+    let mut auction = auction;
+    if !are_told(alloc, &mut auction, cases)? || !auction.ended() {
+        return Ok(None);
+    }
+    let number = auction.number();
+    let record = auction.into_result(alloc, sc)?;
+    Ok(Some(came(&record, number)))
+}
+
+// The same of the auction of a scenario and a book from its start.
 pub(crate) fn played(
     alloc: Global,
     sc: Scenario,
@@ -180,13 +198,8 @@ pub(crate) fn played(
 ) -> Result<Option<Came>, NoMemory>
     requires { IsOfAuction sc book.now }
 {
-    let mut auction = Auction::start(alloc, &sc, book, order)?;
-    if !are_told(alloc, &mut auction, cases)? || !auction.ended() {
-        return Ok(None);
-    }
-    let number = auction.number();
-    let record = auction.into_result(alloc, sc)?;
-    Ok(Some(came(&record, number)))
+    let auction = Auction::start(alloc, &sc, book, order)?;
+    ended(alloc, auction, sc, cases)
 }
 
 // What an auction of three stations and two rounds came to.
@@ -319,15 +332,22 @@ fn postings_are_told_what_they_do(rt: HostRuntime) -> Result<(), Fail> {
 // Which of workers 0, 1 and 7 are noted, whether the auction has ended, and how many postings there were.
 type Standing = ((bool, bool, bool), bool, u64);
 
-// How an auction stands whose stations all start on air, after these postings of a learner of budget 1 and one of a greater.
-fn standing(alloc: Global, cases: &[Case]) -> Result<Option<Standing>, NoMemory> {
-    let sc = two_rounds(alloc, ALL_ON_AIR, Crew::ShortAndLong)?;
-    let mut auction = Auction::start(alloc, &sc, &three_stations(alloc)?, Order::ByFacility)?;
+// How an auction stands after these postings; nothing where one is told otherwise.
+fn stands(alloc: Global, auction: Auction, cases: &[Case]) -> Result<Option<Standing>, NoMemory> {
+    let mut auction = auction;
     if !are_told(alloc, &mut auction, cases)? {
         return Ok(None);
     }
     let noted = (auction.noted(0), auction.noted(1), auction.noted(7));
     Ok(Some((noted, auction.ended(), auction.posted())))
+}
+
+// The same of one whose stations all start on air, with a learner of budget 1 and one of a greater.
+fn standing(alloc: Global, cases: &[Case]) -> Result<Option<Standing>, NoMemory> {
+    let sc = two_rounds(alloc, ALL_ON_AIR, Crew::ShortAndLong)?;
+    let book = three_stations(alloc)?;
+    let auction = Auction::start(alloc, &sc, &book, Order::ByFacility)?;
+    stands(alloc, auction, cases)
 }
 
 // A receipt is noted for its worker alone, and let go once another's answer settles the query.
