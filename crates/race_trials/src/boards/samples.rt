@@ -173,3 +173,12 @@ pub(crate) fn three_bids(
         owners: None,
     })
 }
+
+// The same, with two workers of budget 1.
+pub(crate) fn two_learners(alloc: Global) -> Result<Scenario, NoMemory>
+    ensures limits { IfOk result IsWithinLimits }
+    ensures stations { IfOk result (λ sc. facilities sc ≡ 1 ∷ 2 ∷ 3 ∷ []) }
+{
+    let workers = vec![in alloc; learner(1), learner(1)]?;
+    three_bids(alloc, workers, 1)
+}

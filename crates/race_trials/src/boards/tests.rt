@@ -5,7 +5,7 @@ ghost use Rattle.turn_lock.specs.Passes.{IsIdle, standing};
 ghost use Rattle.turn_lock.specs.Turns.{AllOf};
 ghost use Rattle.answer_board.specs.Boards.{AreAllOn, IsPassOn};
 
-use crate::boards::samples::{Given, answer, learner, three_bids, three_stations};
+use crate::boards::samples::{Given, answer, three_stations, two_learners};
 use answer_board::board::{Board, Pass};
 use auction_core::auction::Auction;
 use auction_core::posting::Reply;
@@ -89,8 +89,7 @@ const TO_THE_END: &[(usize, Case)] = &[
 
 // The auction of three stations, with two workers of budget 1, at its first query.
 fn auction(alloc: Global) -> Result<Auction, NoMemory> {
-    let workers = vec![in alloc; learner(1), learner(1)]?;
-    let sc = three_bids(alloc, workers, 1)?;
+    let sc = two_learners(alloc)?;
     let book = three_stations(alloc)?;
     Auction::start(alloc, &sc, &book, Order::ByFacility)
 }
