@@ -2,7 +2,6 @@
 
 mod gate_tests;
 mod live_tests;
-mod memory_tests;
 mod repeated_tests;
 mod samples;
 mod tests;
