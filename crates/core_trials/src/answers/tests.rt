@@ -379,43 +379,89 @@ fn hands_back(checked: Result<Certified, CertifyFault>, answer: &Answer) -> bool
     }
 }
 
-#[test]
-fn valid_answers_go_through(rt: HostRuntime) -> Result<(), Fail> {
-    let alloc = rt.alloc();
-    let set = [1, 2, 3];
-    let lines = [NOT_ONE, THE_END];
-    let proved = checked(alloc, 2, proof(alloc, &set, &lines)?)?;
-    assert!(rt; holds(proved, &proof(alloc, &set, &lines)?));
-    let spent = checked(alloc, 1, receipt(alloc, &[NOT_ONE])?)?;
-    assert!(rt; holds(spent, &receipt(alloc, &[NOT_ONE])?));
-    Ok(())
+// An answer to the test of the first three stations, while 1 is on 15 and 2 on 14.
+#[derive(Clone, Copy)]
+enum Given {
+    // A log over the clauses of the three.
+    Proof(&'static [Text<'static>]),
+    // Lines that were derived.
+    Lines(&'static [Text<'static>]),
+    // A channel for station 3, which makes no valid fit.
+    Third(u8),
+    // One move of station 3.
+    Moved(u8),
+}
+
+fn made(alloc: Global, given: Given) -> Result<Answer, NoMemory> {
+    match given {
+        Given::Proof(lines) => proof(alloc, ALL, lines),
+        Given::Lines(lines) => receipt(alloc, lines),
+        Given::Third(channel) => fit(alloc, &[(3, channel)]),
+        Given::Moved(channel) => walk(alloc, &[(3, channel)]),
+    }
+}
+
+// Whether an answer that the check lets through is still the same.
+fn goes_through(alloc: Global, budget: u32, given: Given) -> Result<bool, NoMemory> {
+    let again = made(alloc, given)?;
+    let answer = made(alloc, given)?;
+    Ok(holds(checked(alloc, budget, answer)?, &again))
+}
+
+// Whether an answer that the check refuses comes back as the same.
+fn comes_back(alloc: Global, budget: u32, given: Given) -> Result<bool, NoMemory> {
+    let again = made(alloc, given)?;
+    let answer = made(alloc, given)?;
+    Ok(hands_back(checked(alloc, budget, answer)?, &again))
 }
 
 #[test]
-fn fit_and_proof_over_other_sets(rt: HostRuntime) -> Result<(), Fail> {
-    let alloc = rt.alloc();
-    let book = four_stations(alloc)?;
-    let two = task(alloc, &[1, 2], &[(1, 15)])?;
-    let certified = certify(alloc, &book, &two, &learner(1), fit(alloc, &[(2, 14)])?);
-    assert!(rt; holds(certified, &fit(alloc, &[(2, 14)])?));
-    let four = task(alloc, &[1, 2, 3, 4], &[(4, 14)])?;
-    let answer = proof(alloc, &[1, 2, 3], &[NOT_ONE, THE_END])?;
-    let certified = certify(alloc, &book, &four, &learner(2), answer);
-    assert!(rt; holds(certified, &proof(alloc, &[1, 2, 3], &[NOT_ONE, THE_END])?));
+fn valid_answers_go_through(rt: HostRuntime) -> Result<(), Fail> {
+    const ROWS: &[(u32, Given)] = &[
+        (2, Given::Proof(&[NOT_ONE, THE_END])),
+        (1, Given::Lines(&[NOT_ONE])),
+    ];
+    for (budget, given) in ROWS {
+        assert!(rt; goes_through(rt.alloc(), *budget, *given)?);
+    }
     Ok(())
 }
 
 #[test]
 fn refused_answers_come_back(rt: HostRuntime) -> Result<(), Fail> {
-    let alloc = rt.alloc();
-    let lines = [NOT_ONE, OUT_OF_TURN];
-    let proved = checked(alloc, 2, proof(alloc, &[1, 2, 3], &lines)?)?;
-    assert!(rt; hands_back(proved, &proof(alloc, &[1, 2, 3], &lines)?));
-    let spent = checked(alloc, 3, receipt(alloc, &lines)?)?;
-    assert!(rt; hands_back(spent, &receipt(alloc, &lines)?));
-    let fitted = checked(alloc, 1, fit(alloc, &[(3, 15)])?)?;
-    assert!(rt; hands_back(fitted, &fit(alloc, &[(3, 15)])?));
-    let walked = checked(alloc, 1, walk(alloc, &[(3, 15)])?)?;
-    assert!(rt; hands_back(walked, &walk(alloc, &[(3, 15)])?));
+    const ROWS: &[(u32, Given)] = &[
+        (2, Given::Proof(&[NOT_ONE, OUT_OF_TURN])),
+        (3, Given::Lines(&[NOT_ONE, OUT_OF_TURN])),
+        (1, Given::Third(15)),
+        (1, Given::Moved(15)),
+    ];
+    for (budget, given) in ROWS {
+        assert!(rt; comes_back(rt.alloc(), *budget, *given)?);
+    }
+    Ok(())
+}
+
+// Whether a fit of stations 1 and 2 goes through, while 1 is on 15 and 2 comes onto 14.
+fn fits_over_two(alloc: Global) -> Result<bool, NoMemory> {
+    let again = fit(alloc, &[(2, 14)])?;
+    let answer = fit(alloc, &[(2, 14)])?;
+    let book = four_stations(alloc)?;
+    let two = task(alloc, &[1, 2], &[(1, 15)])?;
+    Ok(holds(certify(alloc, &book, &two, &learner(1), answer), &again))
+}
+
+// Whether a log over the clauses of three stations goes through, of the test of four.
+fn refutes_over_four(alloc: Global) -> Result<bool, NoMemory> {
+    let again = proof(alloc, ALL, &[NOT_ONE, THE_END])?;
+    let answer = proof(alloc, ALL, &[NOT_ONE, THE_END])?;
+    let book = four_stations(alloc)?;
+    let four = task(alloc, &[1, 2, 3, 4], &[(4, 14)])?;
+    Ok(holds(certify(alloc, &book, &four, &learner(2), answer), &again))
+}
+
+#[test]
+fn fit_and_proof_over_other_sets(rt: HostRuntime) -> Result<(), Fail> {
+    assert!(rt; fits_over_two(rt.alloc())?);
+    assert!(rt; refutes_over_four(rt.alloc())?);
     Ok(())
 }
