@@ -3,3 +3,4 @@ pub mod BitLemmas
 pub mod EntryLemmas
 pub mod LookLemmas
 pub mod NoneLaws
+pub mod WalkLemmas

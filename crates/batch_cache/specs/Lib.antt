@@ -3,3 +3,4 @@ pub mod Kept
 pub mod Looks
 pub mod NoneKept
 pub mod StationBits
+pub mod Walks

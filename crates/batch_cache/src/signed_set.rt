@@ -9,7 +9,7 @@ ghost use Rattle.std.specs.Cmp.Rules.{hashing};
 ghost use Rattle.std.proofs.Common.{rules};
 ghost use Rattle.pack_defs.specs.Lists.{is_in};
 
-use crate::numbers::{ascends, is_in};
+use crate::numbers::{are_few, ascends, finds_all, is_in};
 use crate::station_bits::{StationBits, are_covered, station_bits};
 use std::alloc::{AllocError as NoMemory, Global};
 use std::hash::{Hash, Hasher};
@@ -89,19 +89,32 @@ impl SignedSet {
         self.stations.contains(&station)
     }
 
-    /// Whether it has each station of the other one. Mostly a look at a word or two tells that it hasn't; else each station is
-    /// sought, by halves where these ascend.
+    /// Whether it has each station of the other one. Mostly a look at a word or two tells that it hasn't; else both are walked
+    /// along, or each station is sought.
     pub fn holds(&self, others: &SignedSet) -> bool
         ensures { result ≡ list_all (is_in self.now) others.now }
     {
         if !are_covered(&self.bits, &others.bits) {
             return false;
         }
-        self.has_all(&others.stations)
+        self.has_all(others)
     }
 
-    // Whether it has each of these stations.
-    fn has_all(&self, stations: &[u32]) -> bool
+    // Whether it has each station of the other one: by a walk along both, where both ascend and the other one hasn't only a few.
+    fn has_all(&self, others: &SignedSet) -> bool
+        ensures { result ≡ list_all (is_in self.now) others.now }
+    {
+        if !self.ascends || !others.ascends {
+            return self.has_each(&others.stations);
+        }
+        if are_few(others.stations.len(), self.stations.len()) {
+            return self.has_each(&others.stations);
+        }
+        finds_all(&self.stations, &others.stations)
+    }
+
+    // Whether it has each of these stations: each is sought, by halves where its own ascend.
+    fn has_each(&self, stations: &[u32]) -> bool
         ensures { result ≡ list_all (is_in self.now) stations.now }
     {
         for station in stations {

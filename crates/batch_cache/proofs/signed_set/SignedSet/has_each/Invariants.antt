@@ -2,7 +2,7 @@
 use Rattle.std.proofs.Common.{◌≡◌, drop}
 use Rattle.std.specs.List.{list_all}
 use Rattle.pack_defs.specs.Lists.{is_in}
-use Rattle.batch_cache.proofs.signed_set.SignedSet.has_all.Given as goal
+use Rattle.batch_cache.proofs.signed_set.SignedSet.has_each.Given as goal
 
 abbrev pub invariant-loop-station : goal.invariant-loop-station
 invariant-loop-station l = list_all (is_in l.self) (drop l.station-index l.stations) ≡ list_all (is_in l.self) l.stations
