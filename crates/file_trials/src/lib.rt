@@ -8,6 +8,8 @@ mod constraints;
 #[cfg(test)]
 mod folders;
 #[cfg(test)]
+mod lists;
+#[cfg(test)]
 mod made;
 #[cfg(test)]
 mod owners;

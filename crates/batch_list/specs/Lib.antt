@@ -1,0 +1,3 @@
+pub mod ListOf
+pub mod Reads
+pub mod Repeated

@@ -1,0 +1,51 @@
+//! Why a list is refused.
+
+ghost use Rattle.std.specs.Prelude.{◌≡◌};
+ghost use Rattle.batch_list.specs.declared.error.AddErr.TheVariants.{NoMemory as NoRoom};
+ghost use Rattle.batch_list.specs.declared.error.ListErr.TheVariants.{NoMemory};
+
+use std::alloc::{AllocError, AllocFailed};
+
+/// Why a list was not read.
+#[derive(Clone, Copy, Debug, PartialEq, Eq)]
+pub enum ListErr {
+    /// A record is refused: the first one. It stands in this line, where the first line is 1.
+    BadLine { line: u64 },
+    /// It has no record.
+    Empty,
+    /// Memory ran out.
+    NoMemory,
+}
+
+impl From<AllocError> for ListErr {
+    ghost from_gives = { λ _ e. e ≡ NoMemory };
+
+    fn from(_e: AllocError) -> ListErr {
+        ListErr::NoMemory
+    }
+}
+
+/// Why a record was not taken.
+#[derive(Clone, Copy, Debug, PartialEq, Eq)]
+pub(crate) enum AddErr {
+    /// It is refused.
+    Refused,
+    /// Memory ran out.
+    NoMemory,
+}
+
+impl From<AllocError> for AddErr {
+    ghost from_gives = { λ _ e. e ≡ NoRoom };
+
+    fn from(_e: AllocError) -> AddErr {
+        AddErr::NoMemory
+    }
+}
+
+impl<T: Drop> From<AllocFailed<T>> for AddErr {
+    ghost from_gives = { λ _ e. e ≡ NoRoom };
+
+    fn from(_e: AllocFailed<T>) -> AddErr {
+        AddErr::NoMemory
+    }
+}

@@ -1,0 +1,81 @@
+//! The reader of a list: from its bytes to its records, one after another. Its lines, records and fields are those of the
+//! constraint files.
+
+ghost use Rattle.std.specs.Prelude.{◌≡◌, ◌≤◌, [], IfOk, length, map};
+ghost use Rattle.constraint_files.specs.Records.{line_records, lines_of};
+ghost use Rattle.batch_list.specs.ListOf.{list_limit, list_of, with_file_lines, with_record, with_records};
+ghost use Rattle.batch_list.specs.Reads.{Changes, Reads};
+
+use crate::error::{AddErr, ListErr};
+use crate::line::{BatchLine, names_of};
+use constraint_files::records::{fields, split_line};
+use std::alloc::Global;
+
+/// The most records that a list may have.
+const LIST_LIMIT: usize = 256;
+
+/// Adds what a record says. After an error the list is lost.
+fn add_record(alloc: Global, list: &mut Vec<BatchLine>, row: &[Vec<u8>]) -> Result<(), AddErr>
+    ensures { Changes (with_record list.old.items (map (λ f. f.items) row.now)) list.new.items result }
+{
+    if list.len() >= LIST_LIMIT {
+        return Err(AddErr::Refused);
+    }
+    let Some((scenario, output)) = names_of(row) else {
+        return Err(AddErr::Refused);
+    };
+    list.push(BatchLine::new(alloc, scenario, output)?)?;
+    Ok(())
+}
+
+/// Adds what the records of a line of the file say. After an error the list is lost.
+fn add_line(alloc: Global, list: &mut Vec<BatchLine>, line: &[u8]) -> Result<(), AddErr>
+    ensures { Changes (with_records list.old.items (line_records line.now)) list.new.items result }
+{
+    let records = fields(alloc, line)?;
+    for record in &records {
+        add_record(alloc, list, record)?;
+    }
+    Ok(())
+}
+
+/// Reads the records of a list, of which there may be none.
+fn read_records(alloc: Global, bytes: &[u8]) -> Result<Vec<BatchLine>, ListErr>
+    ensures { Reads (with_file_lines [] 1 (lines_of bytes.now)) result }
+{
+    let mut list = Vec::new(alloc);
+    let mut rest = bytes;
+    let mut number: u64 = 1;
+    while !rest.is_empty() {
+        let (line, after) = split_line(rest);
+        match add_line(alloc, &mut list, line) {
+            Ok(()) => {}
+            Err(AddErr::Refused) => return Err(ListErr::BadLine { line: number }),
+            Err(AddErr::NoMemory) => return Err(ListErr::NoMemory),
+        }
+        rest = after;
+        number += 1;
+    }
+    Ok(list)
+}
+
+/// Reads the list of a batch. Each of its records is `SCENARIO,RESULT`: the name of a scenario file, and that of the file
+/// for its result, both UTF-8. There are 1 to 256 of them, and they are given in the order of the list. Lines, records and
+/// fields are those of the constraint files: blanks round a name are no part of it, a name with a comma in it stands in
+/// quotes, and a line with no field is passed over.
+///
+/// # Errors
+///
+/// `BadLine` at the first record that hasn't two fields, that has a field that isn't UTF-8, or that is the 257th, with its
+/// line's number, counted from 1. `Empty` where there is no record. `NoMemory` where memory runs out.
+pub fn read_list(alloc: Global, bytes: &[u8]) -> Result<Vec<BatchLine>, ListErr>
+    ensures reads { Reads (list_of bytes.now) result }
+    ensures some { IfOk result (λ v. 1 ≤ length v.items) }
+    ensures few { IfOk result (λ v. length v.items ≤ list_limit) }
+{
+    let list = read_records(alloc, bytes)?;
+    if list.is_empty() {
+        return Err(ListErr::Empty);
+    }
+    Ok(list)
+}

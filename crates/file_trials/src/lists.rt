@@ -1,0 +1,3 @@
+//! Tests of `batch_list`.
+
+mod tests;
