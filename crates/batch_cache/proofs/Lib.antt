@@ -1,5 +1,6 @@
 pub mod AnswerLemmas
 pub mod BitLemmas
+pub mod Crosses
 pub mod EntryLemmas
 pub mod LookLemmas
 pub mod NoneLaws

@@ -1,5 +1,6 @@
 //! Tests of `race_wave`.
 
+mod cached_tests;
 mod gate_tests;
 mod live_tests;
 mod repeated_tests;

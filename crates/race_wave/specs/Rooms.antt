@@ -3,7 +3,7 @@ use Rattle.std.specs.Prelude.{◌≡◌, ◌≤◌, [], ℕ, vec_capacity}
 use Rattle.race_wave.specs.declared.parting.Room.{Room}
 
 -- three empty lists, each with room for as many
-pub record IsRoomFor (count : ℕ) (room : Room) : Type 0 where
+pub record IsRoomFor {R : Type 0} (count : ℕ) (room : Room R) : Type 0 where
   pub no_runners : room.runners.items ≡ []
   pub no_passes : room.passes.items ≡ []
   pub no_racers : room.racers.items ≡ []

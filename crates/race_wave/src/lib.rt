@@ -1,6 +1,7 @@
 //! Auctions whose workers' solvers try the standing query.
 #![tactic(auto)]
 
+pub mod cached;
 pub mod muster;
 pub mod parting;
 pub mod run;

@@ -5,19 +5,18 @@ ghost use Rattle.race_wave.specs.Rooms.{IsRoomFor};
 
 use crate::runner::Runner;
 use answer_board::board::Pass;
-use solver_gate::racer::RacerKind;
 use std::alloc::{AllocError as NoMemory, Global};
 
 // Room for what the workers of a wave are put into, and for what they are taken apart into.
 #[derive(Drop)]
-pub(crate) struct Room {
-    pub(crate) runners: Vec<Runner<RacerKind>>,
+pub(crate) struct Room<R> {
+    pub(crate) runners: Vec<Runner<R>>,
     pub(crate) passes: Vec<Pass>,
-    pub(crate) racers: Vec<RacerKind>,
+    pub(crate) racers: Vec<R>,
 }
 
 // Room for as many workers.
-pub(crate) fn room_for(alloc: Global, count: u32) -> Result<Room, NoMemory>
+pub(crate) fn room_for<R: Drop>(alloc: Global, count: u32) -> Result<Room<R>, NoMemory>
     ensures { IfOk result (IsRoomFor count) }
 {
     let count = count as usize;

@@ -25,7 +25,7 @@ use pack_defs::owners::Owners;
 use pack_defs::scenario::Scenario;
 use pack_defs::worker::Worker;
 use solver_gate::gate::Gate;
-use solver_gate::racer::RacerKind;
+use solver_gate::racer::{Racer, RacerKind};
 use std::alloc::{AllocError as NoMemory, Global};
 use std::sync::Wait;
 use std::thread::Threads;
@@ -42,7 +42,7 @@ pub fn racers_of(alloc: Global, workers: &[Worker]) -> Result<Vec<RacerKind>, No
 }
 
 // How many racers there are.
-fn count_of(racers: &[RacerKind]) -> u32
+fn count_of<R>(racers: &[R]) -> u32
     requires { length racers.now ≤ 16 }
     ensures { result ≡ length racers.now }
 {
@@ -51,32 +51,32 @@ fn count_of(racers: &[RacerKind]) -> u32
 
 // What a wave leaves: whether memory ran out for each worker, and the passes and racers in order.
 #[derive(Drop)]
-struct AfterWave {
+struct AfterWave<R> {
     done: Result<(), NoMemory>,
     passes: Vec<Pass>,
-    racers: Vec<RacerKind>,
+    racers: Vec<R>,
 }
 
 // A wave of the workers of a new board.
-fn waved<G: Gate + Sync, W: Threads + Wait + Sync>(
+fn waved<R: Racer + Send + Drop, G: Gate + Sync, W: Threads + Wait + Sync>(
     rt: &W,
     alloc: Global,
     board: &Board,
     book: &Book,
     passes: Vec<Pass>,
-    racers: Vec<RacerKind>,
-    room: Room,
+    racers: Vec<R>,
+    room: Room<R>,
     gate: &G,
-) -> AfterWave
+) -> AfterWave<R>
     requires book { book.now ≡ (raised board.now).book }
     requires all { AreAllOn board.now (map standing passes.items) }
     requires idle { AllOf IsIdle passes.items }
     requires new { map known_of passes.items ≡ each_new (numbered (raised board.now).history) (length racers.items) }
-    requires racers { map worker_of racers.items ≡ (raised board.now).scenario.workers }
+    requires racers { map R.worker racers.items ≡ (raised board.now).scenario.workers }
     requires room { IsRoomFor (length racers.items) room }
     ensures all { AreAllOn board.now (map standing result.passes.items) }
     ensures idle { AllOf IsIdle result.passes.items }
-    ensures racers { map worker_of result.racers.items ≡ map worker_of racers.items }
+    ensures racers { map R.worker result.racers.items ≡ map R.worker racers.items }
 {
     let Room {
         runners,
@@ -94,21 +94,21 @@ fn waved<G: Gate + Sync, W: Threads + Wait + Sync>(
 }
 
 // The auction after a wave of its workers, and their racers.
-fn raced<G: Gate + Sync, W: Threads + Wait + Sync>(
+fn raced<R: Racer + Send + Drop, G: Gate + Sync, W: Threads + Wait + Sync>(
     rt: &W,
     alloc: Global,
     book: &Book,
     auction: Auction,
-    racers: Vec<RacerKind>,
+    racers: Vec<R>,
     gate: &G,
-) -> Result<(Auction, Vec<RacerKind>), NoMemory>
+) -> Result<(Auction, Vec<R>), NoMemory>
     requires book { auction.book ≡ book.now }
-    requires racers { map worker_of racers.items ≡ auction.scenario.workers }
+    requires racers { map R.worker racers.items ≡ auction.scenario.workers }
     requires some { 1 ≤ length racers.items }
     requires few { length racers.items ≤ 16 }
     ensures setup { IfOk result (λ r. setup_of r.0 ≡ setup_of auction) }
     ensures goes_on { IfOk result (λ r. GoesOn auction.scenario auction.state r.0.state) }
-    ensures racers { IfOk result (λ r. map worker_of r.1.items ≡ map worker_of racers.items) }
+    ensures racers { IfOk result (λ r. map R.worker r.1.items ≡ map R.worker racers.items) }
 {
     // With its count of postings an auction says what its history replays to.
     let _ = auction.posted();
@@ -128,10 +128,33 @@ fn raced<G: Gate + Sync, W: Threads + Wait + Sync>(
     Ok((auction, racers))
 }
 
+/// The record of the auction of this scenario and book, each round of which tests the stations by volume. The racers, of which
+/// each worker has one, in order, race on a board for its queries, each in a thread of its own where one can be made; after
+/// each race they try the standing query one after another on this thread; and so on, until the auction has ended. The only
+/// error is want of memory.
+pub fn run_with<R: Racer + Send + Drop, G: Gate + Sync, W: Threads + Wait + Sync>(
+    rt: &W,
+    alloc: Global,
+    sc: &Scenario,
+    book: &Book,
+    mut racers: Vec<R>,
+    gate: &G,
+) -> Result<Record, NoMemory>
+    requires auction { IsOfAuction sc.now book.now }
+    requires racers { map R.worker racers.items ≡ sc.now.workers }
+    ensures { IfOk result (IsBacked sc.now book.now Order.ByVolume) }
+{
+    let mut auction = Auction::start(alloc, sc, book, Order::ByVolume)?;
+    'waves: while !auction.ended() {
+        (auction, racers) = raced(rt, alloc, book, auction, racers, gate)?;
+        serial_turn(alloc, &mut auction, &mut racers)?;
+    }
+    let record = auction.into_result(alloc, sc.copy(alloc)?)?;
+    Ok(record)
+}
+
 /// The record of the auction of this scenario and book, each round of which tests the stations by volume. The solvers of the
-/// scenario's workers race on a board for its queries, each in a thread of its own where one can be made; after each race
-/// they try the standing query one after another on this thread; and so on, until the auction has ended. The only error is
-/// want of memory.
+/// scenario's workers are the racers that carry it out, as `run_with` does. The only error is want of memory.
 pub fn run_auction<G: Gate + Sync, W: Threads + Wait + Sync>(
     rt: &W,
     alloc: Global,
@@ -142,14 +165,8 @@ pub fn run_auction<G: Gate + Sync, W: Threads + Wait + Sync>(
     requires { IsOfAuction sc.now book.now }
     ensures { IfOk result (IsBacked sc.now book.now Order.ByVolume) }
 {
-    let mut racers = racers_of(alloc, sc.workers.as_slice())?;
-    let mut auction = Auction::start(alloc, sc, book, Order::ByVolume)?;
-    'waves: while !auction.ended() {
-        (auction, racers) = raced(rt, alloc, book, auction, racers, gate)?;
-        serial_turn(alloc, &mut auction, &mut racers)?;
-    }
-    let record = auction.into_result(alloc, sc.copy(alloc)?)?;
-    Ok(record)
+    let racers = racers_of(alloc, sc.workers.as_slice())?;
+    run_with(rt, alloc, sc, book, racers, gate)
 }
 
 /// The record of the live auction of this scenario and book: its owners say these lines, and the stations' values stand for

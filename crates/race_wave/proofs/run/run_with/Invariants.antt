@@ -1,15 +1,14 @@
 use Rattle.std.proofs.Common.{◌≡◌, map}
 use Rattle.pack_defs.specs.declared.order.Order.TheVariants.{ByVolume}
-use Rattle.solver_gate.specs.Racers.{worker_of}
 use Rattle.auction_core.specs.State.{queries_left}
-use Rattle.race_wave.proofs.run.run_auction.Given as goal
+use Rattle.race_wave.proofs.run.run_with.Given as goal
 
 abbrev pub invariant-waves : goal.invariant-waves
 invariant-waves g l = record {
   scenario : l.auction.scenario ≡ l.sc;
   book : l.auction.book ≡ l.book;
   order : l.auction.state.order ≡ ByVolume;
-  racers : map worker_of l.racers.items ≡ l.sc.workers;
+  racers : map g.R.Racer.worker l.racers.items ≡ l.sc.workers;
 }
 
 abbrev pub decreases-waves : goal.decreases-waves

@@ -1,40 +1,39 @@
 -- The auction opens in the order that it keeps, and each wave with its turn leaves fewer queries.
-use Rattle.std.proofs.Common.{◌≡◌, ◌<◌, ◌≤◌, ◌∙◌, ap, false, map, rules, subst, sym}
+use Rattle.std.proofs.Common.{◌≡◌, ◌<◌, ◌≤◌, ◌∙◌, ap, false, map, subst, sym}
 use Rattle.pack_defs.specs.declared.scenario.Scenario.{Scenario}
-use Rattle.solver_gate.specs.Racers.{worker_of}
 use Rattle.auction_core.specs.Setup.{SetupView}
 use Rattle.auction_core.specs.State.{CoreState, has_ended, queries_left}
 use Rattle.auction_core.proofs.Orders.{opening-order}
 use Rattle.race_wave.specs.Turns.{MovesOn}
 use Rattle.race_wave.proofs.MeasureLemmas.{turn-fewer}
 use Rattle.race_wave.proofs.RunLemmas.{as-many-workers, turned-list}
-use Rattle.race_wave.proofs.run.run_auction.Goals as goal
+use Rattle.race_wave.proofs.run.run_with.Goals as goal
 
 pub waves-init : goal.waves-init
 waves-init g c = record {
   scenario = c.in_ok-auction.ensures.scenario;
   book = c.in_ok-auction.ensures.book;
   order = ap (λ (state : CoreState). state.order) c.in_ok-auction.ensures.state ∙ opening-order _ _ _;
-  racers = search rules;
+  racers = c.requires.racers;
 }
 
 pub raced-requires-clause-some : goal.raced-requires-clause-some
 raced-requires-clause-some g c κs within =
-    subst (λ n. 1 ≤ n) (as-many-workers worker_of c.waves.racers.items c.args.sc.now.workers c.waves.invariant.racers) c.requires.limits.some_worker
+    subst (λ n. 1 ≤ n) (as-many-workers g.R.Racer.worker c.waves.racers.items c.args.sc.now.workers c.waves.invariant.racers) c.requires.auction.limits.some_worker
 
 pub raced-requires-clause-few : goal.raced-requires-clause-few
 raced-requires-clause-few g c κs within =
-    subst (λ n. n ≤ 16) (as-many-workers worker_of c.waves.racers.items c.args.sc.now.workers c.waves.invariant.racers) c.requires.limits.workers
+    subst (λ n. n ≤ 16) (as-many-workers g.R.Racer.worker c.waves.racers.items c.args.sc.now.workers c.waves.invariant.racers) c.requires.auction.limits.workers
 
 pub waves-preserved : goal.waves-preserved
 waves-preserved g c =
     let racers = c.in_ok-auction-2.field-0-1 in
-    let turned : map worker_of c.serial_turn.new.racers ≡ map worker_of racers.items = c.serial_turn.ensures.racers ∙ ap (λ xs. map worker_of xs) c.deref_mut.ensures.value in
+    let turned : map g.R.Racer.worker c.serial_turn.new.racers ≡ map g.R.Racer.worker racers.items = c.serial_turn.ensures.racers ∙ ap (λ xs. map g.R.Racer.worker xs) c.deref_mut.ensures.value in
     record {
       scenario = c.serial_turn.ensures.continued.scenario ∙ (ap (λ (s : SetupView). s.scenario) c.in_ok-auction-2.ensures.setup ∙ c.waves.invariant.scenario);
       book = c.serial_turn.ensures.continued.book ∙ (ap (λ (s : SetupView). s.book) c.in_ok-auction-2.ensures.setup ∙ c.waves.invariant.book);
       order = c.serial_turn.ensures.continued.order ∙ (ap (λ (s : SetupView). s.order) c.in_ok-auction-2.ensures.setup ∙ c.waves.invariant.order);
-      racers = ap (λ xs. map worker_of xs) (turned-list worker_of racers.len racers.items c.serial_turn.new.racers racers.ok.0 turned)
+      racers = ap (λ xs. map g.R.Racer.worker xs) (turned-list g.R.Racer.worker racers.len racers.items c.serial_turn.new.racers racers.ok.0 turned)
           ∙ (turned ∙ (c.in_ok-auction-2.ensures.racers ∙ c.waves.invariant.racers));
     }
 

@@ -1,0 +1,114 @@
+//! A test of a racer behind a cache: what was said once isn't tried again.
+
+use crate::races::samples::{learner, three_stations};
+use batch_cache::cache::Cache;
+use cert_types::answer::Answer;
+use cert_types::poll::{Attempt, Poll};
+use cert_types::query::is_query;
+use cert_types::task::Task;
+use pack_defs::book::Book;
+use pack_defs::channel_map::ChannelMap;
+use pack_defs::items::Items;
+use pack_defs::worker::Worker;
+use race_wave::cached::Cached;
+use race_wave::standing::Standing;
+use solver_gate::racer::{Racer, RacerKind};
+use std::alloc::{AllocError as NoMemory, Global};
+use std::sync::atomic::{AtomicU64, Ordering};
+use std::sync::{Mutex, Wait};
+use std::test::Fail;
+
+// A solver whose attempts are counted.
+#[derive(Drop)]
+struct Counted<'a> {
+    solver: RacerKind,
+    attempts: &'a AtomicU64,
+}
+
+impl Racer for Counted<'_> {
+    ghost use Rattle.solver_gate.specs.Racers.{worker_of};
+
+    ghost worker = { λ counted. worker_of counted.solver };
+
+    fn attempt<P: Poll>(
+        &mut self,
+        alloc: Global,
+        book: &Book,
+        task: &Task,
+        poll: &mut P,
+    ) -> Result<Attempt, NoMemory> {
+        self.attempts.fetch_add(1, Ordering::SeqCst);
+        self.solver.attempt(alloc, book, task, poll)
+    }
+}
+
+// The test of a set, none of whose stations has a channel yet.
+fn task_of(alloc: Global, set: &[u32]) -> Result<Task, NoMemory> {
+    Ok(Task {
+        number: 1,
+        round: 0,
+        station: None,
+        set: Items::from_vec(Vec::from_slice(alloc, set)?),
+        last: ChannelMap::of(alloc, &[])?,
+    })
+}
+
+// Whether the racer says that the set fits, if `fits`, or that it doesn't.
+fn says<R: Racer>(
+    alloc: Global,
+    racer: &mut R,
+    book: &Book,
+    set: &[u32],
+    fits: bool,
+) -> Result<bool, NoMemory> {
+    let task = task_of(alloc, set)?;
+    if !is_query(book, &task) {
+        return Ok(false);
+    }
+    let said = racer.attempt(alloc, book, &task, &mut Standing { number: 1 })?;
+    Ok(match said {
+        Attempt::Said(Answer::Fit(_)) => fits,
+        Attempt::Said(Answer::Refuted(_)) => !fits,
+        _ => false,
+    })
+}
+
+// Whether a cached solver with ample budget says each of these, having attempted so many by then.
+fn attempts<W: Wait>(
+    rt: &W,
+    alloc: Global,
+    worker: &Worker,
+    rows: &[(&[u32], bool, u64)],
+) -> Result<bool, NoMemory> {
+    let book = three_stations(alloc)?;
+    let cache = Mutex::new(Cache::make(alloc, 4)?);
+    let attempts = AtomicU64::new(0);
+    let solver = RacerKind::for_worker(alloc, worker)?;
+    let counted = Counted {
+        solver,
+        attempts: &attempts,
+    };
+    let mut racer = Cached::make(rt, 15, &cache, worker, counted);
+    for (set, fits, count) in rows {
+        let said = says(alloc, &mut racer, &book, set, *fits)?;
+        if !said || attempts.load(Ordering::SeqCst) != *count {
+            return Ok(false);
+        }
+    }
+    Ok(true)
+}
+
+// An equal task is answered by the cache, and so is one of fewer stations where its set fits; one of more is tried.
+#[test]
+fn what_was_said_is_not_tried_again(rt: HostRuntime) -> Result<(), Fail> {
+    let rows: &[(&[u32], bool, u64)] = &[
+        (&[1, 2], true, 1),
+        (&[1, 2], true, 1),
+        (&[2], true, 1),
+        (&[1, 2, 3], false, 2),
+        (&[1, 2, 3], false, 2),
+        (&[1, 3], true, 3),
+    ];
+    assert!(rt; attempts(&rt, rt.alloc(), &learner(1000), rows)?);
+    Ok(())
+}

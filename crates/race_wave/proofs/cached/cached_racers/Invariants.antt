@@ -1,0 +1,5 @@
+use Rattle.std.proofs.Common.{◌≡◌, map, take}
+use Rattle.race_wave.proofs.cached.cached_racers.Given as goal
+
+abbrev pub invariant-loop-worker : goal.invariant-loop-worker
+invariant-loop-worker g l = map (λ cached. cached.worker) l.racers.items ≡ take l.worker-index l.workers

@@ -1,0 +1,150 @@
+//! Racers that ask a cache before they try a query, and keep there what they say: many auctions share it.
+
+ghost use Rattle.std.specs.Prelude.{◌≡◌, IfOk, IfSome, map};
+ghost use Rattle.cert_types.specs.Query.{IsQuery};
+ghost use Rattle.cert_types.specs.Valid.{IsValid};
+ghost use Rattle.auction_core.specs.Backed.{IsBacked};
+ghost use Rattle.auction_core.specs.Setup.{IsOfAuction};
+
+use crate::run::run_with;
+use auction_core::record::Record;
+use batch_cache::cache::Cache;
+use cert_types::answer::Answer;
+use cert_types::poll::{Attempt, Poll};
+use cert_types::task::Task;
+use pack_defs::book::Book;
+use pack_defs::order::Order;
+use pack_defs::scenario::Scenario;
+use pack_defs::worker::Worker;
+use solver_gate::gate::Gate;
+use solver_gate::racer::{Racer, RacerKind};
+use std::alloc::{AllocError as NoMemory, Global};
+use std::sync::{Mutex, Wait};
+use std::thread::Threads;
+
+/// A worker's racer, and the cache that is asked before it. What the cache answers is said in the racer's place; what the
+/// racer says is put into the cache. The cache is locked while it is asked or put into, and never while the racer tries.
+#[derive(Drop)]
+pub struct Cached<'a, W: Wait, R: Racer> {
+    rt: &'a W,
+    // The top channel under which the cache is asked and put into.
+    top: u8,
+    cache: &'a Mutex<Cache>,
+    /// The worker whose racer it is.
+    pub worker: Worker,
+    racer: R,
+    ghost own: { R.worker racer ≡ worker },
+}
+
+impl<'a, W: Wait, R: Racer> Cached<'a, W, R> {
+    /// The racer of a worker, with a cache that is asked before it under this top channel. It takes no memory.
+    pub fn make(
+        rt: &'a W,
+        top: u8,
+        cache: &'a Mutex<Cache>,
+        worker: &Worker,
+        racer: R,
+    ) -> Cached<'a, W, R>
+        requires { R.worker racer ≡ worker.now }
+        ensures { result.worker ≡ worker.now }
+    {
+        Cached {
+            rt,
+            top,
+            cache,
+            worker: *worker,
+            racer,
+        }
+    }
+
+    // What the cache answers, if it does. Where memory runs out for the look it answers nothing, and the racer tries.
+    fn kept_answer(&self, alloc: Global, book: &Book, task: &Task) -> Option<Answer>
+        requires { IsQuery book.now task.now }
+        ensures { IfSome result (IsValid book.now task.now self.now.worker) }
+    {
+        let mut cache = self.cache.lock(self.rt);
+        answer_in(alloc, &mut cache, self.top, book, task, &self.worker)
+    }
+
+    // Puts what an attempt says into the cache. Where memory runs out for that it is said all the same, though not kept.
+    fn keep(&self, alloc: Global, task: &Task, attempt: &Attempt) {
+        if let Attempt::Said(answer) = attempt {
+            let mut cache = self.cache.lock(self.rt);
+            let _ = cache.put(alloc, self.top, task, answer);
+        }
+    }
+}
+
+// What a cache answers, if it does; nothing where memory runs out.
+fn answer_in(
+    alloc: Global,
+    cache: &mut Cache,
+    top: u8,
+    book: &Book,
+    task: &Task,
+    worker: &Worker,
+) -> Option<Answer>
+    requires { IsQuery book.now task.now }
+    ensures { IfSome result (IsValid book.now task.now worker.now) }
+{
+    match cache.answer(alloc, top, book, task, worker) {
+        Ok(answer) => answer,
+        Err(_) => None,
+    }
+}
+
+impl<W: Wait, R: Racer> Racer for Cached<'_, W, R> {
+    ghost worker = { λ cached. cached.worker };
+
+    fn attempt<P: Poll>(
+        &mut self,
+        alloc: Global,
+        book: &Book,
+        task: &Task,
+        poll: &mut P,
+    ) -> Result<Attempt, NoMemory> {
+        if let Some(answer) = self.kept_answer(alloc, book, task) {
+            return Ok(Attempt::Said(answer));
+        }
+        let attempt = self.racer.attempt(alloc, book, task, poll)?;
+        self.keep(alloc, task, &attempt);
+        Ok(attempt)
+    }
+}
+
+// A racer for each worker, in order: a solver of its kind, with the cache that is asked before it.
+fn cached_racers<'a, W: Wait>(
+    rt: &'a W,
+    alloc: Global,
+    top: u8,
+    workers: &[Worker],
+    cache: &'a Mutex<Cache>,
+) -> Result<Vec<Cached<'a, W, RacerKind>>, NoMemory>
+    ensures { IfOk result (λ racers. map (λ cached. cached.worker) racers.items ≡ workers.now) }
+{
+    let mut racers = Vec::new(alloc);
+    for worker in workers {
+        let racer = RacerKind::for_worker(alloc, worker)?;
+        racers.push(Cached::make(rt, top, cache, worker, racer))?;
+    }
+    Ok(racers)
+}
+
+/// The record of the auction of this scenario and book, each round of which tests the stations by volume. It is carried out
+/// as `run_auction` does, by racers each of which asks the shared cache first, under the scenario's top channel, and puts what
+/// it says into it. Where memory runs out in the cache the auction goes on without what would have been answered or kept; the
+/// only error is want of memory of the auction itself.
+pub fn run_cached<G: Gate + Sync, W: Threads + Wait + Sync>(
+    rt: &W,
+    alloc: Global,
+    sc: &Scenario,
+    book: &Book,
+    cache: &Mutex<Cache>,
+    gate: &G,
+) -> Result<Record, NoMemory>
+    requires { IsOfAuction sc.now book.now }
+    ensures { IfOk result (IsBacked sc.now book.now Order.ByVolume) }
+{
+    let racers = cached_racers(rt, alloc, sc.top, sc.workers.as_slice(), cache)?;
+    run_with(rt, alloc, sc, book, racers, gate)
+}
