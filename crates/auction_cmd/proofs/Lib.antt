@@ -1,3 +1,6 @@
+pub mod BatchEndLemmas
+pub mod BatchLemmas
+pub mod BatchReadings
 pub mod CheckLemmas
 pub mod DeliveryLemmas
 pub mod EndLemmas
@@ -13,6 +16,7 @@ pub mod MakeLemmas
 pub mod NumberLemmas
 pub mod OutputNames
 pub mod PlanLemmas
+pub mod ProgramLemmas
 pub mod PromiseLemmas
 pub mod ReadAgain
 pub mod ReadingLemmas

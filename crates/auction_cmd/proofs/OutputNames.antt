@@ -14,7 +14,7 @@ use Rattle.auction_cmd.specs.Made.{texts_under}
 use Rattle.auction_cmd.proofs.DeliveryLemmas.{AreApart}
 
 -- what a search doesn't find doesn't pass
-not-found : (p : List ℕ → Bool) (xs : List (List ℕ)) (x : List ℕ) → find p xs ≡ None → Contains xs x → p x ≡ true → ⊥
+pub not-found : (p : List ℕ → Bool) (xs : List (List ℕ)) (x : List ℕ) → find p xs ≡ None → Contains xs x → p x ≡ true → ⊥
 not-found p xs x none here passes = elim (find_cases p xs) [
   | inl absent ↦ false≢true (sym absent.1 ∙ list_any-from p xs x here passes)
   | inr found ↦ cc (sym none ∙ found.1)
@@ -59,7 +59,7 @@ own-names names result channels transcript once =
 -- ---- the files of `make`
 
 -- a name that stands at two places of a list is repeated among them
-twice-among : (given xs ys zs : List (List ℕ)) (a b : List ℕ) → xs ++ a ∷ (ys ++ b ∷ zs) ≡ given → a ≡ b → is_repeated_among given a ≡ true
+pub twice-among : (given xs ys zs : List (List ℕ)) (a b : List ℕ) → xs ++ a ∷ (ys ++ b ∷ zs) ≡ given → a ≡ b → is_repeated_among given a ≡ true
 twice-among given xs ys zs a b whole same =
     lt-ltb 1 (count_by (bytes_eq a) given)
     (subst (λ names. 1 < count_by (bytes_eq a) names) whole (two-pass (bytes_eq a) xs ys zs a b (own a) ((bytes_eq-Decides a b).1 same)))

@@ -1,7 +1,7 @@
 -- What the words ask for, from the command that they are.
 use Rattle.std.proofs.Common.{◌≡◌, ◌∙◌, ℕ, List, Option, Some, None, sym, ap}
-use Rattle.auction_cmd.specs.Plan.{no_command, repeats, runs, checks, verifies, seeks, makes, exports, imports, command_plan, export_plan, import_plan, make_plan, run_plan, seek_plan}
-use Rattle.auction_cmd.specs.Words.{Command, run, check, verify, seek, make, export, import, ExportNames, ImportNames, InputNames, MakeNames, RunNames, SeekNames, VerifyNames, repeated_export, repeated_import, repeated_made, repeated_output, repeated_seek}
+use Rattle.auction_cmd.specs.Plan.{no_command, repeats, runs, checks, verifies, seeks, batches, makes, exports, imports, command_plan, export_plan, import_plan, make_plan, run_plan, seek_plan}
+use Rattle.auction_cmd.specs.Words.{Command, run, check, verify, seek, batch, make, export, import, BatchNames, ExportNames, ImportNames, InputNames, MakeNames, RunNames, SeekNames, VerifyNames, repeated_export, repeated_import, repeated_made, repeated_output, repeated_seek}
 
 pub plan-none : (command : Option Command) → command ≡ None → command_plan command ≡ no_command
 plan-none command is = ap command_plan is
@@ -23,6 +23,9 @@ plan-sought_twice command names name is twice = ap command_plan is ∙ ap (seek_
 
 pub plan-seeks : (command : Option Command) (names : SeekNames) → command ≡ Some (seek names) → None ≡ repeated_seek names → command_plan command ≡ seeks names
 plan-seeks command names is once = ap command_plan is ∙ ap (seek_plan names) (sym once)
+
+pub plan-batches : (command : Option Command) (names : BatchNames) → command ≡ Some (batch names) → command_plan command ≡ batches names
+plan-batches command names is = ap command_plan is
 
 pub plan-made_twice : (command : Option Command) (names : MakeNames) (name : List ℕ) → command ≡ Some (make names) → Some name ≡ repeated_made names → command_plan command ≡ repeats name
 plan-made_twice command names name is twice = ap command_plan is ∙ ap (make_plan names) (sym twice)

@@ -1,4 +1,4 @@
--- What may be relied on of the program follows from how it ends, by what the words ask for.
+-- What may be relied on of the program follows from how it ends, by what the words ask for, but for a batch.
 use Rattle.std.proofs.Common.{◌≡◌, ◌⊎◌, ◌∙◌, ℕ, true, false, inl, inr, List, [], ◌∷◌, refl, sym, ap, subst, arith, Option, Some, None}
 use Rattle.std.specs.Prelude.{IsTrue, MatchOption, ⊤}
 use Rattle.std.proofs.lemmas.Bool.{false≢true, true≢false}
@@ -17,7 +17,7 @@ use Rattle.auction_cmd.specs.Ends.VerifyEnds.{VerifyStarved}
 use Rattle.auction_cmd.specs.ImportPromises.{ImportPromises}
 use Rattle.auction_cmd.specs.MakePromises.{MakePromises}
 use Rattle.auction_cmd.specs.Outside.{Outside, IsSaid}
-use Rattle.auction_cmd.specs.Plan.{Plan, no_command, repeats, runs, checks, verifies, seeks, makes, exports, imports}
+use Rattle.auction_cmd.specs.Plan.{Plan, no_command, repeats, runs, checks, verifies, seeks, batches, makes, exports, imports}
 use Rattle.auction_cmd.specs.Promises.{IsSomeRecord, Promises, asks_nothing, asks_step, carries_out, inputs_read, records_first, seeks_top, verifies_first}
 use Rattle.auction_cmd.specs.Says.{memory_line, twice_line}
 use Rattle.auction_cmd.specs.VerifyPromises.{VerifyPromises}
@@ -414,6 +414,7 @@ read-by (verifies own) names before after status found below end is = cc
 read-by (seeks own) names before after status found below end is =
     let same : seek_inputs own ≡ names = cc in
     subst (λ z. Reading z before after status) same (seek-reading own before after status found below (sought (seeks own) before after status found below own end refl))
+read-by (batches own) names before after status found below end is = cc
 read-by (makes own) names before after status found below end is = cc
 read-by (exports own) names before after status found below end is = cc
 read-by (imports own) names before after status found below end is = cc
@@ -431,6 +432,7 @@ unsaid-by (verifies own) names before after status found below files end told is
     let same : own.inputs ≡ names = cc in
     verify-unsaid before after status found files own (verified (verifies own) before after status found below own end refl) told (ap (λ (n : InputNames). n.owners) same ∙ none)
 unsaid-by (seeks own) names before after status found below files end told is none = cc
+unsaid-by (batches own) names before after status found below files end told is none = cc
 unsaid-by (makes own) names before after status found below files end told is none = cc
 unsaid-by (exports own) names before after status found below files end told is none = cc
 unsaid-by (imports own) names before after status found below files end told is none = cc

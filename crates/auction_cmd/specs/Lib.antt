@@ -1,3 +1,7 @@
+pub mod Batch
+pub mod BatchEnds
+pub mod BatchPromises
+pub mod BatchRuns
 pub mod Counts
 pub mod Delivery
 pub mod Ends
@@ -11,6 +15,7 @@ pub mod MakePromises
 pub mod Outside
 pub mod Pieces
 pub mod Plan
+pub mod Program
 pub mod Promises
 pub mod Records
 pub mod Refusals

@@ -1,6 +1,6 @@
 -- What the words of the command line have the program do.
 use Rattle.std.specs.Prelude.{ℕ, List, Option, Some, None}
-use Rattle.auction_cmd.specs.Words.{Command, run, check, verify, seek, make, export, import, InputNames, RunNames, VerifyNames, SeekNames, MakeNames, ExportNames, ImportNames, command_of, repeated_export, repeated_import, repeated_made, repeated_output, repeated_seek}
+use Rattle.auction_cmd.specs.Words.{Command, run, check, verify, seek, batch, make, export, import, BatchNames, InputNames, RunNames, VerifyNames, SeekNames, MakeNames, ExportNames, ImportNames, command_of, repeated_export, repeated_import, repeated_made, repeated_output, repeated_seek}
 
 -- nothing, where they are no command; to refuse an output name that is given twice; or a command
 pub data Plan : Type 0 where
@@ -10,6 +10,7 @@ pub data Plan : Type 0 where
   checks : InputNames → Plan
   verifies : VerifyNames → Plan
   seeks : SeekNames → Plan
+  batches : BatchNames → Plan
   makes : MakeNames → Plan
   exports : ExportNames → Plan
   imports : ImportNames → Plan
@@ -45,6 +46,7 @@ command_plan (Some (run names)) = run_plan names (repeated_output names)
 command_plan (Some (check names)) = checks names
 command_plan (Some (verify names)) = verifies names
 command_plan (Some (seek names)) = seek_plan names (repeated_seek names)
+command_plan (Some (batch names)) = batches names
 command_plan (Some (make names)) = make_plan names (repeated_made names)
 command_plan (Some (export names)) = export_plan names (repeated_export names)
 command_plan (Some (import names)) = import_plan names (repeated_import names)

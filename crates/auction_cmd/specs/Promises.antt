@@ -1,5 +1,5 @@
--- What may be relied on of the program, a clause each: by what the words ask for, what the folder and the sink tell
--- before and after, the status and the record.
+-- What may be relied on of the program, but for a batch, a clause each: by what the words ask for, what the folder and the sink
+-- tell before and after, the status and the record.
 use Rattle.std.specs.Prelude.{Contains, ◌≡◌, ◌≢◌, ◌⊎◌, ◌<◌, ◌≤◌, ℕ, Bool, true, false, List, [], ◌∷◌, length, Option, Some, None, Ok, Err, IsFalse, IsSome, IsTrue, MatchOption, ⊤}
 use Rattle.pack_defs.specs.Lists.{is_in}
 use Rattle.pack_defs.specs.ClockRule.{ClockTest, FrozenAt, on_air_set}
@@ -27,7 +27,7 @@ use Rattle.auction_cmd.specs.Inputs.{inputs_of}
 use Rattle.auction_cmd.specs.LivePromises.{IsLive}
 use Rattle.auction_cmd.specs.MakePromises.{MakePromises}
 use Rattle.auction_cmd.specs.Outside.{Outside, IsSaid}
-use Rattle.auction_cmd.specs.Plan.{Plan, no_command, repeats, runs, checks, verifies, seeks, makes, exports, imports}
+use Rattle.auction_cmd.specs.Plan.{Plan, no_command, repeats, runs, checks, verifies, seeks, batches, makes, exports, imports}
 use Rattle.auction_cmd.specs.Records.{IsOpenRecordOf, IsRecordBy, IsRecordOf, StartFits, StartUnfit, done_status, outcome, result_of, run_order, summary_of}
 use Rattle.auction_cmd.specs.Refusals.{line_of, name_of}
 use Rattle.auction_cmd.specs.Says.{memory_line, open_line, twice_line, unfit_line, unread_line, unwritten_line}
@@ -44,6 +44,7 @@ inputs_read (runs names) = Some names.inputs
 inputs_read (checks names) = Some names
 inputs_read (verifies names) = None
 inputs_read (seeks names) = Some (seek_inputs names)
+inputs_read (batches names) = None
 inputs_read (makes names) = None
 inputs_read (exports names) = None
 inputs_read (imports names) = None
@@ -56,6 +57,7 @@ carries_out (runs names) = Some names.inputs
 carries_out (checks names) = None
 carries_out (verifies names) = Some names.inputs
 carries_out (seeks names) = None
+carries_out (batches names) = None
 carries_out (makes names) = None
 carries_out (exports names) = None
 carries_out (imports names) = None
@@ -68,6 +70,7 @@ asks_nothing (runs names) = false
 asks_nothing (checks names) = false
 asks_nothing (verifies names) = false
 asks_nothing (seeks names) = false
+asks_nothing (batches names) = false
 asks_nothing (makes names) = false
 asks_nothing (exports names) = false
 asks_nothing (imports names) = false
@@ -80,6 +83,7 @@ records_first (runs names) = true
 records_first (checks names) = true
 records_first (verifies names) = true
 records_first (seeks names) = true
+records_first (batches names) = false
 records_first (makes names) = false
 records_first (exports names) = false
 records_first (imports names) = true
@@ -92,6 +96,7 @@ verifies_first (runs names) = false
 verifies_first (checks names) = false
 verifies_first (verifies names) = true
 verifies_first (seeks names) = false
+verifies_first (batches names) = false
 verifies_first (makes names) = false
 verifies_first (exports names) = true
 verifies_first (imports names) = true
@@ -104,6 +109,7 @@ seeks_top (runs names) = false
 seeks_top (checks names) = false
 seeks_top (verifies names) = false
 seeks_top (seeks names) = true
+seeks_top (batches names) = false
 seeks_top (makes names) = false
 seeks_top (exports names) = false
 seeks_top (imports names) = false
@@ -116,6 +122,7 @@ asks_step (runs names) = false
 asks_step (checks names) = false
 asks_step (verifies names) = false
 asks_step (seeks names) = false
+asks_step (batches names) = false
 asks_step (makes names) = false
 asks_step (exports names) = true
 asks_step (imports names) = true

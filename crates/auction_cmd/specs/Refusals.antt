@@ -8,19 +8,21 @@ use Rattle.scenario_json.specs.declared.error.ScenarioErr.TheVariants.{Syntax, M
 use Rattle.scenario_json.specs.declared.name.Name.{Name}
 use Rattle.scenario_json.specs.Name.{name_text}
 use Rattle.auction_cmd.specs.declared.refusal.Input.{Input}
-use Rattle.auction_cmd.specs.declared.refusal.Input.TheVariants.{Domains, Rows, Scenario as ScenarioFile, Owners as OwnersFile}
+use Rattle.auction_cmd.specs.declared.refusal.Input.TheVariants.{Domains, Rows, Scenario as ScenarioFile, Owners as OwnersFile, List as ListFile}
 use Rattle.auction_cmd.specs.declared.refusal.Refusal.{Refusal}
-use Rattle.auction_cmd.specs.declared.refusal.Refusal.TheVariants.{TooLong, Row, Scenario, MissingDomain, Owners}
+use Rattle.auction_cmd.specs.declared.refusal.Refusal.TheVariants.{TooLong, Row, Scenario, MissingDomain, Owners, BadLine, EmptyList}
 use Rattle.owner_line.specs.declared.error.OwnerWhy.{OwnerWhy}
 use Rattle.owner_line.specs.declared.error.OwnerWhy.TheVariants as owner
 use Rattle.auction_cmd.specs.Words.{InputNames}
 
--- the name of an input file; where no owners' file is named, the scenario has what stands for it
+-- the name of an input file; where no owners' file is named, the scenario has what stands for it; and a batch's list stands in
+-- the place of a scenario until its scenarios are read
 abbrev pub name_of : InputNames → Input → List ℕ
 name_of names Domains = names.domains
 name_of names Rows = names.rows
 name_of names ScenarioFile = names.scenario
 name_of names OwnersFile = option_map_or (λ name. name) names.owners names.scenario
+name_of names ListFile = names.scenario
 
 -- the file that is refused
 abbrev pub input_of : Refusal → Input
@@ -29,6 +31,8 @@ input_of (Row input line why) = input
 input_of (Scenario error) = ScenarioFile
 input_of (MissingDomain s) = Domains
 input_of (Owners line why) = OwnersFile
+input_of (BadLine line) = ListFile
+input_of EmptyList = ListFile
 
 -- the words for the refusal of a record
 unfoldable pub row_text : RowWhy → List ℕ
@@ -75,6 +79,8 @@ refusal_text (Row input line why) = codes ": line " ++ decimal line ++ codes ": 
 refusal_text (Scenario error) = scenario_text error
 refusal_text (MissingDomain s) = codes ": no domain row for station " ++ decimal s ++ codes "\n"
 refusal_text (Owners line why) = codes ": line " ++ decimal line ++ codes ": " ++ owner_text why ++ codes "\n"
+refusal_text (BadLine line) = codes ": line " ++ decimal line ++ codes ": " ++ codes "bad list" ++ codes "\n"
+refusal_text EmptyList = codes ": empty list\n"
 
 -- the line of a refusal, of these input files
 abbrev pub line_of : InputNames → Refusal → List ℕ

@@ -7,6 +7,7 @@ use Rattle.clap.specs.Simple.{on_top}
 use Rattle.clap.specs.Walk.{is_empty}
 use Rattle.clap.specs.ValueTests.{is_unsigned_in}
 use Rattle.clap.specs.declared.builder.value_parser.ValueParser.TheVariants.{Unsigned}
+use Rattle.auction_cmd.specs.declared.batch_words.BatchArgs.{BatchArgs}
 use Rattle.auction_cmd.specs.declared.make_words.MakeArgs.{MakeArgs}
 use Rattle.auction_cmd.specs.declared.proof_words.ExportArgs.{ExportArgs}
 use Rattle.auction_cmd.specs.declared.proof_words.ImportArgs.{ImportArgs}
@@ -15,7 +16,7 @@ use Rattle.auction_cmd.specs.declared.words.InputArgs.{InputArgs}
 use Rattle.auction_cmd.specs.declared.words.RunArgs.{RunArgs}
 use Rattle.auction_cmd.specs.declared.words.VerifyArgs.{VerifyArgs}
 use Rattle.auction_cmd.specs.declared.words.Order.{Order}
-use Rattle.auction_cmd.specs.declared.words.Order.TheVariants.{Run, Check, Verify, Seek, Make, Export, Import}
+use Rattle.auction_cmd.specs.declared.words.Order.TheVariants.{Run, Check, Verify, Seek, Batch, Make, Export, Import}
 use Rattle.auction_cmd.specs.declared.words.WordsFault.{WordsFault}
 use Rattle.auction_cmd.specs.declared.words.WordsFault.TheVariants.{NoMemory, Refused}
 
@@ -45,6 +46,12 @@ pub record SeekNames : Type 0 where
   pub scenario : List ℕ
   pub channels : List ℕ
 
+-- the names of the files of `batch`: the constraint files, and the list of its scenarios and their results
+pub record BatchNames : Type 0 where
+  pub domains : List ℕ
+  pub rows : List ℕ
+  pub list : List ℕ
+
 -- the seed and the size of `make`, and the names of the files that it stores
 pub record MakeNames : Type 0 where
   pub seed : ℕ
@@ -72,6 +79,7 @@ pub data Command : Type 0 where
   check : InputNames → Command
   verify : VerifyNames → Command
   seek : SeekNames → Command
+  batch : BatchNames → Command
   make : MakeNames → Command
   export : ExportNames → Command
   import : ImportNames → Command
@@ -121,6 +129,9 @@ verify_live_app = with_required (new_app (codes "verify-live")) (live_ids ++ cod
 abbrev pub seek_app : App
 seek_app = with_required (new_app (codes "seek")) (input_ids ++ codes "CHANNELS" ∷ [])
 
+abbrev pub batch_app : App
+batch_app = with_required (new_app (codes "batch")) (codes "DOMAINS" ∷ codes "ROWS" ∷ codes "LIST" ∷ [])
+
 -- the greatest seed, the most stations of a made auction, and the last step that can be asked about
 abbrev pub seed_limit : ℕ
 seed_limit = 18446744073709551615
@@ -168,8 +179,12 @@ live_reading_app = with_subcommand (with_subcommand reading_app live_app.top) ve
 abbrev pub seeking_app : App
 seeking_app = with_subcommand live_reading_app seek_app.top
 
+-- and with the one that runs many auctions
+abbrev pub batching_app : App
+batching_app = with_subcommand seeking_app batch_app.top
+
 abbrev pub program_app : App
-program_app = with_subcommand (with_subcommand (with_subcommand seeking_app make_app.top) export_app.top) import_app.top
+program_app = with_subcommand (with_subcommand (with_subcommand batching_app make_app.top) export_app.top) import_app.top
 
 -- ---- what was read
 
@@ -215,6 +230,14 @@ seek_names rows =
     with_value rows (codes "CHANNELS") (λ channels.
     Some (record { domains = inputs.domains; rows = inputs.rows; scenario = inputs.scenario; channels = channels })))
     (input_names rows)
+
+-- the names of the files of `batch`, where each is there
+abbrev pub batch_names : List Row → Option BatchNames
+batch_names rows =
+    with_value rows (codes "DOMAINS") (λ domains.
+    with_value rows (codes "ROWS") (λ pairs.
+    with_value rows (codes "LIST") (λ list.
+    Some (record { domains = domains; rows = pairs; list = list }))))
 
 -- The number that the text is, where it is one from the least to the most: decimal digits, behind a plus or behind none.
 abbrev pub number_within : ℕ → ℕ → Text → Option ℕ
@@ -265,9 +288,10 @@ named_command found =
     else (if bytes_eq found.0 (codes "live") then option_map run (option_and_then (run_names found.1) (live_names found.1))
     else (if bytes_eq found.0 (codes "verify-live") then option_map verify (option_and_then (shown_by_names found.1) (live_names found.1))
     else (if bytes_eq found.0 (codes "seek") then option_map seek (seek_names found.1)
+    else (if bytes_eq found.0 (codes "batch") then option_map batch (batch_names found.1)
     else (if bytes_eq found.0 (codes "make") then option_map make (make_names found.1)
     else (if bytes_eq found.0 (codes "export") then option_map export (export_names found.1)
-    else (if bytes_eq found.0 (codes "import") then option_map import (import_names found.1) else None))))))))
+    else (if bytes_eq found.0 (codes "import") then option_map import (import_names found.1) else None)))))))))
 
 -- The command that the words are, the first of which is the program's name; none where `clap` has a fault for them, or an
 -- argument has no value.
@@ -387,11 +411,15 @@ seek_seen args = record {
   channels = args.channels.now;
 }
 
+abbrev pub batch_seen : BatchArgs → BatchNames
+batch_seen args = record { domains = args.domains.now; rows = args.rows.now; list = args.list.now }
+
 abbrev pub order_seen : Order → Command
 order_seen (Run args) = run (names_seen args)
 order_seen (Check args) = check (inputs_seen args)
 order_seen (Verify args) = verify (verify_seen args)
 order_seen (Seek args) = seek (seek_seen args)
+order_seen (Batch args) = batch (batch_seen args)
 order_seen (Make args) = make (make_seen args)
 order_seen (Export args) = export (export_seen args)
 order_seen (Import args) = import (import_seen args)

@@ -1,14 +1,14 @@
 //! The program: from the words of the command line to what stands in the files and in the sink.
 
-ghost use Rattle.std.specs.Prelude.{◌≡◌, None, map};
+ghost use Rattle.std.specs.Prelude.{◌≡◌, [], None, map};
 ghost use Rattle.std.specs.String.{string_bytes};
-ghost use Rattle.auction_cmd.specs.Ends.{Ends};
 ghost use Rattle.auction_cmd.specs.Faults.{IsCounted};
 ghost use Rattle.auction_cmd.specs.Outside.{outside};
 ghost use Rattle.auction_cmd.specs.Plan.{plan_of};
-ghost use Rattle.auction_cmd.specs.Promises.{Promises};
+ghost use Rattle.auction_cmd.specs.Program.{ProgramEnds, ProgramPromises};
 ghost use Rattle.auction_cmd.specs.Says.{Says, twice_line};
 
+use crate::batch::batch;
 use crate::check::check;
 use crate::explain::starve;
 use crate::export::export;
@@ -32,6 +32,7 @@ fn refuse_twice<K: Sink>(out: &mut K, name: &str) -> Finish
     ensures status { result.status ≡ 5 }
     ensures none { result.result ≡ None }
     ensures no_other { result.below ≡ None }
+    ensures no_batch { result.batch ≡ [] }
     ensures says { Says (K.held out.old) (K.held out.new) (K.faults out.old) (K.faults out.new) (twice_line name.now) }
 {
     say(out, &[name, ": given twice\n"]);
@@ -47,10 +48,10 @@ fn carry_out<F: Folder, K: Sink, G: Gate + Sync, W: Threads + Wait + Sync>(
     out: &mut K,
     gate: &G,
 ) -> Finish
-    ensures ends { Ends (plan_of (map string_bytes words.now))
+    ensures ends { ProgramEnds (plan_of (map string_bytes words.now))
         (outside (F.files folder.old) (F.faults folder.old) (F.steady folder.old) (K.held out.old) (K.faults out.old) (K.sure out.old))
         (outside (F.files folder.new) (F.faults folder.new) (F.steady folder.new) (K.held out.new) (K.faults out.new) (K.sure out.new))
-        result.status result.result result.below }
+        result.status result.result result.below result.batch }
     ensures counted { IsCounted
         (outside (F.files folder.old) (F.faults folder.old) (F.steady folder.old) (K.held out.old) (K.faults out.old) (K.sure out.old))
         (outside (F.files folder.new) (F.faults folder.new) (F.steady folder.new) (K.held out.new) (K.faults out.new) (K.sure out.new))
@@ -67,6 +68,7 @@ fn carry_out<F: Folder, K: Sink, G: Gate + Sync, W: Threads + Wait + Sync>(
             Some(name) => refuse_twice(out, name),
             None => seek(rt, alloc, &files, folder, out, gate),
         },
+        Ok(Order::Batch(files)) => batch(rt, alloc, &files, folder, out, gate),
         Ok(Order::Make(files)) => match files.given_twice() {
             Some(name) => refuse_twice(out, name),
             None => make(rt, alloc, &files, folder, out, gate),
@@ -101,6 +103,9 @@ fn carry_out<F: Folder, K: Sink, G: Gate + Sync, W: Threads + Wait + Sync>(
 /// - `verify-live DOMAINS ROWS SCENARIO OWNERS TRANSCRIPT` does what `verify` does with the transcript of such a live auction.
 /// - `seek DOMAINS ROWS SCENARIO CHANNELS` seeks the least top channel, from 14 to the scenario's own, up to which the stations
 ///   fit that start on air, by auctions of these stations alone, stores a channel up to it for each of them and writes it.
+/// - `batch DOMAINS ROWS LIST` reads the constraint files and a list of at most 256 lines, each a scenario and a file for its
+///   result, and the scenarios; carries all their auctions out at the same time, as `run` does each, by solvers that share what
+///   they answered; stores the results and writes a line for each scenario, with the status that `run` would end with.
 /// - `make SEED SIZE DOMAINS ROWS SCENARIO` makes the three files of an auction of SIZE stations from the number SEED, stores
 ///   them in this order, carries the auction out as `run` does and writes the summary. The same SEED and SIZE make the same
 ///   files.
@@ -114,7 +119,7 @@ fn carry_out<F: Folder, K: Sink, G: Gate + Sync, W: Threads + Wait + Sync>(
 /// of one channel less; 2 where the words are no command, help and version included; 3 where a file can't be read; 4 where a
 /// file can't be stored, or the summary, the counts, the result or the top channel can't be written; 5 where an output name
 /// is given twice, or a file is too long or an input refused; 6 where the start set doesn't fit; 7 where no worker decides
-/// whether it does; 8 for want of memory; 9 where the transcript's text is refused or a step of it isn't shown; 10 where it
+/// whether it does; 8 for want of memory; 11 for a batch where an auction ended at its start, as at 6 or 7; 9 where the transcript's text is refused or a step of it isn't shown; 10 where it
 /// has no step STEP or, for `import`, that isn't undecided, or the log's text is refused or it refutes nothing. At each but
 /// 0 and 1 a line says so; where the sink fails at the summary, the counts, the result or the top channel there is none.
 pub fn auction_main<F: Folder, K: Sink, G: Gate + Sync, W: Threads + Wait + Sync>(
@@ -126,16 +131,16 @@ pub fn auction_main<F: Folder, K: Sink, G: Gate + Sync, W: Threads + Wait + Sync
     gate: &G,
 ) -> Finish
     // How it ends, case by case.
-    ensures ends { Ends (plan_of (map string_bytes words.now))
+    ensures ends { ProgramEnds (plan_of (map string_bytes words.now))
         (outside (F.files folder.old) (F.faults folder.old) (F.steady folder.old) (K.held out.old) (K.faults out.old) (K.sure out.old))
         (outside (F.files folder.new) (F.faults folder.new) (F.steady folder.new) (K.held out.new) (K.faults out.new) (K.sure out.new))
-        result.status result.result result.below }
+        result.status result.result result.below result.batch }
 
     // What may be relied on, a clause each.
-    ensures promises { Promises (plan_of (map string_bytes words.now))
+    ensures promises { ProgramPromises (plan_of (map string_bytes words.now))
         (outside (F.files folder.old) (F.faults folder.old) (F.steady folder.old) (K.held out.old) (K.faults out.old) (K.sure out.old))
         (outside (F.files folder.new) (F.faults folder.new) (F.steady folder.new) (K.held out.new) (K.faults out.new) (K.sure out.new))
-        result.status result.result result.below }
+        result.status result.result result.below result.batch }
 
     // At which statuses the outside's counts of faults stand.
     ensures counted { IsCounted

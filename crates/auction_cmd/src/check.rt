@@ -1,6 +1,6 @@
 //! The command `check`: the inputs are read and counted.
 
-ghost use Rattle.std.specs.Prelude.{◌≡◌, IfOk, None};
+ghost use Rattle.std.specs.Prelude.{◌≡◌, [], IfOk, None};
 ghost use Rattle.auction_cmd.specs.Counts.{counts_text};
 ghost use Rattle.auction_cmd.specs.Ends.{CheckEnds};
 ghost use Rattle.auction_cmd.specs.Faults.{IsCounted};
@@ -42,6 +42,7 @@ pub fn check<F: Folder, K: Sink>(
         (outside (F.files folder.new) (F.faults folder.new) (F.steady folder.new) (K.held out.new) (K.faults out.new) (K.sure out.new))
         result.status result.result }
     ensures no_other { result.below ≡ None }
+    ensures no_batch { result.batch ≡ [] }
     ensures counted { IsCounted
         (outside (F.files folder.old) (F.faults folder.old) (F.steady folder.old) (K.held out.old) (K.faults out.old) (K.sure out.old))
         (outside (F.files folder.new) (F.faults folder.new) (F.steady folder.new) (K.held out.new) (K.faults out.new) (K.sure out.new))

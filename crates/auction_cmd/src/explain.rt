@@ -1,6 +1,6 @@
 //! The lines of a reading that stopped, and of want of memory.
 
-ghost use Rattle.std.specs.Prelude.{◌≡◌, ◌≤◌, None};
+ghost use Rattle.std.specs.Prelude.{◌≡◌, ◌≤◌, [], None};
 ghost use Rattle.auction_cmd.specs.Ends.{Explains};
 ghost use Rattle.auction_cmd.specs.Says.{Says, memory_line};
 ghost use Rattle.auction_cmd.specs.Words.{inputs_seen};
@@ -46,6 +46,7 @@ pub fn starve<K: Sink>(out: &mut K) -> Finish
     ensures status { result.status ≡ 8 }
     ensures none { result.result ≡ None }
     ensures no_other { result.below ≡ None }
+    ensures no_batch { result.batch ≡ [] }
     ensures line { Says (K.held out.old) (K.held out.new) (K.faults out.old) (K.faults out.new) memory_line }
 {
     say_memory(out);

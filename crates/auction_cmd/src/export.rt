@@ -1,6 +1,6 @@
 //! The command `export`: the packing formula of a step's test is stored, for a prover of the reader's own.
 
-ghost use Rattle.std.specs.Prelude.{◌≡◌, IfOk, None};
+ghost use Rattle.std.specs.Prelude.{◌≡◌, [], IfOk, None};
 ghost use Rattle.auction_core.specs.Setup.{IsOfAuction};
 ghost use Rattle.auction_cmd.specs.Ends.{ExportEnds};
 ghost use Rattle.auction_cmd.specs.Faults.{IsCounted};
@@ -48,6 +48,7 @@ pub fn export<F: Folder, K: Sink>(
         (outside (F.files folder.new) (F.faults folder.new) (F.steady folder.new) (K.held out.new) (K.faults out.new) (K.sure out.new))
         result.status result.result }
     ensures no_other { result.below ≡ None }
+    ensures no_batch { result.batch ≡ [] }
     ensures counted { IsCounted
         (outside (F.files folder.old) (F.faults folder.old) (F.steady folder.old) (K.held out.old) (K.faults out.old) (K.sure out.old))
         (outside (F.files folder.new) (F.faults folder.new) (F.steady folder.new) (K.held out.new) (K.faults out.new) (K.sure out.new))

@@ -1,8 +1,53 @@
-//! How the program ended: its status, and the record where it comes back.
+//! How the program ended: its status, and the record where it comes back, or the records of a batch.
 
-ghost use Rattle.std.specs.Prelude.{◌≡◌, None, Some};
+ghost use Rattle.std.specs.Prelude.{◌≡◌, [], None, Some};
 
 use auction_core::record::Record;
+use std::marker::Model;
+
+/// The records of a batch, in the order of its list; none, where there was none.
+#[derive(Debug, Drop)]
+pub struct Records {
+    kept: Option<Vec<Record>>,
+}
+
+impl Model for Records {
+    ghost use Rattle.std.specs.Prelude.{List, []};
+    ghost use Rattle.std.specs.Option.{option_map_or};
+    ghost use Rattle.auction_core.specs.declared.record.Record.{Record};
+
+    ghost Value = { List Record };
+
+    ghost view = { λ r. option_map_or (λ v. v.items) r.kept [] };
+}
+
+impl Records {
+    /// No records. It takes no memory.
+    pub fn none() -> Records
+        ensures { result ≡ [] }
+    {
+        Records { kept: None }
+    }
+
+    /// These records.
+    pub fn of(records: Vec<Record>) -> Records
+        ensures { result ≡ records.items }
+    {
+        Records {
+            kept: Some(records),
+        }
+    }
+
+    /// The records, in order.
+    pub fn as_slice(&self) -> &[Record]
+        ensures { result.now ≡ self.now }
+    {
+        match &self.kept {
+            Some(records) => records,
+            None => &[],
+        }
+    }
+}
 
 /// How the program ended.
 #[derive(Debug, Drop)]
@@ -17,6 +62,9 @@ pub struct Finish {
     /// The record of the start set alone up to one channel less, of `seek` where `result` is that up to the top channel that was
     /// found and that channel is above 14.
     pub below: Option<Record>,
+    /// The records of the auctions of `batch`, one for each line of its list, in order: at the statuses 0, 1, 4 and 11, and at 8
+    /// where memory ran out at a store.
+    pub batch: Records,
 }
 
 impl Finish {
@@ -25,11 +73,13 @@ impl Finish {
         ensures status { result.status ≡ status }
         ensures none { result.result ≡ None }
         ensures no_other { result.below ≡ None }
+        ensures no_batch { result.batch ≡ [] }
     {
         Finish {
             status,
             result: None,
             below: None,
+            batch: Records::none(),
         }
     }
 
@@ -38,11 +88,13 @@ impl Finish {
         ensures status { result.status ≡ status }
         ensures kept { result.result ≡ Some kept }
         ensures no_other { result.below ≡ None }
+        ensures no_batch { result.batch ≡ [] }
     {
         Finish {
             status,
             result: Some(kept),
             below: None,
+            batch: Records::none(),
         }
     }
 
@@ -51,11 +103,28 @@ impl Finish {
         ensures status { result.status ≡ status }
         ensures kept { result.result ≡ Some kept }
         ensures other { result.below ≡ below }
+        ensures no_batch { result.batch ≡ [] }
     {
         Finish {
             status,
             result: Some(kept),
             below,
+            batch: Records::none(),
+        }
+    }
+
+    /// The end of a batch with these records.
+    pub fn with_batch(status: u8, records: Vec<Record>) -> Finish
+        ensures status { result.status ≡ status }
+        ensures none { result.result ≡ None }
+        ensures no_other { result.below ≡ None }
+        ensures kept { result.batch ≡ records.items }
+    {
+        Finish {
+            status,
+            result: None,
+            below: None,
+            batch: Records::of(records),
         }
     }
 }

@@ -69,7 +69,12 @@ pub(crate) fn stop_of(why: LoadErr, input: Input) -> Stop
 }
 
 // The bytes of an input file.
-fn load<F: Folder>(alloc: Global, folder: &mut F, name: &str, input: Input) -> Result<Vec<u8>, Stop>
+pub(crate) fn load<F: Folder>(
+    alloc: Global,
+    folder: &mut F,
+    name: &str,
+    input: Input,
+) -> Result<Vec<u8>, Stop>
     ensures told { (files : List StoredFile) → F.files folder.old ≡ Some files →
         Agrees (λ v. v.items) (F.steady folder.old) (file_of files name.now input) result }
     ensures files { F.files folder.new ≡ F.files folder.old }

@@ -2,6 +2,10 @@
 #![tactic(auto)]
 
 pub mod auction;
+mod batch;
+pub mod batch_inputs;
+pub mod batch_run;
+pub mod batch_words;
 mod check;
 mod constraints;
 mod explain;

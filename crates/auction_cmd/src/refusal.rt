@@ -20,6 +20,8 @@ pub enum Input {
     Rows,
     Scenario,
     Owners,
+    /// The list of a batch.
+    List,
 }
 
 /// Why the inputs are refused.
@@ -42,6 +44,12 @@ pub enum Refusal {
         line: u64,
         why: OwnerWhy,
     },
+    /// A record of a batch's list is refused. It stands in this line, where the first line is 1.
+    BadLine {
+        line: u64,
+    },
+    /// A batch's list has no record.
+    EmptyList,
 }
 
 impl Refusal {
@@ -55,6 +63,7 @@ impl Refusal {
             Refusal::Scenario(_) => Input::Scenario,
             Refusal::MissingDomain(_) => Input::Domains,
             Refusal::Owners { .. } => Input::Owners,
+            Refusal::BadLine { .. } | Refusal::EmptyList => Input::List,
         }
     }
 }
@@ -168,6 +177,8 @@ fn say_refusal<K: Sink>(out: &mut K, file: &str, refusal: Refusal)
         Refusal::TooLong(_) => say(out, &[file, ": too long\n"]),
         Refusal::Row { line, why, .. } => say_row(out, file, line, row_text(why)),
         Refusal::Owners { line, why } => say_row(out, file, line, owner_text(why)),
+        Refusal::BadLine { line } => say_row(out, file, line, "bad list"),
+        Refusal::EmptyList => say(out, &[file, ": empty list\n"]),
         Refusal::Scenario(error) => say_scenario(out, file, error),
         Refusal::MissingDomain(id) => {
             let mut number = Buffer::new();

@@ -1,6 +1,6 @@
 //! The command `run`: the auction from files to result.
 
-ghost use Rattle.std.specs.Prelude.{◌≡◌, IfErr, IfOk, OnOk, None};
+ghost use Rattle.std.specs.Prelude.{◌≡◌, [], IfErr, IfOk, OnOk, None};
 ghost use Rattle.std.specs.List.{list_any};
 ghost use Rattle.pack_defs.specs.Scenario.{IsWithinLimits};
 ghost use Rattle.auction_core.specs.Backed.{is_undecided, undecided_of};
@@ -185,6 +185,7 @@ pub fn run<F: Folder, K: Sink, G: Gate + Sync, W: Threads + Wait + Sync>(
         (outside (F.files folder.new) (F.faults folder.new) (F.steady folder.new) (K.held out.new) (K.faults out.new) (K.sure out.new))
         result.status result.result }
     ensures no_other { result.below ≡ None }
+    ensures no_batch { result.batch ≡ [] }
     ensures counted { IsCounted
         (outside (F.files folder.old) (F.faults folder.old) (F.steady folder.old) (K.held out.old) (K.faults out.old) (K.sure out.old))
         (outside (F.files folder.new) (F.faults folder.new) (F.steady folder.new) (K.held out.new) (K.faults out.new) (K.sure out.new))

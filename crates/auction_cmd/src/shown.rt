@@ -1,7 +1,7 @@
 //! What a transcript shows: the inputs and the transcript are read, each of its steps is checked, and its record comes of it. So
 //! `verify`, `export` and `import` begin.
 
-ghost use Rattle.std.specs.Prelude.{◌≡◌, ◌≢◌, ◌≤◌, ℕ, IfErr, IfOk, List, None, Ok, Err, OnOk};
+ghost use Rattle.std.specs.Prelude.{◌≡◌, ◌≢◌, ◌≤◌, [], ℕ, IfErr, IfOk, List, None, Ok, Err, OnOk};
 ghost use Rattle.pack_defs.specs.Scenario.{IsWithinLimits};
 ghost use Rattle.auction_core.specs.Setup.{IsOfAuction};
 ghost use Rattle.transcript_text.specs.Pieces.{HasRead};
@@ -165,6 +165,7 @@ pub fn shown_by<F: Folder, K: Sink>(
         finish.status finish.result) }
     ensures none { IfErr result (λ finish. finish.result ≡ None) }
     ensures no_other { IfErr result (λ finish. finish.below ≡ None) }
+    ensures no_batch { IfErr result (λ finish. finish.batch ≡ []) }
     ensures counted { IfErr result (λ finish. IsCounted
         (outside (F.files folder.old) (F.faults folder.old) (F.steady folder.old) (K.held out.old) (K.faults out.old) (K.sure out.old))
         (outside (F.files folder.new) (F.faults folder.new) (F.steady folder.new) (K.held out.new) (K.faults out.new) (K.sure out.new))

@@ -5,8 +5,9 @@ ghost use Rattle.std.specs.Str.{bytes_eq};
 ghost use Rattle.clap.specs.Words.{app_of, first_of, found_of, kind_of, new_app, rows_of, rule_of, subcommand_rows_of};
 ghost use Rattle.clap.specs.declared.builder.command.Command.TheViews.{out-Command};
 ghost use Rattle.auction_cmd.specs.Refusals.{name_of};
-ghost use Rattle.auction_cmd.specs.Words.{IsRefused, bare_app, check_app, command_of, input_ids, input_names, inputs_seen, is_repeated_in, live_app, live_ids, live_names, live_reading_app, named_command, names_seen, order_seen, program_app, reading_app, repeated_output, required_rule, run_app, run_names, seeking_app, shown_by_names, shown_ids, verify_app, verify_live_app, verify_names, verify_seen, with_required};
+ghost use Rattle.auction_cmd.specs.Words.{IsRefused, bare_app, batching_app, check_app, command_of, input_ids, input_names, inputs_seen, is_repeated_in, live_app, live_ids, live_names, live_reading_app, named_command, names_seen, order_seen, program_app, reading_app, repeated_output, required_rule, run_app, run_names, seeking_app, shown_by_names, shown_ids, verify_app, verify_live_app, verify_names, verify_seen, with_required};
 
+use crate::batch_words::{BatchArgs, batch_args, batch_command};
 use crate::make_words::{MakeArgs, make_args, make_command};
 use crate::proof_words::{
     ExportArgs, ImportArgs, export_args, export_command, import_args, import_command,
@@ -63,6 +64,8 @@ pub enum Order<'a> {
     Verify(VerifyArgs<'a>),
     /// Seek the least top channel.
     Seek(SeekArgs<'a>),
+    /// Run the auctions of many scenarios.
+    Batch(BatchArgs<'a>),
     /// Make an auction and run it.
     Make(MakeArgs<'a>),
     /// Store the formula of a step's test.
@@ -80,7 +83,8 @@ pub enum WordsFault {
 }
 
 impl<'a> InputArgs<'a> {
-    /// The name of an input file. Where no owners' file is named it is the scenario's, which has what stands for it.
+    /// The name of an input file. Where no owners' file is named it is the scenario's, which has what stands for it; and a batch's
+    /// list stands in the place of a scenario.
     pub fn of(&self, input: Input) -> &'a str
         ensures { result.now ≡ name_of (inputs_seen self.now) input }
     {
@@ -89,6 +93,7 @@ impl<'a> InputArgs<'a> {
             Input::Rows => self.rows,
             Input::Scenario => self.scenario,
             Input::Owners => self.owners.unwrap_or(self.scenario),
+            Input::List => self.scenario,
         }
     }
 }
@@ -332,10 +337,18 @@ fn seeking_program<'a>(alloc: Global) -> Result<Command<'a>, AllocError>
     live_reading_program(alloc)?.subcommand(seek_command(alloc)?)
 }
 
+// The same with the one that runs many auctions.
+fn batching_program<'a>(alloc: Global) -> Result<Command<'a>, AllocError>
+    ensures app { IfOk result (λ c. app_of c ≡ batching_app) }
+    ensures local { IfOk result (λ c. (out-Command c).has_globals ≡ false) }
+{
+    seeking_program(alloc)?.subcommand(batch_command(alloc)?)
+}
+
 fn program<'a>(alloc: Global) -> Result<Command<'a>, AllocError>
     ensures { IfOk result (λ c. app_of c ≡ program_app) }
 {
-    seeking_program(alloc)?
+    batching_program(alloc)?
         .subcommand(make_command(alloc)?)?
         .subcommand(export_command(alloc)?)?
         .subcommand(import_command(alloc)?)
@@ -417,6 +430,8 @@ fn order_of<'a>(matches: &ArgMatches<'a>) -> Option<Order<'a>>
         Some(Order::Verify(shown_args(inner, live_args(inner)?)?))
     } else if name == "seek" {
         Some(Order::Seek(seek_args(inner)?))
+    } else if name == "batch" {
+        Some(Order::Batch(batch_args(inner)?))
     } else if name == "make" {
         Some(Order::Make(make_args(inner)?))
     } else if name == "export" {
@@ -449,7 +464,7 @@ fn fault_from(alloc: Global, error: &Error) -> WordsFault
 /// The command that the words are, of which the first is the program's name: `run DOMAINS ROWS SCENARIO RESULT CHANNELS
 /// TRANSCRIPT`, `check DOMAINS ROWS SCENARIO`, `verify DOMAINS ROWS SCENARIO TRANSCRIPT`, `live DOMAINS ROWS SCENARIO OWNERS
 /// RESULT CHANNELS TRANSCRIPT`, `verify-live DOMAINS ROWS SCENARIO OWNERS TRANSCRIPT`, `seek DOMAINS ROWS SCENARIO
-/// CHANNELS`, `make SEED SIZE DOMAINS ROWS SCENARIO`, `export DOMAINS ROWS SCENARIO TRANSCRIPT STEP CNF` or `import DOMAINS
+/// CHANNELS`, `batch DOMAINS ROWS LIST`, `make SEED SIZE DOMAINS ROWS SCENARIO`, `export DOMAINS ROWS SCENARIO TRANSCRIPT STEP CNF` or `import DOMAINS
 /// ROWS SCENARIO TRANSCRIPT STEP LRAT RESULT NEWTRANSCRIPT`. A name that begins with `-` stands after `--`, but for a lone
 /// `-`. SEED is a number up to 2^64 - 1, SIZE one from 1 to 4,096, STEP one from 1 to 4,294,967,295; a plus may stand before
 /// each, and zeros. Help and the version are no command: their texts come with `Refused`.

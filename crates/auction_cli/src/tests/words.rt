@@ -65,6 +65,10 @@ fn order_text(alloc: Global, order: Order<'_>) -> Result<String, NoMemory> {
             let names = [files.domains, files.rows, files.scenario, files.channels];
             joined(alloc, "order seek", &names)
         }
+        Order::Batch(files) => {
+            let names = [files.domains, files.rows, files.list];
+            joined(alloc, "order batch", &names)
+        }
         Order::Make(files) => {
             let (seed, size, outputs) = (files.seed, files.size, files.outputs);
             let command = format!(in alloc; "order make,{seed},{size}")?;
@@ -304,6 +308,8 @@ fn help_is_told(rt: HostRuntime) -> Result<(), Fail> {
         "\nUsage: repack verify-live <DOMAINS> <ROWS> <SCENARIO> <OWNERS> <TRANSCRIPT>\n";
     let seek = "Seeks the least top channel ";
     let four = "\nUsage: repack seek <DOMAINS> <ROWS> <SCENARIO> <CHANNELS>\n";
+    let batch = "Runs the auctions of many scenarios and ";
+    let listed = "\nUsage: repack batch <DOMAINS> <ROWS> <LIST>\n";
     let export = "Writes the packing formula ";
     let six_read = "\nUsage: repack export <DOMAINS> <ROWS> <SCENARIO> <TRANSCRIPT> <STEP> <CNF>\n";
     let import = "Settles an undecided step ";
@@ -322,6 +328,7 @@ fn help_is_told(rt: HostRuntime) -> Result<(), Fail> {
         ("repack,live,--help", live, seven),
         ("repack,help,verify-live", verify_live, five_read),
         ("repack,seek,--help", seek, four),
+        ("repack,help,batch", batch, listed),
         ("repack,export,--help", export, six_read),
         ("repack,help,import", import, eight),
     ];
@@ -373,6 +380,7 @@ fn each_name_stands_in_its_place(rt: HostRuntime) -> Result<(), Fail> {
         ("repack,verify,d,r,s,t", "order verify,d,r,s,t"),
         ("repack,seek,d,r,s,c", "order seek,d,r,s,c"),
         ("repack,seek,,-,--,-s,seek", "order seek,,-,-s,seek"),
+        ("repack,batch,d,-,batch", "order batch,d,-,batch"),
         (
             "repack,check,--,-d,--,--version",
             "order check,-d,--,--version",

@@ -1,43 +1,58 @@
 -- The plan that the words are, and how it ends.
 use Rattle.std.proofs.Common.{map, refl, string_bytes, sym}
 use Rattle.auction_cmd.specs.Ends.Ends.{Usage, Repeated, Ran, Checked, Verified, Sought, Made, Exported, Imported}
-use Rattle.auction_cmd.specs.Words.{export_seen, import_seen, inputs_seen, make_seen, names_seen, seek_seen, verify_seen}
+use Rattle.auction_cmd.specs.Program.ProgramEnds.{Single, Batched}
+use Rattle.auction_cmd.specs.Words.{batch_seen, export_seen, import_seen, inputs_seen, make_seen, names_seen, seek_seen, verify_seen}
 use Rattle.auction_cmd.proofs.NumberLemmas.{command-sized, import-valued}
-use Rattle.auction_cmd.proofs.PlanLemmas.{plan-none, plan-checks, plan-exported_twice, plan-exports, plan-imported_twice, plan-imports, plan-made_twice, plan-makes, plan-repeats, plan-runs, plan-seeks, plan-sought_twice, plan-verifies}
+use Rattle.auction_cmd.proofs.PlanLemmas.{plan-none, plan-batches, plan-checks, plan-exported_twice, plan-exports, plan-imported_twice, plan-imports, plan-made_twice, plan-makes, plan-repeats, plan-runs, plan-seeks, plan-sought_twice, plan-verifies}
 use Rattle.auction_cmd.proofs.auction.carry_out.Goals as goal
 
 pub returns-in-Some-clause-ends : goal.returns-in-Some-clause-ends
 returns-in-Some-clause-ends g c =
-    Repeated c.in-Some.name.now (plan-repeats _ (names_seen c.in-Ok-Run.files) c.in-Some.name.now (rw c.in-Ok-Run.field-0-is at c.in-Ok-Run.ensures.order) c.in-Some.ensures)
-    c.refuse_twice.ensures.status c.refuse_twice.ensures.none c.refuse_twice.ensures.says refl refl c.refuse_twice.ensures.no_other
+    Single
+    (Repeated c.in-Some.name.now (plan-repeats _ (names_seen c.in-Ok-Run.files) c.in-Some.name.now (rw c.in-Ok-Run.field-0-is at c.in-Ok-Run.ensures.order) c.in-Some.ensures)
+    c.refuse_twice.ensures.status c.refuse_twice.ensures.none c.refuse_twice.ensures.says refl refl c.refuse_twice.ensures.no_other)
+    c.refuse_twice.ensures.no_batch
 
 pub returns-in-None-clause-ends : goal.returns-in-None-clause-ends
 returns-in-None-clause-ends g c =
-    Ran (names_seen c.in-Ok-Run.files) (plan-runs _ (names_seen c.in-Ok-Run.files) (rw c.in-Ok-Run.field-0-is at c.in-Ok-Run.ensures.order) c.in-None.ensures) (sym c.in-None.ensures) c.run.ensures.ends c.run.ensures.no_other
+    Single
+    (Ran (names_seen c.in-Ok-Run.files) (plan-runs _ (names_seen c.in-Ok-Run.files) (rw c.in-Ok-Run.field-0-is at c.in-Ok-Run.ensures.order) c.in-None.ensures) (sym c.in-None.ensures) c.run.ensures.ends c.run.ensures.no_other)
+    c.run.ensures.no_batch
 
 pub returns-in-Ok-Check-clause-ends : goal.returns-in-Ok-Check-clause-ends
 returns-in-Ok-Check-clause-ends g c =
-    Checked (inputs_seen c.in-Ok-Check.files) (plan-checks _ (inputs_seen c.in-Ok-Check.files) (rw c.in-Ok-Check.field-0-is at c.in-Ok-Check.ensures.order)) c.check.ensures.ends c.check.ensures.no_other
+    Single
+    (Checked (inputs_seen c.in-Ok-Check.files) (plan-checks _ (inputs_seen c.in-Ok-Check.files) (rw c.in-Ok-Check.field-0-is at c.in-Ok-Check.ensures.order)) c.check.ensures.ends c.check.ensures.no_other)
+    c.check.ensures.no_batch
 
 pub returns-in-Ok-Verify-clause-ends : goal.returns-in-Ok-Verify-clause-ends
 returns-in-Ok-Verify-clause-ends g c =
-    Verified (verify_seen c.in-Ok-Verify.files) (plan-verifies _ (verify_seen c.in-Ok-Verify.files) (rw c.in-Ok-Verify.field-0-is at c.in-Ok-Verify.ensures.order)) c.verify.ensures.ends c.verify.ensures.no_other
+    Single
+    (Verified (verify_seen c.in-Ok-Verify.files) (plan-verifies _ (verify_seen c.in-Ok-Verify.files) (rw c.in-Ok-Verify.field-0-is at c.in-Ok-Verify.ensures.order)) c.verify.ensures.ends c.verify.ensures.no_other)
+    c.verify.ensures.no_batch
 
 pub returns-in-Err-Refused-clause-ends : goal.returns-in-Err-Refused-clause-ends
 returns-in-Err-Refused-clause-ends g c =
-    Usage _ (plan-none _ ((rw c.in-Err-Refused.field-0-is at c.in-Err-Refused.ensures.refused) tt)) c.without_record.ensures.status c.without_record.ensures.none c.say.ensures.says refl refl c.without_record.ensures.no_other
+    Single
+    (Usage _ (plan-none _ ((rw c.in-Err-Refused.field-0-is at c.in-Err-Refused.ensures.refused) tt)) c.without_record.ensures.status c.without_record.ensures.none c.say.ensures.says refl refl c.without_record.ensures.no_other)
+    c.without_record.ensures.no_batch
 
 pub returns-in-Some-given_twice-clause-ends : goal.returns-in-Some-given_twice-clause-ends
 returns-in-Some-given_twice-clause-ends g c =
-    Repeated c.in-Some-given_twice.name.now
+    Single
+    (Repeated c.in-Some-given_twice.name.now
     (plan-sought_twice _ (seek_seen c.in-Ok-Seek.files) c.in-Some-given_twice.name.now (rw c.in-Ok-Seek.field-0-is at c.in-Ok-Seek.ensures.order) c.in-Some-given_twice.ensures)
-    c.refuse_twice-in-Some-given_twice.ensures.status c.refuse_twice-in-Some-given_twice.ensures.none c.refuse_twice-in-Some-given_twice.ensures.says refl refl c.refuse_twice-in-Some-given_twice.ensures.no_other
+    c.refuse_twice-in-Some-given_twice.ensures.status c.refuse_twice-in-Some-given_twice.ensures.none c.refuse_twice-in-Some-given_twice.ensures.says refl refl c.refuse_twice-in-Some-given_twice.ensures.no_other)
+    c.refuse_twice-in-Some-given_twice.ensures.no_batch
 
 pub returns-in-None-given_twice-clause-ends : goal.returns-in-None-given_twice-clause-ends
 returns-in-None-given_twice-clause-ends g c =
-    Sought (seek_seen c.in-Ok-Seek.files)
+    Single
+    (Sought (seek_seen c.in-Ok-Seek.files)
     (plan-seeks _ (seek_seen c.in-Ok-Seek.files) (rw c.in-Ok-Seek.field-0-is at c.in-Ok-Seek.ensures.order) c.in-None-given_twice.ensures)
-    (sym c.in-None-given_twice.ensures) c.seek.ensures.ends
+    (sym c.in-None-given_twice.ensures) c.seek.ensures.ends)
+    c.seek.ensures.no_batch
 
 pub make-requires-clause-some : goal.make-requires-clause-some
 make-requires-clause-some g c κs within =
@@ -51,37 +66,54 @@ make-requires-clause-most g c κs within =
 
 pub returns-in-Some-given_twice-2-clause-ends : goal.returns-in-Some-given_twice-2-clause-ends
 returns-in-Some-given_twice-2-clause-ends g c =
-    Repeated c.in-Some-given_twice-2.name.now
+    Single
+    (Repeated c.in-Some-given_twice-2.name.now
     (plan-made_twice _ (make_seen c.in-Ok-Make.files) c.in-Some-given_twice-2.name.now (rw c.in-Ok-Make.field-0-is at c.in-Ok-Make.ensures.order) c.in-Some-given_twice-2.ensures)
-    c.refuse_twice-in-Some-given_twice-2.ensures.status c.refuse_twice-in-Some-given_twice-2.ensures.none c.refuse_twice-in-Some-given_twice-2.ensures.says refl refl c.refuse_twice-in-Some-given_twice-2.ensures.no_other
+    c.refuse_twice-in-Some-given_twice-2.ensures.status c.refuse_twice-in-Some-given_twice-2.ensures.none c.refuse_twice-in-Some-given_twice-2.ensures.says refl refl c.refuse_twice-in-Some-given_twice-2.ensures.no_other)
+    c.refuse_twice-in-Some-given_twice-2.ensures.no_batch
 
 pub returns-in-None-given_twice-2-clause-ends : goal.returns-in-None-given_twice-2-clause-ends
 returns-in-None-given_twice-2-clause-ends g c =
-    Made (make_seen c.in-Ok-Make.files)
+    Single
+    (Made (make_seen c.in-Ok-Make.files)
     (plan-makes _ (make_seen c.in-Ok-Make.files) (rw c.in-Ok-Make.field-0-is at c.in-Ok-Make.ensures.order) c.in-None-given_twice-2.ensures)
-    (sym c.in-None-given_twice-2.ensures) c.make.ensures.ends c.make.ensures.no_other
+    (sym c.in-None-given_twice-2.ensures) c.make.ensures.ends c.make.ensures.no_other)
+    c.make.ensures.no_batch
 
 pub returns-in-Some-given_twice-3-clause-ends : goal.returns-in-Some-given_twice-3-clause-ends
 returns-in-Some-given_twice-3-clause-ends g c =
-    Repeated c.in-Some-given_twice-3.name.now
+    Single
+    (Repeated c.in-Some-given_twice-3.name.now
     (plan-exported_twice _ (export_seen c.in-Ok-Export.files) c.in-Some-given_twice-3.name.now (rw c.in-Ok-Export.field-0-is at c.in-Ok-Export.ensures.order) c.in-Some-given_twice-3.ensures)
-    c.refuse_twice-in-Some-given_twice-3.ensures.status c.refuse_twice-in-Some-given_twice-3.ensures.none c.refuse_twice-in-Some-given_twice-3.ensures.says refl refl c.refuse_twice-in-Some-given_twice-3.ensures.no_other
+    c.refuse_twice-in-Some-given_twice-3.ensures.status c.refuse_twice-in-Some-given_twice-3.ensures.none c.refuse_twice-in-Some-given_twice-3.ensures.says refl refl c.refuse_twice-in-Some-given_twice-3.ensures.no_other)
+    c.refuse_twice-in-Some-given_twice-3.ensures.no_batch
 
 pub returns-in-None-given_twice-3-clause-ends : goal.returns-in-None-given_twice-3-clause-ends
 returns-in-None-given_twice-3-clause-ends g c =
-    Exported (export_seen c.in-Ok-Export.files)
+    Single
+    (Exported (export_seen c.in-Ok-Export.files)
     (plan-exports _ (export_seen c.in-Ok-Export.files) (rw c.in-Ok-Export.field-0-is at c.in-Ok-Export.ensures.order) c.in-None-given_twice-3.ensures)
-    (sym c.in-None-given_twice-3.ensures) c.export.ensures.ends c.export.ensures.no_other
+    (sym c.in-None-given_twice-3.ensures) c.export.ensures.ends c.export.ensures.no_other)
+    c.export.ensures.no_batch
 
 pub returns-in-Some-given_twice-4-clause-ends : goal.returns-in-Some-given_twice-4-clause-ends
 returns-in-Some-given_twice-4-clause-ends g c =
-    Repeated c.in-Some-given_twice-4.name.now
+    Single
+    (Repeated c.in-Some-given_twice-4.name.now
     (plan-imported_twice _ (import_seen c.in-Ok-Import.files) c.in-Some-given_twice-4.name.now (rw c.in-Ok-Import.field-0-is at c.in-Ok-Import.ensures.order) c.in-Some-given_twice-4.ensures)
-    c.refuse_twice-in-Some-given_twice-4.ensures.status c.refuse_twice-in-Some-given_twice-4.ensures.none c.refuse_twice-in-Some-given_twice-4.ensures.says refl refl c.refuse_twice-in-Some-given_twice-4.ensures.no_other
+    c.refuse_twice-in-Some-given_twice-4.ensures.status c.refuse_twice-in-Some-given_twice-4.ensures.none c.refuse_twice-in-Some-given_twice-4.ensures.says refl refl c.refuse_twice-in-Some-given_twice-4.ensures.no_other)
+    c.refuse_twice-in-Some-given_twice-4.ensures.no_batch
 
 pub returns-in-None-given_twice-4-clause-ends : goal.returns-in-None-given_twice-4-clause-ends
 returns-in-None-given_twice-4-clause-ends g c =
-    Imported (import_seen c.in-Ok-Import.files)
+    Single
+    (Imported (import_seen c.in-Ok-Import.files)
     (plan-imports _ (import_seen c.in-Ok-Import.files) (rw c.in-Ok-Import.field-0-is at c.in-Ok-Import.ensures.order) c.in-None-given_twice-4.ensures)
     (import-valued (map string_bytes c.args.words.now) (import_seen c.in-Ok-Import.files) (rw c.in-Ok-Import.field-0-is at c.in-Ok-Import.ensures.order))
-    (sym c.in-None-given_twice-4.ensures) c.import.ensures.ends c.import.ensures.no_other
+    (sym c.in-None-given_twice-4.ensures) c.import.ensures.ends c.import.ensures.no_other)
+    c.import.ensures.no_batch
+
+pub returns-in-Ok-Batch-clause-ends : goal.returns-in-Ok-Batch-clause-ends
+returns-in-Ok-Batch-clause-ends g c =
+    Batched (batch_seen c.in-Ok-Batch.files) (plan-batches _ (batch_seen c.in-Ok-Batch.files) (rw c.in-Ok-Batch.field-0-is at c.in-Ok-Batch.ensures.order))
+    c.batch.ensures.ends c.batch.ensures.none c.batch.ensures.no_other

@@ -8,3 +8,7 @@ returns-in-TooLong-clause-says g c = rw c.in-TooLong.is c.say.ensures.says
 pub returns-in-MissingDomain-clause-says : goal.returns-in-MissingDomain-clause-says
 unfolding refusal_text
 returns-in-MissingDomain-clause-says g c = rw c.in-MissingDomain.is (rw c.format.ensures.text at c.say-in-MissingDomain.ensures.says)
+
+pub returns-in-EmptyList-clause-says : goal.returns-in-EmptyList-clause-says
+unfolding refusal_text
+returns-in-EmptyList-clause-says g c = rw c.in-EmptyList.is c.say-in-EmptyList.ensures.says

@@ -1,0 +1,60 @@
+-- What may be relied on of the program follows from how it ends, whatever the words ask for.
+use Rattle.std.proofs.Common.{◌≡◌, ◌∙◌, ℕ, Bool, true, false, List, [], refl, sym, ap, subst, Option, None}
+use Rattle.std.specs.Prelude.{IsFalse, IsTrue}
+use Rattle.std.proofs.lemmas.Bool.{false≢true, true≢false}
+use Rattle.auction_core.specs.declared.record.Record.{Record}
+use Rattle.auction_cmd.specs.BatchEnds.{BatchEnds}
+use Rattle.auction_cmd.specs.BatchEnds.BatchEnds.{BatchStarved}
+use Rattle.auction_cmd.specs.Ends.{Ends, IsStarved}
+use Rattle.auction_cmd.specs.Ends.Ends.{Starved, Usage, Repeated, Ran, Checked, Verified, Sought, Made, Exported, Imported}
+use Rattle.auction_cmd.specs.Outside.{Outside}
+use Rattle.auction_cmd.specs.Plan.{Plan, batches}
+use Rattle.auction_cmd.specs.Program.{ProgramEnds, ProgramPromises, is_batch}
+use Rattle.auction_cmd.specs.Program.ProgramEnds.{Single, Batched}
+use Rattle.auction_cmd.specs.Words.{BatchNames}
+use Rattle.auction_cmd.proofs.BatchLemmas.{batch-promises}
+use Rattle.auction_cmd.proofs.PromiseLemmas.{promises-of}
+
+same-batches : (a b : BatchNames) → batches a ≡ batches b → a ≡ b
+same-batches a b e = cc
+
+module _ (plan : Plan) (before after : Outside) (status : ℕ) (found below : Option Record) where
+  -- where no batch was carried out, memory ran out before the command was known
+  starved-batch : (names : BatchNames) (batch : List Record) → Ends plan before after status found below → batch ≡ [] → plan ≡ batches names → BatchEnds names before after status batch
+  starved-batch names batch (Starved s still alone) none is = BatchStarved (record { status_is = s.status_is; found_is = refl; line = s.line; files = s.files }) none
+  starved-batch names batch (Usage text is_none two absent said files still alone) none is = cc
+  starved-batch names batch (Repeated name is_name five absent said files still alone) none is = cc
+  starved-batch names batch (Ran own is_own once end alone) none is = cc
+  starved-batch names batch (Checked own is_own end alone) none is = cc
+  starved-batch names batch (Verified own is_own end alone) none is = cc
+  starved-batch names batch (Sought own is_own single end) none is = cc
+  starved-batch names batch (Made own is_own single end alone) none is = cc
+  starved-batch names batch (Exported own is_own single end alone) none is = cc
+  starved-batch names batch (Imported own is_own valued single end alone) none is = cc
+
+  -- and then there is no record
+  no-found : (plan_is : IsTrue (is_batch plan)) → Ends plan before after status found below → (found ≡ None) × (below ≡ None)
+  no-found is (Starved s still alone) = (s.found_is, alone)
+  no-found is (Usage text is_none two absent said files still alone) = (absent, alone)
+  no-found is (Repeated name is_name five absent said files still alone) = (absent, alone)
+  no-found is (Ran own is_own once end alone) = absurd (false≢true (sym (ap is_batch is_own) ∙ is))
+  no-found is (Checked own is_own end alone) = absurd (false≢true (sym (ap is_batch is_own) ∙ is))
+  no-found is (Verified own is_own end alone) = absurd (false≢true (sym (ap is_batch is_own) ∙ is))
+  no-found is (Sought own is_own single end) = absurd (false≢true (sym (ap is_batch is_own) ∙ is))
+  no-found is (Made own is_own single end alone) = absurd (false≢true (sym (ap is_batch is_own) ∙ is))
+  no-found is (Exported own is_own single end alone) = absurd (false≢true (sym (ap is_batch is_own) ∙ is))
+  no-found is (Imported own is_own valued single end alone) = absurd (false≢true (sym (ap is_batch is_own) ∙ is))
+
+  pub program-promises : (batch : List Record) → ProgramEnds plan before after status found below batch → ProgramPromises plan before after status found below batch
+  program-promises batch (Single end none) = record {
+    single = λ other. promises-of plan before after status found below end;
+    no_batch = λ other. none;
+    batch_promises = λ names is. batch-promises names before after status batch (starved-batch names batch end none is);
+    no_others = λ is. no-found is end;
+  }
+  program-promises batch (Batched own is_own end none alone) = record {
+    single = λ other. absurd (true≢false (sym (ap is_batch is_own) ∙ other));
+    no_batch = λ other. absurd (true≢false (sym (ap is_batch is_own) ∙ other));
+    batch_promises = λ names is. batch-promises names before after status batch (subst (λ z. BatchEnds z before after status batch) (same-batches own names (sym is_own ∙ is)) end);
+    no_others = λ is. (none, alone);
+  }

@@ -1,0 +1,125 @@
+//! The auctions of a batch, all carried out at the same time. Their solvers share a cache of answers, which says nothing but what
+//! is valid for the query and the worker that ask; so it decides how long an auction takes, and never its result.
+
+ghost use Rattle.std.specs.Prelude.{◌≡◌, All, IfOk, length, map, option_map};
+ghost use Rattle.std.specs.List.{AllZip};
+ghost use Rattle.std.specs.Thread.{IsSync};
+ghost use Rattle.auction_core.specs.Setup.{IsOfAuction};
+ghost use Rattle.auction_cmd.specs.Batch.{own_text};
+ghost use Rattle.auction_cmd.specs.BatchRuns.{IsRun};
+ghost use Rattle.auction_cmd.specs.Records.{IsRecordBy};
+
+use crate::inputs::Inputs;
+use auction_core::record::{Ending, Record};
+use batch_cache::cache::Cache;
+use race_wave::cached::run_cached;
+use result_text::rows::result_csv;
+use solver_gate::gate::Gate;
+use std::alloc::{AllocError as NoMemory, Global};
+use std::sync::{Mutex, Wait};
+use std::thread;
+use std::thread::Threads;
+
+/// How many channel maps, and how many refutations, the cache keeps: those of the batch's last thousand queries or so, in a search
+/// of a few microseconds (`benchmarks/cache`).
+const CACHE_ROOM: u32 = 1024;
+
+/// An auction that was carried out: its record, and the text of its result, unless it ended at its start.
+#[derive(Drop)]
+pub struct Ran {
+    pub record: Record,
+    pub result: Option<Vec<u8>>,
+}
+
+// The record of the auction of these inputs. Of the outside it calls the gate alone.
+fn cached_auction_of<G: Gate + Sync, W: Threads + Wait + Sync>(
+    rt: &W,
+    alloc: Global,
+    inputs: &Inputs,
+    cache: &Mutex<Cache>,
+    gate: &G,
+) -> Result<Record, NoMemory>
+    requires { IsOfAuction inputs.now.scenario inputs.now.book }
+    ensures { IfOk result (λ rec. IsRecordBy inputs.now rec rec.ending) }
+{
+    // With its length a book says that it is in order.
+    let _stations = inputs.book.len();
+    let record = run_cached(rt, alloc, &inputs.scenario, &inputs.book, cache, gate)?;
+    Ok(record)
+}
+
+// The text of the result of this auction, unless it ended at its start.
+fn result_of(alloc: Global, inputs: &Inputs, rec: &Record) -> Result<Option<Vec<u8>>, NoMemory>
+    requires auction { IsOfAuction inputs.now.scenario inputs.now.book }
+    requires of { IsRecordBy inputs.now rec.now rec.now.ending }
+    ensures { IfOk result (λ text. option_map (λ v. v.items) text ≡ own_text inputs.now rec.now) }
+{
+    match rec.ending {
+        Ending::Done => {
+            let text = result_csv(alloc, rec, &inputs.book)?;
+            Ok(Some(text))
+        }
+        Ending::StartRefuted | Ending::StartUndecided => Ok(None),
+    }
+}
+
+// Carries one auction out.
+fn carry_out<G: Gate + Sync, W: Threads + Wait + Sync>(
+    rt: &W,
+    alloc: Global,
+    inputs: Inputs,
+    cache: &Mutex<Cache>,
+    gate: &G,
+) -> Result<Ran, NoMemory>
+    requires { IsOfAuction inputs.scenario inputs.book }
+    ensures { IfOk result (IsRun inputs) }
+{
+    let record = cached_auction_of(rt, alloc, &inputs, cache, gate)?;
+    let result = result_of(alloc, &inputs, &record)?;
+    Ok(Ran { record, result })
+}
+
+/// Carries these auctions out, each in a thread of its own where one can be made, beside those of its workers. The only error is
+/// want of memory, of any of them.
+pub fn run_all<G: Gate + Sync, W: Threads + Wait + Sync>(
+    rt: &W,
+    alloc: Global,
+    auctions: Vec<Inputs>,
+    gate: &G,
+) -> Result<Vec<Ran>, NoMemory>
+    requires { All (λ i. IsOfAuction i.scenario i.book) auctions.items }
+    ensures { IfOk result (λ rans. AllZip IsRun auctions.items rans.items) }
+{
+    let cache = Mutex::new(Cache::make(alloc, CACHE_ROOM)?);
+    let rans = run_each(rt, alloc, auctions, &cache, gate)?;
+    all_of(alloc, rans)
+}
+
+// Carries these auctions out by a cache that is given, and tells of each what came of it.
+fn run_each<G: Gate + Sync, W: Threads + Wait + Sync>(
+    rt: &W,
+    alloc: Global,
+    auctions: Vec<Inputs>,
+    cache: &Mutex<Cache>,
+    gate: &G,
+) -> Result<Vec<Result<Ran, NoMemory>>, NoMemory>
+    requires { All (λ i. IsOfAuction i.scenario i.book) auctions.items }
+    ensures { IfOk result (λ rans. AllZip (λ i ran. IfOk ran (IsRun i)) auctions.items rans.items) }
+{
+    let part = |inputs: Inputs| -> Result<Ran, NoMemory>
+        requires { IsSync W.row × IsSync G.row × IsOfAuction inputs.scenario inputs.book }
+        ensures { IfOk result (IsRun inputs) }
+    { carry_out(rt, alloc, inputs, cache, gate) };
+    thread::map_vec(rt, auctions, &part)
+}
+
+// All that came of these auctions, or want of memory of one of them.
+fn all_of(alloc: Global, rans: Vec<Result<Ran, NoMemory>>) -> Result<Vec<Ran>, NoMemory>
+    ensures { IfOk result (λ all. map (λ ran. Ok ran) all.items ≡ rans.items) }
+{
+    let mut all = Vec::new(alloc);
+    for ran in rans {
+        all.push(ran?)?;
+    }
+    Ok(all)
+}

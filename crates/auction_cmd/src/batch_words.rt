@@ -1,0 +1,74 @@
+//! The words of `batch`: the constraint files, and the list of the scenarios and of the files for their results.
+
+ghost use Rattle.std.specs.Prelude.{◌≡◌, IfOk, false, option_map};
+ghost use Rattle.clap.specs.Words.{app_of, found_of, rows_of};
+ghost use Rattle.clap.specs.declared.builder.command.Command.TheViews.{out-Command};
+ghost use Rattle.auction_cmd.specs.Batch.{inputs_with};
+ghost use Rattle.auction_cmd.specs.Words.{batch_app, batch_names, batch_seen, inputs_seen};
+
+use crate::words::{InputArgs, required, value_of};
+use clap::{ArgMatches, Command};
+use std::alloc::{AllocError, Global};
+
+/// The arguments of `batch`, as they are given.
+#[derive(Clone, Copy, Debug, PartialEq, Eq)]
+pub struct BatchArgs<'a> {
+    /// The domains file.
+    pub domains: &'a str,
+    /// The rows file.
+    pub rows: &'a str,
+    /// The list of the scenarios and of the files for their results.
+    pub list: &'a str,
+}
+
+impl<'a> BatchArgs<'a> {
+    /// The input files of one auction: the constraint files, and the scenario of this name. Until the scenarios are read the list
+    /// stands in a scenario's place.
+    pub fn inputs_with(&self, scenario: &'a str) -> InputArgs<'a>
+        ensures { inputs_seen result ≡ inputs_with (batch_seen self.now) scenario.now }
+    {
+        InputArgs {
+            domains: self.domains,
+            rows: self.rows,
+            scenario,
+            owners: None,
+        }
+    }
+}
+
+pub(crate) fn batch_command<'a>(alloc: Global) -> Result<Command<'a>, AllocError>
+    ensures app { IfOk result (λ c. app_of c ≡ batch_app) }
+    ensures local { IfOk result (λ c. (out-Command c).has_globals ≡ false) }
+{
+    let about = "Runs the auctions of many scenarios and stores their results";
+    Command::new(alloc, "batch")
+        .about(about)
+        .arg(required(
+            alloc,
+            "DOMAINS",
+            "The channels of each station, as in the FCC's Domain.csv",
+        ))?
+        .arg(required(
+            alloc,
+            "ROWS",
+            "What interferes, as in the FCC's Interference_Paired.csv",
+        ))?
+        .arg(required(
+            alloc,
+            "LIST",
+            "The auctions: lines of a scenario file and a file for its result",
+        ))
+}
+
+pub(crate) fn batch_args<'a>(matches: &ArgMatches<'a>) -> Option<BatchArgs<'a>>
+    ensures { option_map batch_seen result ≡ batch_names (rows_of (found_of matches.now)) }
+{
+    let domains = value_of(matches, "DOMAINS")?;
+    let rows = value_of(matches, "ROWS")?;
+    let list = value_of(matches, "LIST")?;
+    Some(BatchArgs {
+        domains,
+        rows,
+        list,
+    })
+}

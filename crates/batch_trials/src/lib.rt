@@ -1,0 +1,5 @@
+//! Batches: runs of the whole program over the scenarios of a list, in memory.
+#![tactic(auto)]
+
+#[cfg(test)]
+mod batches;
