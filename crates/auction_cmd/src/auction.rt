@@ -117,11 +117,12 @@ fn carry_out<F: Folder, K: Sink, G: Gate + Sync, W: Threads + Wait + Sync>(
 ///
 /// The status is 0 where all is done and every test was decided; 1 where all is done and some test was not, for `seek` that
 /// of one channel less; 2 where the words are no command, help and version included; 3 where a file can't be read; 4 where a
-/// file can't be stored, or the summary, the counts, the result or the top channel can't be written; 5 where an output name
-/// is given twice, or a file is too long or an input refused; 6 where the start set doesn't fit; 7 where no worker decides
-/// whether it does; 8 for want of memory; 11 for a batch where an auction ended at its start, as at 6 or 7; 9 where the transcript's text is refused or a step of it isn't shown; 10 where it
-/// has no step STEP or, for `import`, that isn't undecided, or the log's text is refused or it refutes nothing. At each but
-/// 0 and 1 a line says so; where the sink fails at the summary, the counts, the result or the top channel there is none.
+/// file can't be stored, or the summary, the counts, the result, the top channel or a batch's lines can't be written; 5 where
+/// an output name is given twice, or a file is too long or an input refused; 6 where the start set doesn't fit; 7 where no
+/// worker decides whether it does; 8 for want of memory; 9 where the transcript's text is refused or a step of it isn't shown;
+/// 10 where it has no step STEP or, for `import`, that isn't undecided, or the log's text is refused or it refutes nothing; 11
+/// where all of a batch is done, and an auction of it ended at its start, as at 6 or 7. At each but 0, 1 and 11 a line says so;
+/// where the sink fails at the summary, the counts, the result, the top channel or a batch's lines there is none.
 pub fn auction_main<F: Folder, K: Sink, G: Gate + Sync, W: Threads + Wait + Sync>(
     rt: &W,
     alloc: Global,

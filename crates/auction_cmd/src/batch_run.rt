@@ -20,8 +20,8 @@ use std::sync::{Mutex, Wait};
 use std::thread;
 use std::thread::Threads;
 
-/// How many channel maps, and how many refutations, the cache keeps: those of the batch's last thousand queries or so, in a search
-/// of a few microseconds (`benchmarks/cache`).
+/// How many channel maps, and how many refutations, the cache keeps. A query that none of them answers has looked at all of one
+/// kind and then of the other (`benchmarks/cache`).
 const CACHE_ROOM: u32 = 1024;
 
 /// An auction that was carried out: its record, and the text of its result, unless it ended at its start.

@@ -464,10 +464,11 @@ fn fault_from(alloc: Global, error: &Error) -> WordsFault
 /// The command that the words are, of which the first is the program's name: `run DOMAINS ROWS SCENARIO RESULT CHANNELS
 /// TRANSCRIPT`, `check DOMAINS ROWS SCENARIO`, `verify DOMAINS ROWS SCENARIO TRANSCRIPT`, `live DOMAINS ROWS SCENARIO OWNERS
 /// RESULT CHANNELS TRANSCRIPT`, `verify-live DOMAINS ROWS SCENARIO OWNERS TRANSCRIPT`, `seek DOMAINS ROWS SCENARIO
-/// CHANNELS`, `batch DOMAINS ROWS LIST`, `make SEED SIZE DOMAINS ROWS SCENARIO`, `export DOMAINS ROWS SCENARIO TRANSCRIPT STEP CNF` or `import DOMAINS
-/// ROWS SCENARIO TRANSCRIPT STEP LRAT RESULT NEWTRANSCRIPT`. A name that begins with `-` stands after `--`, but for a lone
-/// `-`. SEED is a number up to 2^64 - 1, SIZE one from 1 to 4,096, STEP one from 1 to 4,294,967,295; a plus may stand before
-/// each, and zeros. Help and the version are no command: their texts come with `Refused`.
+/// CHANNELS`, `batch DOMAINS ROWS LIST`, `make SEED SIZE DOMAINS ROWS SCENARIO`, `export DOMAINS ROWS SCENARIO TRANSCRIPT
+/// STEP CNF` or `import DOMAINS ROWS SCENARIO TRANSCRIPT STEP LRAT RESULT NEWTRANSCRIPT`. A name that begins with `-` stands
+/// after `--`, but for a lone `-`. SEED is a number up to 2^64 - 1, SIZE one from 1 to 4,096, STEP one from 1 to
+/// 4,294,967,295; a plus may stand before each, and zeros. Help and the version are no command: their texts come with
+/// `Refused`.
 #[tactic(auto, unfolding(crate::specs::Words::command_of))]
 pub fn read_words<'a>(alloc: Global, words: &'a [String]) -> Result<Order<'a>, WordsFault>
     ensures order { IfOk result (λ o. command_of (map string_bytes words.entry.now) ≡ Some (order_seen o)) }
