@@ -95,9 +95,13 @@ abbrev pub with_required : App → List Text → App
 with_required app [] = app
 with_required app (id ∷ rest) = with_required (with_rule app (required_rule id)) rest
 
+-- the arguments that name the constraint files
+abbrev pub constraint_ids : List Text
+constraint_ids = codes "DOMAINS" ∷ codes "ROWS" ∷ []
+
 -- the arguments that name the input files
 abbrev pub input_ids : List Text
-input_ids = codes "DOMAINS" ∷ codes "ROWS" ∷ codes "SCENARIO" ∷ []
+input_ids = constraint_ids ++ codes "SCENARIO" ∷ []
 
 abbrev pub check_app : App
 check_app = with_required (new_app (codes "check")) input_ids
@@ -130,7 +134,7 @@ abbrev pub seek_app : App
 seek_app = with_required (new_app (codes "seek")) (input_ids ++ codes "CHANNELS" ∷ [])
 
 abbrev pub batch_app : App
-batch_app = with_required (new_app (codes "batch")) (codes "DOMAINS" ∷ codes "ROWS" ∷ codes "LIST" ∷ [])
+batch_app = with_required (new_app (codes "batch")) (constraint_ids ++ codes "LIST" ∷ [])
 
 -- the greatest seed, the most stations of a made auction, and the last step that can be asked about
 abbrev pub seed_limit : ℕ

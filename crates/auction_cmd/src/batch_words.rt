@@ -6,7 +6,7 @@ ghost use Rattle.clap.specs.declared.builder.command.Command.TheViews.{out-Comma
 ghost use Rattle.auction_cmd.specs.Batch.{inputs_with};
 ghost use Rattle.auction_cmd.specs.Words.{batch_app, batch_names, batch_seen, inputs_seen};
 
-use crate::words::{InputArgs, required, value_of};
+use crate::words::{InputArgs, constraint_command, required, value_of};
 use clap::{ArgMatches, Command};
 use std::alloc::{AllocError, Global};
 
@@ -41,23 +41,11 @@ pub(crate) fn batch_command<'a>(alloc: Global) -> Result<Command<'a>, AllocError
     ensures local { IfOk result (λ c. (out-Command c).has_globals ≡ false) }
 {
     let about = "Runs the auctions of many scenarios and stores their results";
-    Command::new(alloc, "batch")
-        .about(about)
-        .arg(required(
-            alloc,
-            "DOMAINS",
-            "The channels of each station, as in the FCC's Domain.csv",
-        ))?
-        .arg(required(
-            alloc,
-            "ROWS",
-            "What interferes, as in the FCC's Interference_Paired.csv",
-        ))?
-        .arg(required(
-            alloc,
-            "LIST",
-            "The auctions: lines of a scenario file and a file for its result",
-        ))
+    constraint_command(alloc, "batch", about)?.arg(required(
+        alloc,
+        "LIST",
+        "The auctions: lines of a scenario file and a file for its result",
+    ))
 }
 
 pub(crate) fn batch_args<'a>(matches: &ArgMatches<'a>) -> Option<BatchArgs<'a>>

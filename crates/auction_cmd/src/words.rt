@@ -5,7 +5,7 @@ ghost use Rattle.std.specs.Str.{bytes_eq};
 ghost use Rattle.clap.specs.Words.{app_of, first_of, found_of, kind_of, new_app, rows_of, rule_of, subcommand_rows_of};
 ghost use Rattle.clap.specs.declared.builder.command.Command.TheViews.{out-Command};
 ghost use Rattle.auction_cmd.specs.Refusals.{name_of};
-ghost use Rattle.auction_cmd.specs.Words.{IsRefused, bare_app, batching_app, check_app, command_of, input_ids, input_names, inputs_seen, is_repeated_in, live_app, live_ids, live_names, live_reading_app, named_command, names_seen, order_seen, program_app, reading_app, repeated_output, required_rule, run_app, run_names, seeking_app, shown_by_names, shown_ids, verify_app, verify_live_app, verify_names, verify_seen, with_required};
+ghost use Rattle.auction_cmd.specs.Words.{IsRefused, bare_app, batching_app, check_app, command_of, constraint_ids, input_ids, input_names, inputs_seen, is_repeated_in, live_app, live_ids, live_names, live_reading_app, named_command, names_seen, order_seen, program_app, reading_app, repeated_output, required_rule, run_app, run_names, seeking_app, shown_by_names, shown_ids, verify_app, verify_live_app, verify_names, verify_seen, with_required};
 
 use crate::batch_words::{BatchArgs, batch_args, batch_command};
 use crate::make_words::{MakeArgs, make_args, make_command};
@@ -158,13 +158,13 @@ pub(crate) fn required<'a>(alloc: Global, name: &'a str, help: &'a str) -> Arg<'
     Arg::new(alloc, name).required(true).help(help)
 }
 
-// A command of this name that takes the names of the input files.
-pub(crate) fn input_command<'a>(
+// A command of this name that takes the names of the constraint files.
+pub(crate) fn constraint_command<'a>(
     alloc: Global,
     name: &'a str,
     about: &'a str,
 ) -> Result<Command<'a>, AllocError>
-    ensures app { IfOk result (λ c. app_of c ≡ with_required (new_app name.entry.now) input_ids) }
+    ensures app { IfOk result (λ c. app_of c ≡ with_required (new_app name.entry.now) constraint_ids) }
     ensures local { IfOk result (λ c. (out-Command c).has_globals ≡ false) }
 {
     Command::new(alloc, name)
@@ -178,12 +178,23 @@ pub(crate) fn input_command<'a>(
             alloc,
             "ROWS",
             "What interferes, as in the FCC's Interference_Paired.csv",
-        ))?
-        .arg(required(
-            alloc,
-            "SCENARIO",
-            "The auction, as JSON: top channel, prices, stations, workers",
         ))
+}
+
+// A command of this name that takes the names of the input files.
+pub(crate) fn input_command<'a>(
+    alloc: Global,
+    name: &'a str,
+    about: &'a str,
+) -> Result<Command<'a>, AllocError>
+    ensures app { IfOk result (λ c. app_of c ≡ with_required (new_app name.entry.now) input_ids) }
+    ensures local { IfOk result (λ c. (out-Command c).has_globals ≡ false) }
+{
+    constraint_command(alloc, name, about)?.arg(required(
+        alloc,
+        "SCENARIO",
+        "The auction, as JSON: top channel, prices, stations, workers",
+    ))
 }
 
 // A command of this name that takes the names of the input files of a live auction.
