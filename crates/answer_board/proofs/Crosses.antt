@@ -127,7 +127,7 @@ kept-send = search (auction-send, crosses, sendable) depth 30
 pub board-sync : IsSync Board.the_row
 board-sync = search (kept-send, book-send, book-sync, shared_sync, lease_sync, crosses, sendable) depth 30
 
-pub pass-send : IsSend (Pass.the_row Kept.the_row Setup.the_row Entry.the_row kept)
+pub pass-send : IsSend (Pass.the_row Kept.the_row Clockwork.the_row Entry.the_row kept)
 pass-send = search (kept-send, seat_send, crosses, sendable) depth 30
 
 -- what a closure borrows

@@ -1,7 +1,7 @@
 -- Lists of passes to a board.
 use Rattle.std.proofs.Common.{◌≡◌, ℕ, zero, suc, ◌<◌, List, [], ◌∷◌, length, map, get_or, slice_set, refl, sym, ap, subst, arith}
 use Rattle.auction_core.specs.Replay.{EntryView}
-use Rattle.auction_core.specs.Setup.{SetupView}
+use Rattle.auction_core.specs.Clockwork.{ClockworkView}
 use Rattle.turn_lock.specs.declared.chronicle.Chronicle.{Ghosts}
 use Rattle.turn_lock.specs.declared.lock.Pass.{Pass}
 use Rattle.turn_lock.specs.Passes.{StandsAt, standing}
@@ -31,9 +31,9 @@ same-map f [] (suc i) y d h = refl
 same-map f (x ∷ xs) zero y d h = ap (λ z. z ∷ map f xs) h
 same-map f (x ∷ xs) (suc i) y d h = ap (λ zs. f x ∷ zs) (same-map f xs i y d h)
 
-module _ {G : Ghosts Kept SetupView EntryView} where
-  pub own-at : (board : Board) (ps : List (Pass Kept SetupView EntryView G)) (i : ℕ) (d : Pass Kept SetupView EntryView G) → AreAllOn board (map standing ps) → i < length ps → IsPassOn board (get_or ps i d)
+module _ {G : Ghosts Kept ClockworkView EntryView} where
+  pub own-at : (board : Board) (ps : List (Pass Kept ClockworkView EntryView G)) (i : ℕ) (d : Pass Kept ClockworkView EntryView G) → AreAllOn board (map standing ps) → i < length ps → IsPassOn board (get_or ps i d)
   own-at board ps i d h lt = all-at (λ p. IsPassOn board p) ps i d (all-map standing (StandsAt kept_base kept_entries board.lock) ps h.own) lt
 
-  pub set-all : (board : Board) (ps : List (Pass Kept SetupView EntryView G)) (i : ℕ) (y d : Pass Kept SetupView EntryView G) → standing y ≡ standing (get_or ps i d) → AreAllOn board (map standing ps) → AreAllOn board (map standing (slice_set ps i y))
+  pub set-all : (board : Board) (ps : List (Pass Kept ClockworkView EntryView G)) (i : ℕ) (y d : Pass Kept ClockworkView EntryView G) → standing y ≡ standing (get_or ps i d) → AreAllOn board (map standing ps) → AreAllOn board (map standing (slice_set ps i y))
   set-all board ps i y d same h = subst (λ ss. AreAllOn board ss) (sym (same-map standing ps i y d same)) h

@@ -18,9 +18,9 @@ use Rattle.auction_core.specs.declared.posting.Said.{Said}
 use Rattle.auction_core.specs.declared.posting.Said.TheVariants.{Good, Bad}
 use Rattle.auction_core.specs.Auction.{AuctionView, entry_told, let_through}
 use Rattle.auction_core.specs.Backed.{IsValidOf}
-use Rattle.auction_core.specs.Replay.{EntryView, entry_of, kept_answer, replay}
+use Rattle.auction_core.specs.Replay.{EntryView, entry_of, kept_answer, replay_from}
 use Rattle.auction_core.specs.Rule.{Answers}
-use Rattle.auction_core.specs.Setup.{SetupView}
+use Rattle.auction_core.specs.Clockwork.{ClockworkView}
 use Rattle.auction_core.specs.Said.{AnswersIfGood, IsSaidOf, MayBeTaken, StandsFor, taken, told, with_answer}
 use Rattle.auction_core.specs.State.{CoreState, has_ended, task_of}
 use Rattle.auction_core.specs.Take.{PostingView, take, turned_away}
@@ -30,7 +30,7 @@ use Rattle.auction_core.proofs.Replays.{turned-cases}
 use Rattle.answer_board.specs.Entries.{entries_of, numbered}
 use Rattle.turn_lock.specs.declared.chronicle.Known.{Known}
 use Rattle.turn_lock.specs.Turns.{StartsWith}
-use Rattle.answer_board.specs.Boards.{setup_of}
+use Rattle.answer_board.specs.Boards.{beginning_of}
 use Rattle.answer_board.specs.Posts.{IsPosted, IsTaken, StandsOn, left_by}
 
 -- ---- the standing query
@@ -124,20 +124,20 @@ pub numbered-more : (es : List EntryView) (e : EntryView) → numbered (es ++ e 
 numbered-more [] e = refl
 numbered-more (x ∷ es) e = ap (λ l. (x.worker, x) ∷ l) (numbered-more es e)
 
--- the two are of the same setup
+-- the two began alike
 abbrev pub AlikeBase : AuctionView → AuctionView → Type 0
-AlikeBase a b = setup_of a ≡ setup_of b
+AlikeBase a b = beginning_of a ≡ beginning_of b
 
 -- the history of an auction leaves its state
 abbrev pub Replays : AuctionView → Type 0
-Replays a = replay a.scenario a.book a.state.order a.history ≡ Some a.state
+Replays a = replay_from a.scenario a.book a.history a.opened ≡ Some a.state
 
 -- what a history leaves that is the one seen
 pub seen-replays : (made value : AuctionView) (seen : List (ℕ × EntryView)) → AlikeBase value made → numbered value.history ≡ seen → Replays value → left_by made seen ≡ Some value.state
 seen-replays made value seen base is h =
     ap (λ es. left_by made es) (sym is)
-    ∙ (ap (λ es. replay made.scenario made.book made.state.order es) (entries-numbered value.history)
-    ∙ (ap (λ (s : SetupView). replay s.scenario s.book s.order value.history) (sym base) ∙ h))
+    ∙ (ap (λ es. replay_from made.scenario made.book es made.opened) (entries-numbered value.history)
+    ∙ (ap (λ (s : ClockworkView). replay_from s.scenario s.book value.history s.state) (sym base) ∙ h))
 
 -- what a posting in a turn leaves: the turn began at `mid`, and ends at `last`
 pub posted : (made value after : AuctionView) (posting : PostingView) (reply : Reply) (first mid last : Known EntryView)
@@ -147,16 +147,16 @@ pub posted : (made value after : AuctionView) (posting : PostingView) (reply : R
     → IsPosted made posting first last reply
 posted made value after posting reply first mid last base is h k taken begins same seen mine =
     let e = entry_of posting reply in
-    let after_base : AlikeBase after value = taken.setup in
+    let after_base : AlikeBase after value = taken.beginning in
     let whole : numbered after.history ≡ mid.seen ++ (posting.worker, e) ∷ [] = ap numbered taken.history ∙ (numbered-more value.history e ∙ ap (λ l. l ++ (posting.worker, e) ∷ []) is) in
     record {
       before = mid.seen;
       state = value.state;
       begins = begins;
       replays = seen-replays made value mid.seen base is h;
-      told = ap (λ (o : Reply × CoreState). o.0) taken.told ∙ ap (λ (b : SetupView). (take b.scenario b.book value.state posting).0) base;
+      told = ap (λ (o : Reply × CoreState). o.0) taken.told ∙ ap (λ (b : ClockworkView). (take b.scenario b.book value.state posting).0) base;
       seen = seen ∙ whole;
-      leaves = seen-replays made after last.seen (after_base ∙ base) (sym seen) k ∙ ap (λ s. Some s) (ap (λ (o : Reply × CoreState). o.1) taken.told ∙ ap (λ (b : SetupView). (take b.scenario b.book value.state posting).1) base);
+      leaves = seen-replays made after last.seen (after_base ∙ base) (sym seen) k ∙ ap (λ s. Some s) (ap (λ (o : Reply × CoreState). o.1) taken.told ∙ ap (λ (b : ClockworkView). (take b.scenario b.book value.state posting).1) base);
       mine = mine ∙ ap (λ l. l ++ (posting.worker, e) ∷ []) same;
     }
 
@@ -177,4 +177,4 @@ posted-from made posting reply first mid last begins same h = record {
 pub stands-here : (made value : AuctionView) (first seen : List (ℕ × EntryView)) (posting : Posting) (answer : Answer) → StandsOn made first posting answer
     → AlikeBase value made → numbered value.history ≡ seen → Replays value → StartsWith seen first → StandsFor value.scenario value.book value.state posting answer
 stands-here made value first seen posting answer on base is replays begins =
-    subst (λ (b : SetupView). StandsFor b.scenario b.book value.state posting answer) (sym base) (on seen value.state begins (seen-replays made value seen base is replays))
+    subst (λ (b : ClockworkView). StandsFor b.scenario b.book value.state posting answer) (sym base) (on seen value.state begins (seen-replays made value seen base is replays))

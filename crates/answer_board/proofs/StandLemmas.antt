@@ -2,7 +2,6 @@
 use Rattle.std.proofs.Common.{◌≡◌, ◌∙◌, ℕ, ◌<◌, ◌==◌, Bool, true, false, not, nat_le, if◌then◌else◌, List, [], ◌∷◌, ◌++◌, length, Option, Some, None, option_and_then, refl, sym, ap, subst, arith, inl, inr, ◌⊎◌, append_assoc, append-nil, eqb-true}
 use Rattle.std.specs.Prelude.{slice_get}
 use Rattle.pack_defs.specs.Book.{BookView}
-use Rattle.pack_defs.specs.declared.order.Order.{Order}
 use Rattle.pack_defs.specs.declared.scenario.Scenario.{Scenario}
 use Rattle.pack_defs.specs.declared.worker.Worker.{Worker}
 use Rattle.cert_types.specs.declared.answer.Answer.{Answer}
@@ -15,8 +14,8 @@ use Rattle.auction_core.specs.declared.posting.Reply.{Reply}
 use Rattle.auction_core.specs.declared.posting.Reply.TheVariants.{Ended, WrongQuery, Stranger}
 use Rattle.auction_core.specs.declared.posting.Said.TheVariants.{Good, Bad}
 use Rattle.auction_core.specs.declared.record.Shown.TheVariants.{Fits, Refuted, Undecided}
-use Rattle.auction_core.specs.Replay.{EntryView, after_entry, agrees, replay, replay_from, stands}
-use Rattle.auction_core.specs.State.{CoreState, has_ended, opening, task_of}
+use Rattle.auction_core.specs.Replay.{EntryView, after_entry, agrees, replay_from, stands}
+use Rattle.auction_core.specs.State.{CoreState, has_ended, task_of}
 use Rattle.auction_core.specs.Take.{PostingView, is_noted, take, turned_away}
 use Rattle.auction_core.proofs.Cases.{all_spent, noted_as, take-cases}
 use Rattle.auction_core.proofs.QueryLemmas.{answered-number}
@@ -81,10 +80,9 @@ replay-more sc book (e ∷ es) fs state =
       | Some next ↦ replay-more sc book es fs next
     ]
 
-replay-rest : (sc : Scenario) (book : BookView) (order : Order) (es fs : List EntryView) (old new : CoreState) → replay sc book order es ≡ Some old → replay sc book order (es ++ fs) ≡ Some new → replay_from sc book fs old ≡ Some new
-unfolding replay
-replay-rest sc book order es fs old new e f =
-    sym (ap (λ o. option_and_then (replay_from sc book fs) o) e) ∙ (sym (replay-more sc book es fs (opening sc book order)) ∙ f)
+replay-rest : (sc : Scenario) (book : BookView) (es fs : List EntryView) (first old new : CoreState) → replay_from sc book es first ≡ Some old → replay_from sc book (es ++ fs) first ≡ Some new → replay_from sc book fs old ≡ Some new
+replay-rest sc book es fs first old new e f =
+    sym (ap (λ o. option_and_then (replay_from sc book fs) o) e) ∙ (sym (replay-more sc book es fs first) ∙ f)
 
 entries-more : (xs ys : List (ℕ × EntryView)) → entries_of (xs ++ ys) ≡ entries_of xs ++ entries_of ys
 entries-more [] ys = refl
@@ -105,8 +103,8 @@ stood-on made seen log task h k = record { before = h.before; begins = starts-on
 pub stands-while : (made : AuctionView) (log : List (ℕ × EntryView)) (state : CoreState) (task : Task) → HasStood made log task → left_by made log ≡ Some state → state.number ≡ task.number → task_of made.scenario made.book state ≡ Some task
 stands-while made log state task h replays same =
     let rest = h.begins.0 in
-    let whole : replay made.scenario made.book made.state.order (entries_of h.before ++ entries_of rest) ≡ Some state = ap (λ es. replay made.scenario made.book made.state.order es) (sym (ap entries_of h.begins.1 ∙ entries-more h.before rest)) ∙ replays in
-    let goes : Goes h.state state = replay-goes made.scenario made.book (entries_of rest) h.state state (replay-rest made.scenario made.book made.state.order (entries_of h.before) (entries_of rest) h.state state h.replays whole) in
+    let whole : replay_from made.scenario made.book (entries_of h.before ++ entries_of rest) made.opened ≡ Some state = ap (λ es. replay_from made.scenario made.book es made.opened) (sym (ap entries_of h.begins.1 ∙ entries-more h.before rest)) ∙ replays in
+    let goes : Goes h.state state = replay-goes made.scenario made.book (entries_of rest) h.state state (replay-rest made.scenario made.book (entries_of h.before) (entries_of rest) made.opened h.state state h.replays whole) in
     let number : task.number ≡ h.state.number = task-has made.scenario made.book h.state (λ t. t.number ≡ h.state.number) refl (λ t. refl) task h.stands in
     elim goes [
       | inl later ↦ absurd (omega (arith, later, same, number))

@@ -1,8 +1,8 @@
 -- A board and its passes.
-use Rattle.std.specs.Prelude.{ℕ, List}
+use Rattle.std.specs.Prelude.{ℕ, List, true}
 use Rattle.auction_core.specs.Auction.{AuctionView}
+use Rattle.auction_core.specs.Clockwork.{ClockworkView}
 use Rattle.auction_core.specs.Replay.{EntryView}
-use Rattle.auction_core.specs.Setup.{SetupView}
 use Rattle.turn_lock.specs.declared.chronicle.Chronicle.{Ghosts}
 use Rattle.turn_lock.specs.declared.lock.Pass.{Pass}
 use Rattle.turn_lock.specs.Passes.{AreAllOf, IsPassOf, Standing, made_over}
@@ -10,12 +10,12 @@ use Rattle.answer_board.specs.declared.board.Board.{Board}
 use Rattle.answer_board.specs.declared.kept.Kept.{Kept}
 use Rattle.answer_board.specs.Entries.{numbered}
 
--- what no posting changes of an auction: all that its opening state is made of
-abbrev pub setup_of : AuctionView → SetupView
-setup_of auction = record { scenario = auction.scenario; book = auction.book; order = auction.state.order }
+-- what no posting changes of an auction: its scenario and its book, and the state in which it was opened
+abbrev pub beginning_of : AuctionView → ClockworkView
+beginning_of auction = record { scenario = auction.scenario; book = auction.book; state = auction.opened; ready = true }
 
-abbrev pub kept_base : Kept → SetupView
-kept_base kept = setup_of kept.auction
+abbrev pub kept_base : Kept → ClockworkView
+kept_base kept = beginning_of kept.auction
 
 abbrev pub kept_entries : Kept → List (ℕ × EntryView)
 kept_entries kept = numbered kept.auction.history
@@ -25,9 +25,9 @@ abbrev pub raised : Board → AuctionView
 raised board = (made_over board.lock).auction
 
 -- it is a pass to this board
-abbrev pub IsPassOn : {G : Ghosts Kept SetupView EntryView} → Board → Pass Kept SetupView EntryView G → Type 0
+abbrev pub IsPassOn : {G : Ghosts Kept ClockworkView EntryView} → Board → Pass Kept ClockworkView EntryView G → Type 0
 IsPassOn board pass = IsPassOf kept_base kept_entries board.lock pass
 
 -- these are all passes to the board, the first one in front
-abbrev pub AreAllOn : Board → List (Standing SetupView EntryView) → Type 0
+abbrev pub AreAllOn : Board → List (Standing ClockworkView EntryView) → Type 0
 AreAllOn board passes = AreAllOf kept_base kept_entries board.lock passes

@@ -4,7 +4,7 @@ use Rattle.pack_defs.specs.Book.{BookView}
 use Rattle.pack_defs.specs.declared.scenario.Scenario.{Scenario}
 use Rattle.cert_types.specs.Query.{IsQuery}
 use Rattle.auction_core.specs.Auction.{AuctionView}
-use Rattle.auction_core.specs.Replay.{EntryView, entry_of, replay}
+use Rattle.auction_core.specs.Replay.{EntryView, entry_of, replay_from}
 use Rattle.auction_core.specs.State.{CoreState, has_ended, task_of}
 use Rattle.auction_core.specs.Take.{PostingView, take}
 use Rattle.auction_core.specs.declared.posting.Reply.{Reply}
@@ -20,12 +20,12 @@ use Rattle.answer_board.specs.declared.post.Met.{Met}
 use Rattle.answer_board.specs.declared.post.Met.TheVariants.{Told, Asked}
 use Rattle.answer_board.specs.declared.look.Look.{Look}
 use Rattle.answer_board.specs.declared.look.Look.TheVariants.{Task, Ended}
-use Rattle.answer_board.specs.Boards.{setup_of}
+use Rattle.answer_board.specs.Boards.{beginning_of}
 use Rattle.answer_board.specs.Entries.{entries_of}
 
--- the state that a history of this auction leaves
+-- the state that a history of this auction leaves, from the one in which it was opened
 abbrev pub left_by : AuctionView → List (ℕ × EntryView) → Option CoreState
-left_by raised log = replay raised.scenario raised.book raised.state.order (entries_of log)
+left_by raised log = replay_from raised.scenario raised.book (entries_of log) raised.opened
 
 -- What stands: the standing query, which a solver may be asked, or none where the auction has ended.
 abbrev pub LookIs : Scenario → BookView → CoreState → Look → Type 0
@@ -36,11 +36,11 @@ LookIs sc book state Ended = has_ended state ≡ true
 pub record IsTaken (old new : AuctionView) (posting : PostingView) (reply : Reply) : Type 0 where
   pub told : (reply, new.state) ≡ take old.scenario old.book old.state posting
   pub history : new.history ≡ old.history ++ entry_of posting reply ∷ []
-  pub setup : setup_of new ≡ setup_of old
+  pub beginning : beginning_of new ≡ beginning_of old
 
 -- nothing was done, but that there may be more room
 pub record StaysAs (old new : AuctionView) : Type 0 where
-  pub setup : setup_of new ≡ setup_of old
+  pub beginning : beginning_of new ≡ beginning_of old
   pub history : new.history ≡ old.history
 
 -- the history seen leaves a state of which this holds

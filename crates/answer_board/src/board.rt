@@ -24,4 +24,5 @@ pub struct Board {
     pub(crate) workers: Vec<Worker>,
     ghost book_is: { arc_value book ≡ (made_over lock).auction.book },
     ghost workers_are: { workers.items ≡ (made_over lock).auction.scenario.workers },
+    ghost order_is: { (made_over lock).auction.state.order ≡ (made_over lock).auction.opened.order },
 }

@@ -3,7 +3,7 @@
 ghost use Rattle.std.specs.Prelude.{◌≡◌, ◌≤◌, IfErr, IfOk, length, map};
 ghost use Rattle.turn_lock.specs.Passes.{IsIdle, IsLegal, known_of, mine_of, seen_of, standing};
 ghost use Rattle.turn_lock.specs.Turns.{AllOf, IsWhole, StartsWith, each_new};
-ghost use Rattle.answer_board.specs.Boards.{AreAllOn, IsPassOn, raised, setup_of};
+ghost use Rattle.answer_board.specs.Boards.{AreAllOn, IsPassOn, beginning_of, raised};
 ghost use Rattle.answer_board.specs.Entries.{numbered};
 ghost use Rattle.answer_board.specs.Posts.{LookIs, Sees};
 
@@ -31,6 +31,8 @@ impl Board {
         ensures new { IfOk result (λ r. map known_of r.1.items ≡ each_new (numbered auction.history) passes) }
         ensures back { IfErr result (λ e. e.1 ≡ auction) }
     {
+        // For its clause alone: that the order is the one in which it was opened.
+        let _ = auction.posted();
         let Ok(book) = auction.shared_book() else {
             return Err((NoMemory, auction));
         };
@@ -98,12 +100,14 @@ impl Board {
     }
 
     /// Takes the auction off the board, with all its passes, the first one in front, as `raise` gave them; the others may stand
-    /// in any order. Its history begins with what each pass has seen, and consists of the history that was raised and every
-    /// pass's own entries, each once. It doesn't wait.
+    /// in any order. It is of the scenario, book and order that were raised, and was opened in the same state. Its history begins
+    /// with what each pass has seen, and consists of the history that was raised and every pass's own entries, each once. It
+    /// doesn't wait.
     pub fn close(self, passes: Vec<Pass>) -> Auction
         requires all { AreAllOn self (map standing passes.items) }
         requires idle { AllOf IsIdle passes.items }
-        ensures setup { setup_of result ≡ setup_of (raised self) }
+        ensures beginning { beginning_of result ≡ beginning_of (raised self) }
+        ensures order { result.state.order ≡ (raised self).state.order }
         ensures history { IsWhole (length passes.items) (numbered (raised self).history) (numbered result.history) (map known_of passes.items) }
     {
         let Board {
@@ -114,6 +118,8 @@ impl Board {
         drop(book);
         drop(workers);
         let Kept { auction } = lock.close(passes);
+        // For its clause alone: that the order is the one in which it was opened.
+        let _ = auction.posted();
         auction
     }
 }

@@ -1,10 +1,11 @@
 //! What lies under a board's lock.
 
+ghost use Rattle.std.specs.Prelude.{true};
 ghost use Rattle.answer_board.specs.Entries.{numbered};
 
 use auction_core::auction::Auction;
+use auction_core::clockwork::Clockwork;
 use auction_core::posting::Entry;
-use auction_core::setup::Setup;
 use turn_lock::chronicle::Chronicle;
 
 /// An auction that is on a board. Its history is that of its postings, each with the number of its worker.
@@ -14,11 +15,11 @@ pub struct Kept {
 }
 
 impl Chronicle for Kept {
-    type Base = Setup;
+    type Base = Clockwork;
 
     type Entry = Entry;
 
-    ghost base = { λ kept. record { scenario = kept.auction.scenario; book = kept.auction.book; order = kept.auction.state.order } };
+    ghost base = { λ kept. record { scenario = kept.auction.scenario; book = kept.auction.book; state = kept.auction.opened; ready = true } };
 
     ghost entries = { λ kept. numbered kept.auction.history };
 

@@ -21,7 +21,7 @@ use Rattle.auction_core.specs.Rule.{IsAuction}
 use Rattle.transcript_text.specs.Named.{HasFileChannels, IsHeld}
 use Rattle.transcript_text.specs.Spelling.{transcript_for, transcript_text}
 use Rattle.transcript_text.proofs.RecordReads.{record-again}
-use Rattle.transcript_check.specs.NotShown.{not_shown}
+use Rattle.auction_core.specs.NotShown.{not_shown}
 use Rattle.transcript_check.specs.Sound.{transcript_record}
 use Rattle.transcript_check.proofs.SoundLemmas.{same-again, sound-shown, transcript-sound}
 use Rattle.auction_cmd.specs.declared.inputs.Inputs.{Inputs}

@@ -8,11 +8,11 @@ use Rattle.auction_core.specs.declared.record.Record.{Record}
 use Rattle.auction_core.specs.Rule.{IsAuction}
 use Rattle.transcript_text.specs.declared.error.TextErr.{TextErr}
 use Rattle.transcript_text.specs.declared.error.TextErr.TheVariants.{Version, BadLine, Truncated, NoMemory as NoRoom}
-use Rattle.transcript_text.specs.declared.transcript.Transcript.{Transcript}
+use Rattle.auction_core.specs.declared.transcript.Transcript.{Transcript}
 use Rattle.transcript_text.specs.Reading.{transcript_of}
 use Rattle.transcript_text.specs.Steps.{Fails}
-use Rattle.transcript_check.specs.declared.error.ShownWhy.{ShownWhy}
-use Rattle.transcript_check.specs.NotShown.{not_shown}
+use Rattle.auction_core.specs.declared.prefix.ShownWhy.{ShownWhy}
+use Rattle.auction_core.specs.NotShown.{not_shown}
 use Rattle.transcript_check.specs.Sound.{IsSound, transcript_record}
 use Rattle.auction_cmd.specs.declared.fault.TranscriptFault.TheVariants.{Unshown}
 use Rattle.auction_cmd.specs.declared.inputs.Inputs.{Inputs}

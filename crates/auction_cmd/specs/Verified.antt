@@ -3,12 +3,12 @@ use Rattle.std.specs.Prelude.{ℕ, List, ◌++◌, codes, decimal, Option, Some,
 use Rattle.auction_core.specs.declared.record.Record.{Record}
 use Rattle.transcript_text.specs.declared.error.TextErr.{TextErr}
 use Rattle.transcript_text.specs.declared.error.TextErr.TheVariants.{Version, BadLine, Truncated, NoMemory}
-use Rattle.transcript_text.specs.declared.transcript.Transcript.{Transcript}
+use Rattle.auction_core.specs.declared.transcript.Transcript.{Transcript}
 use Rattle.transcript_text.specs.Named.{HasFileChannels, IsNamed}
 use Rattle.transcript_text.specs.Reading.{transcript_of}
-use Rattle.transcript_check.specs.declared.error.ShownWhy.{ShownWhy}
-use Rattle.transcript_check.specs.declared.error.ShownWhy.TheVariants.{Order, NotValid}
-use Rattle.transcript_check.specs.NotShown.{NotShown, not_shown}
+use Rattle.auction_core.specs.declared.prefix.ShownWhy.{ShownWhy}
+use Rattle.auction_core.specs.declared.prefix.ShownWhy.TheVariants.{Order, NotValid}
+use Rattle.auction_core.specs.NotShown.{NotShown, not_shown}
 use Rattle.transcript_check.specs.Sound.{transcript_record}
 use Rattle.auction_cmd.specs.declared.fault.TranscriptFault.{TranscriptFault}
 use Rattle.auction_cmd.specs.declared.fault.TranscriptFault.TheVariants.{Unread, Unshown}

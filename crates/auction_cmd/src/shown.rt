@@ -19,6 +19,7 @@ use crate::inputs::{FILE_LIMIT, Inputs, read_inputs};
 use crate::says::say;
 use crate::words::VerifyArgs;
 use auction_core::record::Record;
+use auction_core::transcript::Transcript;
 use outside_io::folder::{Folder, LoadErr};
 use outside_io::sink::Sink;
 use std::alloc::Global;
@@ -27,7 +28,6 @@ use transcript_check::verify::verify as check_transcript;
 use transcript_text::TextErr;
 use transcript_text::again::is_named;
 use transcript_text::reader::TranscriptReader;
-use transcript_text::transcript::Transcript;
 
 /// The inputs, and the record that a transcript of their auction shows.
 #[derive(Drop)]

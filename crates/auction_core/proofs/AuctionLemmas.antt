@@ -2,7 +2,6 @@
 use Rattle.std.proofs.Common.{◌≡◌, ℕ, ◌-◌, ◌≤◌, Bool, true, false, ◌&&◌, nat_lt, if◌then◌else◌, List, [], ◌∷◌, ◌++◌, length, Option, Some, None, option_and_then, refl, sym, ap, ◌∙◌, subst, arith}
 use Rattle.std.proofs.lemmas.Bool.{and_parts, cond-true, lt-ltb, ltb-true}
 use Rattle.pack_defs.specs.Book.{BookView, IsInOrder}
-use Rattle.pack_defs.specs.declared.order.Order.{Order}
 use Rattle.pack_defs.specs.declared.scenario.Scenario.{Scenario}
 use Rattle.cert_types.specs.declared.answer.Answer.{Answer}
 use Rattle.cert_types.specs.declared.answer.Answer.TheVariants.{Fit}
@@ -14,45 +13,30 @@ use Rattle.auction_core.specs.declared.posting.Said.TheVariants.{Good, Bad}
 use Rattle.auction_core.specs.Auction.{IsBetween, IsReady, IsReplayed, entry_told, let_through, spare_of, state_at}
 use Rattle.auction_core.specs.Clockwork.{ClockworkView}
 use Rattle.auction_core.specs.Notes.{NotesView}
-use Rattle.auction_core.specs.Replay.{EntryView, after_entry, kept_answer, replay, replay_from, stands}
+use Rattle.auction_core.specs.Replay.{EntryView, after_entry, kept_answer, replay_from, stands}
 use Rattle.auction_core.specs.Rule.{IsAuction, KeepsTheRule}
 use Rattle.auction_core.specs.Said.{AnswersIfGood, IsSaidOf, MayBeTaken, StandsFor, taken, with_answer}
 use Rattle.auction_core.specs.Setup.{IsOfAuction}
-use Rattle.auction_core.specs.State.{CoreState, opening}
+use Rattle.auction_core.specs.State.{CoreState}
 use Rattle.auction_core.specs.Take.{is_noted, turned_away}
-use Rattle.auction_core.proofs.Kept.{kept-rule}
-use Rattle.auction_core.proofs.Keeps.{opening-keeps}
+use Rattle.auction_core.proofs.Kept.{kept-rule, rule-kept}
 use Rattle.auction_core.proofs.Looked.{looked}
-use Rattle.auction_core.proofs.Orders.{opening-order, replay-order}
+use Rattle.auction_core.proofs.Orders.{replay-order}
 use Rattle.auction_core.proofs.Replays.{replay-keeps, take-leads, turned-cases, turned-leads}
-use Rattle.auction_core.proofs.TakingLemmas.{opening-is, taken-told, taken-turned}
+use Rattle.auction_core.proofs.TakingLemmas.{taken-told, taken-turned}
 
 pub is-auction : (sc : Scenario) (book : BookView) → IsOfAuction sc book → IsInOrder book → IsAuction sc book
 is-auction sc book a o = let some = a.limits.some_worker in record { stations = a.limits.ascend; in_order = o; workers = omega arith }
 
 -- an auction whose history replays to its state keeps the rule
-pub replayed-rule : (sc : Scenario) (book : BookView) (history : List EntryView) (state : CoreState) → IsReplayed sc book history state → KeepsTheRule sc book state
-unfolding replay
-replayed-rule sc book history state h =
+pub replayed-rule : (sc : Scenario) (book : BookView) (opened : CoreState) (history : List EntryView) (state : CoreState) → IsReplayed sc book opened history state → KeepsTheRule sc book state
+replayed-rule sc book opened history state h =
     let a = is-auction sc book h.auction h.in_order in
-    kept-rule sc book state (replay-keeps sc book history (opening sc book state.order) state a (opening-keeps sc book state.order a) h.replays)
+    kept-rule sc book state (replay-keeps sc book history opened state a (rule-kept sc book opened h.kept) h.replays)
 
--- a history replays to a state of its own order
-replayed-order : (sc : Scenario) (book : BookView) (order : Order) (history : List EntryView) (state : CoreState) → replay sc book order history ≡ Some state → state.order ≡ order
-unfolding replay
-replayed-order sc book order history state h = replay-order sc book history (opening sc book order) state h ∙ opening-order sc book order
-
-none-replays : (sc : Scenario) (book : BookView) (order : Order) → replay sc book order [] ≡ Some (opening sc book order)
-unfolding replay
-none-replays sc book order = refl
-
--- with no entry the state is the opening
-none-replayed : (sc : Scenario) (book : BookView) (order : Order) → IsOfAuction sc book → IsInOrder book → IsReplayed sc book [] (opening sc book order)
-none-replayed sc book order a o = record {
-  auction = a;
-  in_order = o;
-  replays = subst (λ r. replay sc book r [] ≡ Some (opening sc book order)) (sym (opening-order sc book order)) (none-replays sc book order);
-}
+-- with no entry the state is the one in which it was opened
+none-replayed : (sc : Scenario) (book : BookView) (opened : CoreState) → IsOfAuction sc book → IsInOrder book → KeepsTheRule sc book opened → IsReplayed sc book opened [] opened
+none-replayed sc book opened a o k = record { auction = a; in_order = o; kept = k; replays = refl }
 
 -- ---- one entry more
 
@@ -66,10 +50,6 @@ from-push sc book (x ∷ xs) e at state new h k =
       | Some next ↦ λ r. from-push sc book xs e next state new r k
     ] in
     go (after_entry sc book at x x.answer) h
-
-push : (sc : Scenario) (book : BookView) (order : Order) (es : List EntryView) (e : EntryView) (state new : CoreState) → replay sc book order es ≡ Some state → after_entry sc book state e e.answer ≡ Some new → replay sc book order (es ++ e ∷ []) ≡ Some new
-unfolding replay
-push sc book order es e state new h k = from-push sc book es e (opening sc book order) state new h k
 
 -- the entry of a posting that was told this leads to this state
 abbrev Leads : Scenario → BookView → CoreState → Posting → Reply → CoreState → Type 0
@@ -112,40 +92,46 @@ taken-leads sc book state posting h =
     go (turned_away sc state posting.worker posting.number) refl
 
 -- with the entry of a posting that may be taken, the history replays to the state after it
-told-replays : (sc : Scenario) (book : BookView) (history : List EntryView) (state new : CoreState) (posting : Posting) (reply : Reply) → IsReplayed sc book history state → MayBeTaken sc book state posting → (reply, new) ≡ taken sc book state posting → replay sc book state.order (history ++ entry_told posting reply ∷ []) ≡ Some new
-told-replays sc book history state new posting reply h may e =
-    push sc book state.order history (entry_told posting reply) state new h.replays (subst (LeadsBy sc book state posting posting.said) (sym e) (taken-leads sc book state posting may))
+told-replays : (sc : Scenario) (book : BookView) (opened : CoreState) (history : List EntryView) (state new : CoreState) (posting : Posting) (reply : Reply) → IsReplayed sc book opened history state → MayBeTaken sc book state posting → (reply, new) ≡ taken sc book state posting → replay_from sc book (history ++ entry_told posting reply ∷ []) opened ≡ Some new
+told-replays sc book opened history state new posting reply h may e =
+    from-push sc book history (entry_told posting reply) opened state new h.replays (subst (LeadsBy sc book state posting posting.said) (sym e) (taken-leads sc book state posting may))
 
 -- which has the same order
-pub told-order : (sc : Scenario) (book : BookView) (history : List EntryView) (state new : CoreState) (posting : Posting) (reply : Reply) → IsReplayed sc book history state → MayBeTaken sc book state posting → (reply, new) ≡ taken sc book state posting → new.order ≡ state.order
-told-order sc book history state new posting reply h may e =
-    replayed-order sc book state.order (history ++ entry_told posting reply ∷ []) new (told-replays sc book history state new posting reply h may e)
+pub told-order : (sc : Scenario) (book : BookView) (opened : CoreState) (history : List EntryView) (state new : CoreState) (posting : Posting) (reply : Reply) → IsReplayed sc book opened history state → MayBeTaken sc book state posting → (reply, new) ≡ taken sc book state posting → new.order ≡ state.order
+told-order sc book opened history state new posting reply h may e =
+    replay-order sc book (history ++ entry_told posting reply ∷ []) opened new (told-replays sc book opened history state new posting reply h may e)
+    ∙ sym (replay-order sc book history opened state h.replays)
 
-told-replayed : (sc : Scenario) (book : BookView) (history : List EntryView) (state new : CoreState) (posting : Posting) (reply : Reply) → IsReplayed sc book history state → MayBeTaken sc book state posting → (reply, new) ≡ taken sc book state posting → IsReplayed sc book (history ++ entry_told posting reply ∷ []) new
-told-replayed sc book history state new posting reply h may e = record {
+told-replayed : (sc : Scenario) (book : BookView) (opened : CoreState) (history : List EntryView) (state new : CoreState) (posting : Posting) (reply : Reply) → IsReplayed sc book opened history state → MayBeTaken sc book state posting → (reply, new) ≡ taken sc book state posting → IsReplayed sc book opened (history ++ entry_told posting reply ∷ []) new
+told-replayed sc book opened history state new posting reply h may e = record {
   auction = h.auction;
   in_order = h.in_order;
-  replays = subst (λ o. replay sc book o (history ++ entry_told posting reply ∷ []) ≡ Some new) (sym (told-order sc book history state new posting reply h may e)) (told-replays sc book history state new posting reply h may e);
+  kept = h.kept;
+  replays = told-replays sc book opened history state new posting reply h may e;
 }
 
 -- ---- what the program keeps
 
--- the same scenario and book in other words
-moved : (sc sc' : Scenario) (book book' : BookView) (history : List EntryView) (state state' : CoreState) → sc' ≡ sc → book' ≡ book → state' ≡ state → IsReplayed sc book history state → IsReplayed sc' book' history state'
-moved sc sc' book book' history state state' e f g h =
-    subst (λ x. IsReplayed x book' history state') (sym e) (subst (λ x. IsReplayed sc x history state') (sym f) (subst (IsReplayed sc book history) (sym g) h))
+-- with nothing noted the auction stands where its clock does
+pub state-of-clock : (clockwork : ClockworkView) (notes : NotesView) → clockwork.state.noted ≡ [] → notes.noted ≡ [] → state_at clockwork notes ≡ clockwork.state
+state-of-clock clockwork notes e n = ap (λ noted. record clockwork.state { noted = noted }) (n ∙ sym e)
 
-pub first-between : (sc : Scenario) (book : BookView) (order : Order) (clockwork : ClockworkView) (notes : NotesView) → IsOfAuction sc book → IsInOrder book → clockwork.scenario ≡ sc → clockwork.book ≡ book → clockwork.state ≡ opening sc book order → notes.workers ≡ length clockwork.scenario.workers → notes.noted ≡ [] → IsBetween clockwork notes []
-first-between sc book order clockwork notes a o e f g w n = record {
+pub first-between : (clockwork : ClockworkView) (notes : NotesView) → IsOfAuction clockwork.scenario clockwork.book → IsInOrder clockwork.book → KeepsTheRule clockwork.scenario clockwork.book clockwork.state → clockwork.state.noted ≡ [] → notes.workers ≡ length clockwork.scenario.workers → notes.noted ≡ [] → IsBetween clockwork notes clockwork.state []
+first-between clockwork notes a o k e w n = record {
   places = w;
-  replayed = moved sc clockwork.scenario book clockwork.book [] (opening sc book order) (state_at clockwork notes) e f (opening-is sc book order clockwork.state notes.noted g n) (none-replayed sc book order a o);
+  replayed = subst (IsReplayed clockwork.scenario clockwork.book clockwork.state []) (sym (state-of-clock clockwork notes e n)) (none-replayed clockwork.scenario clockwork.book clockwork.state a o k);
 }
 
-pub told-between : (old new : ClockworkView) (before after : NotesView) (history : List EntryView) (posting : Posting) (reply : Reply) → IsBetween old before history → MayBeTaken old.scenario old.book (state_at old before) posting → (reply, state_at new after) ≡ taken old.scenario old.book (state_at old before) posting → new.scenario ≡ old.scenario → new.book ≡ old.book → after.workers ≡ before.workers → IsBetween new after (history ++ entry_told posting reply ∷ [])
-told-between old new before after history posting reply h may t e f w = record {
+-- the same scenario and book in other words
+moved : (sc sc' : Scenario) (book book' : BookView) (opened : CoreState) (history : List EntryView) (state : CoreState) → sc' ≡ sc → book' ≡ book → IsReplayed sc book opened history state → IsReplayed sc' book' opened history state
+moved sc sc' book book' opened history state e f h =
+    subst (λ x. IsReplayed x book' opened history state) (sym e) (subst (λ x. IsReplayed sc x opened history state) (sym f) h)
+
+pub told-between : (old new : ClockworkView) (before after : NotesView) (opened : CoreState) (history : List EntryView) (posting : Posting) (reply : Reply) → IsBetween old before opened history → MayBeTaken old.scenario old.book (state_at old before) posting → (reply, state_at new after) ≡ taken old.scenario old.book (state_at old before) posting → new.scenario ≡ old.scenario → new.book ≡ old.book → after.workers ≡ before.workers → IsBetween new after opened (history ++ entry_told posting reply ∷ [])
+told-between old new before after opened history posting reply h may t e f w = record {
   places = w ∙ (h.places ∙ sym (ap (λ (sc : Scenario). length sc.workers) e));
-  replayed = moved old.scenario new.scenario old.book new.book (history ++ entry_told posting reply ∷ []) (state_at new after) (state_at new after) e f refl
-      (told-replayed old.scenario old.book history (state_at old before) (state_at new after) posting reply h.replayed may t);
+  replayed = moved old.scenario new.scenario old.book new.book opened (history ++ entry_told posting reply ∷ []) (state_at new after) e f
+      (told-replayed old.scenario old.book opened history (state_at old before) (state_at new after) posting reply h.replayed may t);
 }
 
 one-kept : (x y : Bool) → (x ≡ true → y ≡ true) → (if x then 1 else 0) ≤ (if y then 1 else 0)
@@ -170,12 +156,12 @@ some-spare true false entries h = absurd (omega arith)
 some-spare false b entries h = absurd (omega arith)
 
 -- where there is room for a posting, all is ready for it
-pub spare-ready : (clockwork : ClockworkView) (notes : NotesView) (history : List EntryView) (entries : ℕ) → IsBetween clockwork notes history → 1 ≤ spare_of clockwork notes entries → IsReady clockwork notes
-spare-ready clockwork notes history entries h s =
+pub spare-ready : (clockwork : ClockworkView) (notes : NotesView) (opened : CoreState) (history : List EntryView) (entries : ℕ) → IsBetween clockwork notes opened history → 1 ≤ spare_of clockwork notes entries → IsReady clockwork notes
+spare-ready clockwork notes opened history entries h s =
     let room = some-spare clockwork.ready notes.ready entries s in
     record {
       steps = room.0;
       receipts = room.1;
       places = h.places;
-      rule = replayed-rule clockwork.scenario clockwork.book history (state_at clockwork notes) h.replayed;
+      rule = replayed-rule clockwork.scenario clockwork.book opened history (state_at clockwork notes) h.replayed;
     }

@@ -2,7 +2,6 @@
 use Rattle.std.proofs.Common.{◌≡◌, ℕ, ◌+◌, Bool, true, false, if◌then◌else◌, List, [], ◌∷◌, Option, Some, None, is_none, refl, sym, ap, ◌∙◌, subst, MatchOption}
 use Rattle.std.specs.Option.{option_map_or}
 use Rattle.pack_defs.specs.Book.{BookView}
-use Rattle.pack_defs.specs.declared.order.Order.{Order}
 use Rattle.pack_defs.specs.declared.scenario.Scenario.{Scenario}
 use Rattle.pack_defs.specs.ClockRule.{ClockTest, clock_tests}
 use Rattle.pack_defs.specs.ChannelMap.{overlaid}
@@ -14,7 +13,7 @@ use Rattle.auction_core.specs.declared.record.Shown.{Shown}
 use Rattle.auction_core.specs.Backed.{IsSettledBy}
 use Rattle.auction_core.specs.Rule.{SettlesQuery}
 use Rattle.auction_core.specs.Said.{taken, told}
-use Rattle.auction_core.specs.State.{CoreState, NotedSpent, answered, before_start, go_on, has_ended, opening, past_first, settled, shows_room, start_delta, start_unasked, started, task_of}
+use Rattle.auction_core.specs.State.{CoreState, NotedSpent, answered, go_on, has_ended, past_first, settled, shows_room, start_delta, started, task_of}
 use Rattle.auction_core.specs.Take.{advanced, turned_away}
 use Rattle.auction_core.proofs.Keeps.{go-on-start}
 
@@ -37,22 +36,6 @@ started-none sc book state shown e =
       | false ↦ e
     ] in
     go (shows_room shown)
-
--- nor does an opening
-opening-noted : (sc : Scenario) (book : BookView) (order : Order) → (opening sc book order).noted ≡ []
-unfolding opening
-opening-noted sc book order =
-    let first : CoreState = before_start sc order in
-    let go : (o : Option Shown) → (option_map_or (started sc book first) o first).noted ≡ [] = λ o. elim o as (λ o. (option_map_or (started sc book first) o first).noted ≡ []) [
-      | None ↦ refl
-      | Some shown ↦ started-none sc book first shown refl
-    ] in
-    go (start_unasked sc book)
-
--- with none noted a state that opens so is the opening
-pub opening-is : (sc : Scenario) (book : BookView) (order : Order) (state : CoreState) (noted : List NotedSpent) → state ≡ opening sc book order → noted ≡ [] → record state { noted = noted } ≡ opening sc book order
-opening-is sc book order state noted e n =
-    ap (λ ns. record state { noted = ns }) (n ∙ sym (ap (λ s. s.noted) e ∙ opening-noted sc book order)) ∙ e
 
 past-none : (sc : Scenario) (book : BookView) (state : CoreState) (shown : Shown) (ts : List ClockTest) → state.noted ≡ [] → (past_first sc book state shown ts).noted ≡ []
 past-none sc book state shown [] e = e

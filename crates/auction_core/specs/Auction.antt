@@ -10,16 +10,17 @@ use Rattle.auction_core.specs.declared.posting.Said.{Said}
 use Rattle.auction_core.specs.declared.posting.Said.TheVariants.{Good, Bad}
 use Rattle.auction_core.specs.Clockwork.{ClockworkView}
 use Rattle.auction_core.specs.Notes.{NotesView}
-use Rattle.auction_core.specs.Replay.{EntryView, kept_answer, replay}
+use Rattle.auction_core.specs.Replay.{EntryView, kept_answer, replay_from}
 use Rattle.auction_core.specs.Rule.{KeepsTheRule}
 use Rattle.auction_core.specs.Setup.{IsOfAuction}
 use Rattle.auction_core.specs.State.{CoreState}
 
--- The auction's scenario and book, its state, what it keeps of each posting so far, and for how many postings more there
--- is room.
+-- The auction's scenario and book, the state in which it was opened, its state now, what it keeps of each posting since it was
+-- opened, and for how many postings more there is room.
 pub record AuctionView : Type 0 where
   pub scenario : Scenario
   pub book : BookView
+  pub opened : CoreState
   pub state : CoreState
   pub history : List EntryView
   pub spare : ℕ
@@ -39,16 +40,19 @@ pub record IsReady (clockwork : ClockworkView) (notes : NotesView) : Type 0 wher
 abbrev pub spare_of : ClockworkView → NotesView → ℕ → ℕ
 spare_of clockwork notes entries = if clockwork.ready && (notes.ready && nat_lt 0 entries) then 1 else 0
 
--- The scenario and the book are an auction's, and the history replays to the state in the state's order.
-pub record IsReplayed (sc : Scenario) (book : BookView) (history : List EntryView) (state : CoreState) : Type 0 where
+-- The scenario and the book are an auction's, the state in which it was opened keeps the clock rule, and from that state the
+-- history replays to the state.
+pub record IsReplayed (sc : Scenario) (book : BookView) (opened : CoreState) (history : List EntryView) (state : CoreState) : Type 0 where
   pub auction : IsOfAuction sc book
   pub in_order : IsInOrder book
-  pub replays : replay sc book state.order history ≡ Some state
+  pub kept : KeepsTheRule sc book opened
+  pub replays : replay_from sc book history opened ≡ Some state
 
--- What the program keeps between two postings: a place for each worker's receipt, and a history that replays to the state.
-pub record IsBetween (clockwork : ClockworkView) (notes : NotesView) (history : List EntryView) : Type 0 where
+-- What the program keeps between two postings: a place for each worker's receipt, and a history that replays to the state
+-- from that in which the auction was opened.
+pub record IsBetween (clockwork : ClockworkView) (notes : NotesView) (opened : CoreState) (history : List EntryView) : Type 0 where
   pub places : notes.workers ≡ length clockwork.scenario.workers
-  pub replayed : IsReplayed clockwork.scenario clockwork.book history (state_at clockwork notes)
+  pub replayed : IsReplayed clockwork.scenario clockwork.book opened history (state_at clockwork notes)
 
 -- the answer that was let through
 abbrev pub let_through : Said → Option Answer

@@ -1,14 +1,18 @@
 //! An auction: what each posting of a worker does, whoever posts it and when.
 
 ghost use Rattle.std.specs.Arc.{arc_value};
-ghost use Rattle.std.specs.Prelude.{◌≡◌, ◌≤◌, ◌+◌, ◌++◌, ◌∷◌, [], IfOk, MatchOption, OnOk, Some, ⊤, length, option_and_then, option_map, true};
+ghost use Rattle.std.specs.Prelude.{◌≡◌, ◌≤◌, ◌+◌, ◌++◌, ◌∷◌, [], IfErr, IfOk, MatchOption, None, OnOk, Some, ⊤, length, option_and_then, option_map, true};
 ghost use Rattle.cert_types.specs.Certificate.{IsTaskOf};
 ghost use Rattle.cert_types.specs.Query.{IsQuery};
 ghost use Rattle.cert_types.specs.declared.answer.Answer.{Answer};
 ghost use Rattle.pack_defs.specs.Scenario.{with_owners};
 ghost use Rattle.auction_core.specs.Auction.{entry_told, let_through};
 ghost use Rattle.auction_core.specs.Backed.{IsBacked, record_of};
-ghost use Rattle.auction_core.specs.Replay.{kept_answer, replay};
+ghost use Rattle.auction_core.specs.LogNumbers.{steps_in};
+ghost use Rattle.auction_core.specs.NotShown.{Explains, not_kept, order_kept};
+ghost use Rattle.auction_core.specs.Postings.{GoesOn};
+ghost use Rattle.auction_core.specs.Prefix.{IsPrefix, resumed};
+ghost use Rattle.auction_core.specs.Replay.{kept_answer, replay_from};
 ghost use Rattle.auction_core.specs.Rule.{KeepsTheRule};
 ghost use Rattle.auction_core.specs.Said.{MayBeTaken, StandsFor, taken, with_answer};
 ghost use Rattle.auction_core.specs.Setup.{IsOfAuction};
@@ -16,8 +20,10 @@ ghost use Rattle.auction_core.specs.State.{has_ended, opening, task_of};
 ghost use Rattle.auction_core.specs.Take.{is_noted, take};
 
 use crate::clockwork::Clockwork;
+use crate::follow::follow_kept;
 use crate::notes::Notes;
 use crate::posting::{Entry, Posting, Reply, Said};
+use crate::prefix::{Prefix, ResumeErr};
 use crate::record::Record;
 use crate::taking::tell;
 use cert_types::answer::Answer;
@@ -32,9 +38,11 @@ use std::marker::Model;
 use std::snapshot::Snapshot;
 use std::sync::Arc;
 
-/// An auction between two postings. It keeps what each posting was told, and keeps the clock rule whatever is posted.
+/// An auction between two postings. It keeps what each posting was told since it was opened, and keeps the clock rule whatever
+/// is posted. The state in which it was opened stands in proofs alone and takes no memory.
 #[derive(Drop)]
 pub struct Auction {
+    opened: Snapshot<Clockwork>,
     clockwork: Clockwork,
     notes: Notes,
     history: Vec<Entry>,
@@ -49,12 +57,13 @@ impl Model for Auction {
     ghost view = { λ a. record {
       scenario = a.clockwork.scenario;
       book = a.clockwork.book;
+      opened = a.opened.value.state;
       state = state_at a.clockwork a.notes;
       history = a.history.items;
       spare = spare_of a.clockwork a.notes (vec_capacity a.history - vec_len a.history);
     } };
 
-    ghost invariant = { λ a. IsBetween a.clockwork a.notes a.history.items };
+    ghost invariant = { λ a. IsBetween a.clockwork a.notes a.opened.value.state a.history.items };
 }
 
 impl Auction {
@@ -69,18 +78,64 @@ impl Auction {
         requires { IsOfAuction sc.now book.now }
         ensures scenario { IfOk result (λ auction. auction.scenario ≡ sc.now) }
         ensures book { IfOk result (λ auction. auction.book ≡ book.now) }
+        ensures opened { IfOk result (λ auction. auction.opened ≡ opening sc.now book.now order) }
         ensures state { IfOk result (λ auction. auction.state ≡ opening sc.now book.now order) }
         ensures history { IfOk result (λ auction. auction.history ≡ []) }
     {
-        // With its length a book says that it is in order, which the history's laws ask of it.
-        let _ = book.len();
         let clockwork = Clockwork::open(alloc, sc, book, order)?;
+        Auction::of(alloc, clockwork)
+    }
+
+    /// The auction that goes on where the clock stands, at its standing query or at its end. Its history begins there. The only
+    /// error is want of memory.
+    pub(crate) fn of(alloc: Global, clockwork: Clockwork) -> Result<Auction, NoMemory>
+        ensures scenario { IfOk result (λ auction. auction.scenario ≡ clockwork.scenario) }
+        ensures book { IfOk result (λ auction. auction.book ≡ clockwork.book) }
+        ensures opened { IfOk result (λ auction. auction.opened ≡ clockwork.state) }
+        ensures state { IfOk result (λ auction. auction.state ≡ clockwork.state) }
+        ensures history { IfOk result (λ auction. auction.history ≡ []) }
+    {
+        // For its clauses alone: that no receipt is noted, and the rule that the state keeps.
+        clockwork.keeps_the_rule();
         let notes = Notes::of_none(alloc, clockwork.workers().len())?;
+        let opened = Snapshot::of(&clockwork);
         Ok(Auction {
+            opened,
             clockwork,
             notes,
             history: Vec::new(alloc),
         })
+    }
+
+    /// The auction of this scenario and book that goes on where what is kept of a transcript ends: its start and each kept step
+    /// stand as they were shown, and its next query is the clock rule's next. Its rounds test in the order that the transcript's
+    /// first line names, by volume where that line is missing. It keeps a copy of the scenario and the book, and moves the
+    /// certificates; it costs what they cost to check, and what each query costs to put. No solver is asked.
+    ///
+    /// # Errors
+    ///
+    /// The first kept step that is not the clock rule's next test, or whose certificate is not valid, and why; an end that comes
+    /// too soon, as a step out of order behind the last; or want of memory.
+    pub fn resume(
+        alloc: Global,
+        sc: &Scenario,
+        book: &Book,
+        prefix: Prefix,
+    ) -> Result<Auction, ResumeErr>
+        requires { IsOfAuction sc.now book.now }
+        ensures none { IfOk result (λ auction. not_kept sc.now book.now prefix ≡ None) }
+        ensures kept { IfOk result (λ auction. IsPrefix sc.now book.now (order_kept prefix) prefix.start (steps_in prefix.steps)) }
+        ensures scenario { IfOk result (λ auction. auction.scenario ≡ sc.now) }
+        ensures book { IfOk result (λ auction. auction.book ≡ book.now) }
+        ensures opened { IfOk result (λ auction. auction.opened ≡ resumed sc.now book.now (order_kept prefix) prefix.start (steps_in prefix.steps)) }
+        ensures state { IfOk result (λ auction. auction.state ≡ resumed sc.now book.now (order_kept prefix) prefix.start (steps_in prefix.steps)) }
+        ensures history { IfOk result (λ auction. auction.history ≡ []) }
+        ensures why { IfErr result (λ e. Explains e (not_kept sc.now book.now prefix)) }
+    {
+        // With its length a book says that it is in order, which the laws ask of it.
+        let _ = book.len();
+        let clockwork = follow_kept(alloc, book, sc, prefix)?;
+        Ok(Auction::of(alloc, clockwork)?)
     }
 
     /// The live auction of this scenario: its owners say these lines, and their values stand for nothing. It starts as
@@ -95,6 +150,7 @@ impl Auction {
         requires { IsOfAuction sc.now book.now }
         ensures scenario { IfOk result (λ auction. auction.scenario ≡ with_owners sc.now (Some owners.now)) }
         ensures book { IfOk result (λ auction. auction.book ≡ book.now) }
+        ensures opened { IfOk result (λ auction. auction.opened ≡ opening (with_owners sc.now (Some owners.now)) book.now order) }
         ensures state { IfOk result (λ auction. auction.state ≡ opening (with_owners sc.now (Some owners.now)) book.now order) }
         ensures history { IfOk result (λ auction. auction.history ≡ []) }
     {
@@ -146,12 +202,15 @@ impl Auction {
         self.notes.has(worker)
     }
 
-    /// How many postings there were. What each was told replays to the state, in the order in which its rounds test, and the
-    /// state keeps the clock rule.
+    /// How many postings there were since the auction was opened. From the state in which it was opened, what each was told
+    /// replays to the state, which keeps the clock rule. It has the order of that state, begins with its steps, and none of the
+    /// others is shown by a proof from outside.
     pub fn posted(&self) -> u64
         ensures count { result ≡ length self.now.history }
-        ensures replays { replay self.now.scenario self.now.book self.now.state.order self.now.history ≡ Some self.now.state }
+        ensures replays { replay_from self.now.scenario self.now.book self.now.history self.now.opened ≡ Some self.now.state }
         ensures rule { KeepsTheRule self.now.scenario self.now.book self.now.state }
+        ensures order { self.now.state.order ≡ self.now.opened.order }
+        ensures goes_on { GoesOn self.now.opened self.now.state }
     {
         self.history.len() as u64
     }
@@ -173,6 +232,7 @@ impl Auction {
         ensures kept { self.old.spare ≤ self.new.spare }
         ensures scenario { self.new.scenario ≡ self.old.scenario }
         ensures book { self.new.book ≡ self.old.book }
+        ensures opened { self.new.opened ≡ self.old.opened }
         ensures state { self.new.state ≡ self.old.state }
         ensures history { self.new.history ≡ self.old.history }
     {
@@ -199,6 +259,7 @@ impl Auction {
         ensures room { self.old.spare ≤ self.new.spare + 1 }
         ensures scenario { self.new.scenario ≡ self.old.scenario }
         ensures book { self.new.book ≡ self.old.book }
+        ensures opened { self.new.opened ≡ self.old.opened }
     {
         let worker = posting.worker;
         let number = posting.number;

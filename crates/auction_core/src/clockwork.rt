@@ -1,11 +1,12 @@
 //! An auction between two queries, whoever answers them.
 
 ghost use Rattle.std.specs.Arc.{arc_value};
-ghost use Rattle.std.specs.Prelude.{◌≡◌, ◌≢◌, ℕ, None, Some, IfOk, MatchOption, OnOk, ⊤, false, true};
+ghost use Rattle.std.specs.Prelude.{◌≡◌, ◌≢◌, ℕ, [], None, Some, IfOk, MatchOption, OnOk, ⊤, false, true};
 ghost use Rattle.cert_types.specs.Query.{IsQuery};
+ghost use Rattle.pack_defs.specs.Book.{IsInOrder};
 ghost use Rattle.auction_core.specs.Backed.{IsBacked, record_of};
 ghost use Rattle.auction_core.specs.Course.{IsAtRest, IsCourse, core_state};
-ghost use Rattle.auction_core.specs.Rule.{SettlesQuery};
+ghost use Rattle.auction_core.specs.Rule.{KeepsTheRule, SettlesQuery};
 ghost use Rattle.auction_core.specs.Setup.{IsOfAuction};
 ghost use Rattle.auction_core.specs.State.{answered, has_ended, opening, start_fits, start_task, task_of};
 
@@ -70,6 +71,17 @@ impl Clockwork {
             course,
             number: 1,
         })
+    }
+
+    /// What may be relied on: the scenario and the book are an auction's, and the book is in order; the state keeps the clock
+    /// rule, and no receipt is noted in it.
+    pub fn keeps_the_rule(&self)
+        ensures auction { IsOfAuction self.now.scenario self.now.book }
+        ensures in_order { IsInOrder self.now.book }
+        ensures rule { KeepsTheRule self.now.scenario self.now.book self.now.state }
+        ensures unnoted { self.now.state.noted ≡ [] }
+    {
+        let _number = self.number;
     }
 
     /// The book.

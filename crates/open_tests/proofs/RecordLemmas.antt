@@ -15,12 +15,13 @@ use Rattle.auction_core.specs.Backed.{IsBacked, IsCarriedThrough, IsEnded, after
 use Rattle.auction_core.specs.Rule.{IsAuction}
 use Rattle.auction_core.proofs.Done.{asked-apart}
 use Rattle.result_text.proofs.StepLemmas.{backed-clock, carried-through}
-use Rattle.transcript_text.specs.declared.transcript.Transcript.{Transcript}
+use Rattle.auction_core.specs.declared.transcript.Transcript.{Transcript}
 use Rattle.transcript_text.specs.Spelling.{transcript_for, transcript_steps}
-use Rattle.transcript_check.specs.NotShown.{not_shown, start_fault, step_or, steps_fault}
-use Rattle.transcript_check.specs.Sound.{steps_in, transcript_record}
+use Rattle.auction_core.specs.NotShown.{not_shown, start_fault, step_or, steps_fault}
+use Rattle.auction_core.specs.LogNumbers.{steps_in}
+use Rattle.transcript_check.specs.Sound.{transcript_record}
 use Rattle.transcript_check.proofs.SoundLemmas.{shown-sound, sound-shown, transcript-sound, transcript-steps-same}
-use Rattle.transcript_check.proofs.WalkLemmas.{step_or-parts}
+use Rattle.auction_core.proofs.WalkLemmas.{step_or-parts}
 use Rattle.open_tests.specs.Queries.{state_before, step_at}
 use Rattle.open_tests.specs.Settled.{IsLeftOpen, RefutesStep, settled_by, shown_outside, without_test}
 use Rattle.open_tests.proofs.AlikeLemmas.{HaveMoved}

@@ -13,12 +13,12 @@ use Rattle.auction_core.specs.declared.record.Shown.TheVariants.{Empty, Fits, Sa
 use Rattle.auction_core.specs.declared.record.Step.{Step}
 use Rattle.auction_core.specs.State.{CoreState, is_same, settled, test_of, test_task, tested_set}
 use Rattle.auction_core.specs.Backed.{IsSettledBy, IsStepShown, is_undecided}
-use Rattle.transcript_text.specs.declared.transcript.TranscriptStep.{TranscriptStep}
+use Rattle.auction_core.specs.declared.transcript.TranscriptStep.{TranscriptStep}
 use Rattle.transcript_text.specs.Spelling.{transcript_step, transcript_steps}
-use Rattle.transcript_check.specs.declared.error.ShownWhy.TheVariants.{Order}
-use Rattle.transcript_check.specs.NotShown.{NotShown, at_test, is_test, next_asked, not_shown_at, query_fault, step_fault, step_or, steps_fault, unasked_fault}
-use Rattle.transcript_check.proofs.StepLemmas.{step-none, step-shown}
-use Rattle.transcript_check.proofs.WalkLemmas.{step_or-parts}
+use Rattle.auction_core.specs.declared.prefix.ShownWhy.TheVariants.{Order}
+use Rattle.auction_core.specs.NotShown.{NotShown, at_test, is_test, next_asked, not_shown_at, query_fault, step_fault, step_or, steps_fault, unasked_fault}
+use Rattle.auction_core.proofs.StepLemmas.{step-none, step-shown}
+use Rattle.auction_core.proofs.WalkLemmas.{step_or-parts}
 use Rattle.open_tests.specs.Settled.{shown_outside}
 use Rattle.open_tests.proofs.AlikeLemmas.{AreAlike, alike-push, alike-same, alike-settled, same-settled, same-unasked, with_steps}
 use Rattle.open_tests.proofs.SettledLemmas.{IsOpenAt, RefutesAt}

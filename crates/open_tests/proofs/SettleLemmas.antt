@@ -22,7 +22,7 @@ use Rattle.lrat_text.specs.LogReading.{log_of}
 use Rattle.lrat_text.specs.declared.error.LratErr.{LratErr}
 use Rattle.lrat_text.specs.declared.error.LratErr.TheVariants.{Truncated, BadLine, RatStep, NoMemory as NoRoom}
 use Rattle.lrat_text.specs.Steps.{Fails as NotRead}
-use Rattle.transcript_text.specs.Spelling.{clauses_in}
+use Rattle.auction_core.specs.LogNumbers.{clauses_in}
 use Rattle.open_tests.specs.Cut.{up_to_empty}
 use Rattle.open_tests.specs.Queries.{state_before, step_at, task_at}
 use Rattle.open_tests.specs.Settled.{IsLeftOpen, RefutesStep, settled_by}

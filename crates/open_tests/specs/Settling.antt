@@ -16,7 +16,7 @@ use Rattle.lrat_text.specs.LogReading.{log_of}
 use Rattle.lrat_text.specs.LogText.{dimacs_text}
 use Rattle.lrat_text.specs.declared.error.LratErr.{LratErr}
 use Rattle.lrat_text.specs.declared.error.LratErr.TheVariants as lrat
-use Rattle.transcript_text.specs.Spelling.{clauses_in}
+use Rattle.auction_core.specs.LogNumbers.{clauses_in}
 use Rattle.open_tests.specs.Cut.{up_to_empty}
 use Rattle.open_tests.specs.Queries.{task_at}
 use Rattle.open_tests.specs.Settled.{settled_by}

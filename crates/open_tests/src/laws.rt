@@ -13,7 +13,7 @@ ghost use Rattle.auction_core.specs.Rule.{IsAuction};
 ghost use Rattle.auction_core.specs.State.{test_of};
 ghost use Rattle.auction_core.specs.declared.record.Record.{Record};
 ghost use Rattle.lrat_text.specs.LogReading.{log_of};
-ghost use Rattle.transcript_text.specs.Spelling.{clauses_in};
+ghost use Rattle.auction_core.specs.LogNumbers.{clauses_in};
 ghost use Rattle.open_tests.specs.Queries.{step_at};
 ghost use Rattle.open_tests.specs.Settled.{IsLeftOpen, RefutesStep, decided_row, settled_by, without_test};
 ghost use Rattle.open_tests.specs.Settling.{cut_proof, set_of_step, settled_text};

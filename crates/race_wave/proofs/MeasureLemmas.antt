@@ -2,25 +2,27 @@
 use Rattle.std.proofs.Common.{length, ◌≡◌, ◌∙◌, ℕ, ◌<◌, ◌==◌, Bool, true, false, not, nat_le, if◌then◌else◌, List, [], ◌∷◌, ◌++◌, Option, Some, None, option_and_then, refl, sym, ap, subst, arith, inl, inr}
 use Rattle.std.proofs.lemmas.Bool.{cases_Bool, true≢false}
 use Rattle.pack_defs.specs.Book.{BookView}
-use Rattle.pack_defs.specs.declared.order.Order.{Order}
 use Rattle.pack_defs.specs.declared.scenario.Scenario.{Scenario}
 use Rattle.cert_types.specs.declared.answer.Answer.{Answer}
 use Rattle.auction_core.specs.Auction.{AuctionView}
+use Rattle.auction_core.specs.Clockwork.{ClockworkView}
 use Rattle.auction_core.specs.declared.posting.Reply.{Reply}
 use Rattle.auction_core.specs.declared.posting.Reply.TheVariants.{Ended, WrongQuery, Stranger}
 use Rattle.auction_core.specs.declared.record.Shown.TheVariants.{Fits, Refuted, Undecided}
-use Rattle.auction_core.specs.Replay.{EntryView, after_entry, agrees, replay, replay_from, stands}
-use Rattle.auction_core.specs.Setup.{SetupView}
-use Rattle.auction_core.specs.State.{CoreState, has_ended, opening, queries_left}
+use Rattle.auction_core.specs.Replay.{EntryView, after_entry, agrees, replay_from, stands}
+use Rattle.auction_core.specs.State.{CoreState, has_ended, queries_left}
 use Rattle.auction_core.specs.Take.{PostingView, is_noted, take, turned_away}
 use Rattle.auction_core.proofs.Cases.{all_spent, noted_as, take-cases}
 use Rattle.auction_core.proofs.QueryLemmas.{answered-fewer}
-use Rattle.answer_board.specs.Boards.{setup_of}
+use Rattle.auction_core.specs.Postings.{GoesOn}
+use Rattle.auction_core.proofs.GoesOn.{replay-goes as state-goes}
+use Rattle.turn_lock.specs.Turns.{StartsWith}
+use Rattle.answer_board.specs.Boards.{beginning_of}
 use Rattle.answer_board.specs.Entries.{entries_of, numbered}
 use Rattle.answer_board.proofs.PostLemmas.{entries-numbered}
-use Rattle.race_wave.specs.Turns.{GoesOn, IsIdle, MovesOn}
+use Rattle.race_wave.specs.Turns.{IsIdle, MovesOn, NearsEnd}
 
-goes-then : (sc : Scenario) (a b c : CoreState) → GoesOn sc a b → GoesOn sc b c → GoesOn sc a c
+goes-then : (sc : Scenario) (a b c : CoreState) → NearsEnd sc a b → NearsEnd sc b c → NearsEnd sc a c
 goes-then sc a b c (inl h) (inl k) = inl (omega (arith, h, k))
 goes-then sc a b c (inl h) (inr k) = let same : queries_left sc c ≡ queries_left sc b = ap (λ (s : CoreState). queries_left sc s) k in inl (omega (arith, h, same))
 goes-then sc a b c (inr h) (inl k) = let same : queries_left sc b ≡ queries_left sc a = ap (λ (s : CoreState). queries_left sc s) h in inl (omega (arith, k, same))
@@ -34,9 +36,9 @@ asked false b c n e = refl
 on : (sc : Scenario) (state : CoreState) (w number : ℕ) → turned_away sc state w number ≡ None → has_ended state ≡ false
 on sc state w number t = asked (has_ended state) (number == state.number) (nat_le (length sc.workers) w) state.number t
 
-take-goes : (sc : Scenario) (book : BookView) (state : CoreState) (p : PostingView) → GoesOn sc state (take sc book state p).1
+take-goes : (sc : Scenario) (book : BookView) (state : CoreState) (p : PostingView) → NearsEnd sc state (take sc book state p).1
 take-goes sc book state p =
-    take-cases sc book state p (λ (out : Reply × CoreState). GoesOn sc state out.1) (record {
+    take-cases sc book state p (λ (out : Reply × CoreState). NearsEnd sc state out.1) (record {
       turned = λ reply t. inr refl;
       rejected = λ place t f. inr refl;
       fit = λ delta t f a. inl (answered-fewer sc book state (Fits delta) (on sc state p.worker p.number t));
@@ -50,17 +52,17 @@ if-some : {A : Type 0} (b : Bool) (x y : A) → (if b then Some x else None) ≡
 if-some true x y e = cc
 if-some false x y e = cc
 
-entry-goes : (sc : Scenario) (book : BookView) (state new : CoreState) (e : EntryView) (o : Option Answer) → after_entry sc book state e o ≡ Some new → GoesOn sc state new
+entry-goes : (sc : Scenario) (book : BookView) (state new : CoreState) (e : EntryView) (o : Option Answer) → after_entry sc book state e o ≡ Some new → NearsEnd sc state new
 entry-goes sc book state new e (Some answer) s =
     let p : PostingView = record { worker = e.worker; number = e.number; answer = answer } in
-    subst (GoesOn sc state) (if-some (agrees e.reply (take sc book state p).0) (take sc book state p).1 new s) (take-goes sc book state p)
+    subst (NearsEnd sc state) (if-some (agrees e.reply (take sc book state p).0) (take sc book state p).1 new s) (take-goes sc book state p)
 entry-goes sc book state new e None s =
-    subst (GoesOn sc state) (if-some (stands (turned_away sc state e.worker e.number) (is_noted state.noted e.worker) e.reply) state new s) (inr refl)
+    subst (NearsEnd sc state) (if-some (stands (turned_away sc state e.worker e.number) (is_noted state.noted e.worker) e.reply) state new s) (inr refl)
 
-replay-goes : (sc : Scenario) (book : BookView) (es : List EntryView) (state new : CoreState) → replay_from sc book es state ≡ Some new → GoesOn sc state new
-replay-goes sc book [] state new s = let same : state ≡ new = cc in subst (GoesOn sc state) same (inr refl)
+replay-goes : (sc : Scenario) (book : BookView) (es : List EntryView) (state new : CoreState) → replay_from sc book es state ≡ Some new → NearsEnd sc state new
+replay-goes sc book [] state new s = let same : state ≡ new = cc in subst (NearsEnd sc state) same (inr refl)
 replay-goes sc book (e ∷ es) state new s =
-    let go : (o : Option CoreState) → after_entry sc book state e e.answer ≡ o → option_and_then (replay_from sc book es) o ≡ Some new → GoesOn sc state new = λ o. elim o as (λ o. after_entry sc book state e e.answer ≡ o → option_and_then (replay_from sc book es) o ≡ Some new → GoesOn sc state new) [
+    let go : (o : Option CoreState) → after_entry sc book state e e.answer ≡ o → option_and_then (replay_from sc book es) o ≡ Some new → NearsEnd sc state new = λ o. elim o as (λ o. after_entry sc book state e e.answer ≡ o → option_and_then (replay_from sc book es) o ≡ Some new → NearsEnd sc state new) [
       | None ↦ λ k r. cc
       | Some next ↦ λ k r. goes-then sc state next new (entry-goes sc book state next e e.answer k) (replay-goes sc book es next new r)
     ] in
@@ -74,31 +76,44 @@ replay-more sc book (e ∷ es) fs state =
       | Some next ↦ replay-more sc book es fs next
     ]
 
-replay-rest : (sc : Scenario) (book : BookView) (order : Order) (es fs : List EntryView) (old new : CoreState) → replay sc book order es ≡ Some old → replay sc book order (es ++ fs) ≡ Some new → replay_from sc book fs old ≡ Some new
-unfolding replay
-replay-rest sc book order es fs old new e f =
-    sym (ap (λ o. option_and_then (replay_from sc book fs) o) e) ∙ (sym (replay-more sc book es fs (opening sc book order)) ∙ f)
+replay-rest : (sc : Scenario) (book : BookView) (es fs : List EntryView) (first old new : CoreState) → replay_from sc book es first ≡ Some old → replay_from sc book (es ++ fs) first ≡ Some new → replay_from sc book fs old ≡ Some new
+replay-rest sc book es fs first old new e f =
+    sym (ap (λ o. option_and_then (replay_from sc book fs) o) e) ∙ (sym (replay-more sc book es fs first) ∙ f)
 
 entries-more : (xs ys : List (ℕ × EntryView)) → entries_of (xs ++ ys) ≡ entries_of xs ++ entries_of ys
 entries-more [] ys = refl
 entries-more (x ∷ xs) ys = ap (λ l. x.1 ∷ l) (entries-more xs ys)
 
--- what a board leaves of an auction, which closes with the history that it was raised with and a tail
-pub board-goes : (made old new : AuctionView) (tail : List (ℕ × EntryView)) → made ≡ old → setup_of new ≡ setup_of made
-    → replay old.scenario old.book old.state.order old.history ≡ Some old.state → replay new.scenario new.book new.state.order new.history ≡ Some new.state
-    → numbered new.history ≡ numbered made.history ++ tail → GoesOn old.scenario old.state new.state
-board-goes made old new tail over setup h k more =
-    let rest : List EntryView = entries_of tail in
-    let setup_is : setup_of new ≡ setup_of old = setup ∙ ap setup_of over in
-    let longer : new.history ≡ old.history ++ rest =
-    sym (entries-numbered new.history) ∙ (ap entries_of more ∙ (entries-more (numbered made.history) tail
-    ∙ ap (λ l. l ++ rest) (entries-numbered made.history ∙ ap (λ (a : AuctionView). a.history) over))) in
-    let whole : replay old.scenario old.book old.state.order (old.history ++ rest) ≡ Some new.state =
-    ap (λ es. replay old.scenario old.book old.state.order es) (sym longer) ∙ (ap (λ (s : SetupView). replay s.scenario s.book s.order new.history) (sym setup_is) ∙ k) in
-    replay-goes old.scenario old.book rest old.state new.state (replay-rest old.scenario old.book old.state.order old.history rest old.state new.state h whole)
+-- the history of an auction leaves its state
+abbrev Replays : AuctionView → Type 0
+Replays a = replay_from a.scenario a.book a.history a.opened ≡ Some a.state
+
+-- an auction that began as another one did, and whose history goes on from that one's by these entries, stands where they lead
+-- from there
+rest-replays : (old new : AuctionView) (rest : List EntryView) → beginning_of new ≡ beginning_of old → new.history ≡ old.history ++ rest → Replays old → Replays new → replay_from old.scenario old.book rest old.state ≡ Some new.state
+rest-replays old new rest begins longer h k =
+    let whole : replay_from old.scenario old.book (old.history ++ rest) old.opened ≡ Some new.state =
+    ap (λ es. replay_from old.scenario old.book es old.opened) (sym longer) ∙ (ap (λ (b : ClockworkView). replay_from b.scenario b.book new.history b.state) (sym begins) ∙ k) in
+    replay-rest old.scenario old.book old.history rest old.opened old.state new.state h whole
+
+-- so it goes on from that one's state
+pub later-goes : (old new : AuctionView) → beginning_of new ≡ beginning_of old → StartsWith new.history old.history → Replays old → Replays new → GoesOn old.state new.state
+later-goes old new begins starts h k = state-goes old.scenario old.book starts.0 old.state new.state (rest-replays old new starts.0 begins starts.1 h k)
+
+-- and leaves no more queries
+pub later-nears : (old new : AuctionView) → beginning_of new ≡ beginning_of old → StartsWith new.history old.history → Replays old → Replays new → NearsEnd old.scenario old.state new.state
+later-nears old new begins starts h k = replay-goes old.scenario old.book starts.0 old.state new.state (rest-replays old new starts.0 begins starts.1 h k)
+
+-- the history of an auction that closes with the one that it was raised with and a tail
+pub board-starts : (made old new : AuctionView) (tail : List (ℕ × EntryView)) → made ≡ old → numbered new.history ≡ numbered made.history ++ tail → StartsWith new.history old.history
+board-starts made old new tail over more = (
+  entries_of tail,
+  sym (entries-numbered new.history) ∙ (ap entries_of more ∙ (entries-more (numbered made.history) tail
+      ∙ ap (λ l. l ++ entries_of tail) (entries-numbered made.history ∙ ap (λ (a : AuctionView). a.history) over))),
+)
 
 -- a wave and a serial turn leave fewer queries
-pub turn-fewer : (sc : Scenario) (old mid new : AuctionView) → has_ended old.state ≡ false → GoesOn sc old.state mid.state → IsIdle mid new → MovesOn sc mid.state new.state → queries_left sc new.state < queries_left sc old.state
+pub turn-fewer : (sc : Scenario) (old mid new : AuctionView) → has_ended old.state ≡ false → NearsEnd sc old.state mid.state → IsIdle mid new → MovesOn sc mid.state new.state → queries_left sc new.state < queries_left sc old.state
 turn-fewer sc old mid new begun goes idle moves =
     elim (cases_Bool (has_ended mid.state)) [
       | inl ended ↦ let same : queries_left sc new.state ≡ queries_left sc mid.state = ap (λ (a : AuctionView). queries_left sc a.state) (idle ended) in elim goes [

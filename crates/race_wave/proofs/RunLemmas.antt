@@ -1,13 +1,13 @@
 -- The workers of a wave, before and after it.
-use Rattle.std.proofs.Common.{◌≡◌, ◌∙◌, ℕ, zero, suc, ◌<◌, List, [], ◌∷◌, ◌++◌, length, map, take, drop, get_or, Some, refl, sym, ap, subst, arith, All}
+use Rattle.std.proofs.Common.{◌≡◌, ◌∙◌, ℕ, zero, suc, ◌+◌, ◌<◌, ◌≤◌, List, [], ◌∷◌, ◌++◌, append-nil, length, map, take, drop, get_or, Some, refl, sym, ap, subst, arith, All}
 use Rattle.std.specs.Prelude.{slice_get}
 use Rattle.std.specs.List.{AllZip}
 use Rattle.std.proofs.lemmas.Option.{slice_get-get_or}
 use mathlib.Core.Logic.{dite}
 use native.Mathlib.Decide.{ℕ_discrete}
 use Rattle.pack_defs.specs.declared.worker.Worker.{Worker}
+use Rattle.auction_core.specs.Clockwork.{ClockworkView}
 use Rattle.auction_core.specs.Replay.{EntryView}
-use Rattle.auction_core.specs.Setup.{SetupView}
 use Rattle.turn_lock.specs.declared.chronicle.Known.{Known}
 use Rattle.turn_lock.specs.Passes.{IsIdle, StandsAt, known_of, number_of, standing}
 use Rattle.turn_lock.specs.Turns.{AllOf, each_new, known}
@@ -143,10 +143,28 @@ module _ {R : Type 0} (w : R → Worker) (board : Board) where
   raced-long (x ∷ xs) [] h = absurd h
   raced-long (x ∷ xs) (y ∷ ys) h = ap suc (raced-long xs ys h.1)
 
+-- ---- lists that are filled from another one
+
+-- nothing was put into it yet
+pub put-none : {X Y : Type 0} (f : X → Y) (done : List Y) (rest all : List X) → done ≡ [] → rest ≡ all → done ++ map f rest ≡ map f all
+put-none f done rest all e g = λ i. e i ++ map f (g i)
+
+-- all was put into it
+pub put-all : {X Y : Type 0} (f : X → Y) (done : List Y) (rest all : List X) (n : ℕ) → n ≡ length rest → n ≡ 0 → done ++ map f rest ≡ map f all → done ≡ map f all
+put-all f done [] all n e z h = sym (append-nil done) ∙ h
+put-all f done (x ∷ rest) all n e z h = absurd (omega (arith, e, z))
+
+-- there is room for what is left
+pub room-none : {X Y : Type 0} (done : List Y) (rest all : List X) (n : ℕ) → done ≡ [] → rest ≡ all → length all ≤ n → length done + length rest ≤ n
+room-none done rest all n e g h =
+    let none : length done ≡ 0 = ap (λ l. length l) e in
+    let same : length rest ≡ length all = ap (λ l. length l) g in
+    omega (arith, none, same, h)
+
 -- ---- over the passes of a board
 
 abbrev BoardPass : Type 0
-BoardPass = Pass Kept SetupView EntryView ghosts
+BoardPass = Pass Kept ClockworkView EntryView ghosts
 
 module _ {R : Type 0} (w : R → Worker) (board : Board) where
   -- the workers of a new board, before the wave

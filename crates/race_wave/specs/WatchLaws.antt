@@ -1,7 +1,7 @@
 -- A poll may come to itself, and goes on.
 use Rattle.std.proofs.Common.{◌∙◌, ◌++◌, [], List, refl, sym, ap, append-nil, append_assoc}
+use Rattle.auction_core.specs.Clockwork.{ClockworkView}
 use Rattle.auction_core.specs.Replay.{EntryView}
-use Rattle.auction_core.specs.Setup.{SetupView}
 use Rattle.turn_lock.specs.declared.chronicle.Chronicle.{Ghosts}
 use Rattle.turn_lock.specs.declared.lock.Pass.{Pass}
 use Rattle.turn_lock.specs.Passes.{seen_of}
@@ -16,11 +16,11 @@ starts-itself xs = ([], sym (append-nil xs))
 pub starts-on : {X : Type 0} (xs ys zs : List X) → StartsWith ys xs → StartsWith zs ys → StartsWith zs xs
 starts-on xs ys zs h k = (h.0 ++ k.0, k.1 ∙ (ap (λ l. l ++ k.0) h.1 ∙ append_assoc xs h.0 k.0))
 
-module _ {N : Type 0} {G : Ghosts Kept SetupView EntryView} where
-  pub goes_nowhere : (board : Board) (name : N) (pass : Pass Kept SetupView EntryView G) → Goes board name pass board name pass
+module _ {N : Type 0} {G : Ghosts Kept ClockworkView EntryView} where
+  pub goes_nowhere : (board : Board) (name : N) (pass : Pass Kept ClockworkView EntryView G) → Goes board name pass board name pass
   goes_nowhere board name pass = record { board_is = refl; name_is = refl; stands = refl; seen = starts-itself (seen_of pass); mine = refl; legal = λ l. l }
 
-  pub goes_on : {b1 b2 b3 : Board} {n1 n2 n3 : N} {p1 p2 p3 : Pass Kept SetupView EntryView G} → Goes b1 n1 p1 b2 n2 p2 → Goes b2 n2 p2 b3 n3 p3 → Goes b1 n1 p1 b3 n3 p3
+  pub goes_on : {b1 b2 b3 : Board} {n1 n2 n3 : N} {p1 p2 p3 : Pass Kept ClockworkView EntryView G} → Goes b1 n1 p1 b2 n2 p2 → Goes b2 n2 p2 b3 n3 p3 → Goes b1 n1 p1 b3 n3 p3
   goes_on {p1 = p1} {p2 = p2} {p3 = p3} h k = record {
     board_is = k.board_is ∙ h.board_is;
     name_is = k.name_is ∙ h.name_is;

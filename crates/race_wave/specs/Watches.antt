@@ -1,7 +1,7 @@
 -- What a worker's poll may come to.
 use Rattle.std.specs.Prelude.{◌≡◌, ℕ, List, Some, option_map}
+use Rattle.auction_core.specs.Clockwork.{ClockworkView}
 use Rattle.auction_core.specs.Replay.{EntryView}
-use Rattle.auction_core.specs.Setup.{SetupView}
 use Rattle.turn_lock.specs.declared.chronicle.Chronicle.{Ghosts}
 use Rattle.turn_lock.specs.declared.lock.Pass.{Pass}
 use Rattle.turn_lock.specs.Passes.{IsLegal, mine_of, seen_of, standing}
@@ -15,10 +15,10 @@ use Rattle.answer_board.specs.Posts.{left_by}
 abbrev pub IsNumberAfter : Board → List (ℕ × EntryView) → ℕ → Type 0
 IsNumberAfter board seen number = option_map (λ state. state.number) (left_by (raised board) seen) ≡ Some number
 
-module _ {N : Type 0} {G : Ghosts Kept SetupView EntryView} where
+module _ {N : Type 0} {G : Ghosts Kept ClockworkView EntryView} where
   -- the poll is over the same board, and of the same pass, which has the same number and made no posting, has seen what it had
   -- seen, and knows rightly which entries are its own
-  pub record Goes (board : Board) (name : N) (old : Pass Kept SetupView EntryView G) (board' : Board) (name' : N) (new : Pass Kept SetupView EntryView G) : Type 0 where
+  pub record Goes (board : Board) (name : N) (old : Pass Kept ClockworkView EntryView G) (board' : Board) (name' : N) (new : Pass Kept ClockworkView EntryView G) : Type 0 where
     pub board_is : board' ≡ board
     pub name_is : name' ≡ name
     pub stands : standing new ≡ standing old

@@ -6,10 +6,10 @@ use Rattle.cert_types.specs.Valid.{IsValid}
 use Rattle.cert_types.specs.declared.poll.Attempt.{Attempt}
 use Rattle.cert_types.specs.declared.poll.Attempt.TheVariants.{Said, Moved}
 use Rattle.cert_types.specs.declared.task.Task.{Task}
+use Rattle.auction_core.specs.Clockwork.{ClockworkView}
 use Rattle.auction_core.specs.declared.posting.Reply.{Reply}
 use Rattle.auction_core.specs.declared.posting.Reply.TheVariants.{Ended, WrongQuery, Stranger, Rejected, Advanced, AlreadySpent, Noted}
 use Rattle.auction_core.specs.Replay.{EntryView}
-use Rattle.auction_core.specs.Setup.{SetupView}
 use Rattle.auction_core.specs.State.{CoreState, has_ended}
 use Rattle.auction_core.specs.Take.{is_noted}
 use Rattle.turn_lock.specs.declared.chronicle.Chronicle.{Ghosts}
@@ -47,19 +47,19 @@ pub record HasPosted (old new : List (ℕ × EntryView)) : Type 0 where
   pub is : new ≡ old ++ more
   pub faultless : AllOf (λ e. is_faultless e.1.reply ≡ true) more
 
-module _ {G : Ghosts Kept SetupView EntryView} where
+module _ {G : Ghosts Kept ClockworkView EntryView} where
   -- what the worker has seen leaves nothing for it to do
-  abbrev pub IsDone : Board → Pass Kept SetupView EntryView G → Type 0
+  abbrev pub IsDone : Board → Pass Kept ClockworkView EntryView G → Type 0
   IsDone board pass = Sees (raised board) (seen_of pass) (IsAtRest (number_of pass))
 
   -- a pass to the board, outside a turn, and the worker that its number is of
-  pub record IsRunner (board : Board) (pass : Pass Kept SetupView EntryView G) (worker : Worker) : Type 0 where
+  pub record IsRunner (board : Board) (pass : Pass Kept ClockworkView EntryView G) (worker : Worker) : Type 0 where
     pub own : IsPassOn board pass
     pub idle : IsIdle pass
     pub of : slice_get (raised board).scenario.workers (number_of pass) ≡ Some worker
 
   -- the same pass, which has seen what it had seen, and has posted no answer at fault
-  pub record IsSamePass (old new : Pass Kept SetupView EntryView G) : Type 0 where
+  pub record IsSamePass (old new : Pass Kept ClockworkView EntryView G) : Type 0 where
     pub stands : standing new ≡ standing old
     pub seen : StartsWith (seen_of new) (seen_of old)
     pub posted : HasPosted (mine_of old) (mine_of new)

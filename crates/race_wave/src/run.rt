@@ -4,13 +4,14 @@ ghost use Rattle.std.specs.Prelude.{◌≡◌, ◌≤◌, IfOk, Some, length, ma
 ghost use Rattle.solver_gate.specs.Racers.{worker_of};
 ghost use Rattle.pack_defs.specs.Scenario.{with_owners};
 ghost use Rattle.auction_core.specs.Backed.{IsBacked};
+ghost use Rattle.auction_core.specs.Postings.{GoesOnIn};
 ghost use Rattle.auction_core.specs.Setup.{IsOfAuction};
 ghost use Rattle.turn_lock.specs.Passes.{IsIdle, known_of, standing};
-ghost use Rattle.turn_lock.specs.Turns.{AllOf, each_new};
-ghost use Rattle.answer_board.specs.Boards.{AreAllOn, raised, setup_of};
+ghost use Rattle.turn_lock.specs.Turns.{AllOf, StartsWith, each_new};
+ghost use Rattle.answer_board.specs.Boards.{AreAllOn, beginning_of, raised};
 ghost use Rattle.answer_board.specs.Entries.{numbered};
 ghost use Rattle.race_wave.specs.Rooms.{IsRoomFor};
-ghost use Rattle.race_wave.specs.Turns.{GoesOn};
+ghost use Rattle.race_wave.specs.Turns.{NearsEnd};
 
 use crate::muster::mustered;
 use crate::parting::{Room, parted, room_for};
@@ -41,12 +42,12 @@ pub fn racers_of(alloc: Global, workers: &[Worker]) -> Result<Vec<RacerKind>, No
     Ok(racers)
 }
 
-// How many racers there are.
-fn count_of<R>(racers: &[R]) -> u32
-    requires { length racers.now ≤ 16 }
-    ensures { result ≡ length racers.now }
+// How many workers there are.
+fn count_of(auction: &Auction) -> u32
+    ensures count { result ≡ length auction.now.scenario.workers }
+    ensures some { 1 ≤ result }
 {
-    racers.len() as u32
+    auction.workers().len() as u32
 }
 
 // What a wave leaves: whether memory ran out for each worker, and the passes and racers in order.
@@ -104,15 +105,14 @@ fn raced<R: Racer + Send + Drop, G: Gate + Sync, W: Threads + Wait + Sync>(
 ) -> Result<(Auction, Vec<R>), NoMemory>
     requires book { auction.book ≡ book.now }
     requires racers { map R.worker racers.items ≡ auction.scenario.workers }
-    requires some { 1 ≤ length racers.items }
-    requires few { length racers.items ≤ 16 }
-    ensures setup { IfOk result (λ r. setup_of r.0 ≡ setup_of auction) }
-    ensures goes_on { IfOk result (λ r. GoesOn auction.scenario auction.state r.0.state) }
+    ensures beginning { IfOk result (λ r. beginning_of r.0 ≡ beginning_of auction) }
+    ensures history { IfOk result (λ r. StartsWith r.0.history auction.history) }
+    ensures nears_end { IfOk result (λ r. NearsEnd auction.scenario auction.state r.0.state) }
     ensures racers { IfOk result (λ r. map R.worker r.1.items ≡ map R.worker racers.items) }
 {
     // With its count of postings an auction says what its history replays to.
     let _ = auction.posted();
-    let count = count_of(&racers);
+    let count = count_of(&auction);
     let room = room_for(alloc, count)?;
     let Ok((board, passes)) = Board::raise(alloc, auction, count) else {
         return Err(NoMemory);
@@ -128,6 +128,35 @@ fn raced<R: Racer + Send + Drop, G: Gate + Sync, W: Threads + Wait + Sync>(
     Ok((auction, racers))
 }
 
+// Goes on with an auction up to its end, and answers its record. The racers, of which each worker has one, in order, race on a
+// board for its queries, each in a thread of its own where one can be made; after each race they try the standing query one
+// after another on this thread; and so on, until the auction has ended.
+fn finish_with<R: Racer + Send + Drop, G: Gate + Sync, W: Threads + Wait + Sync>(
+    rt: &W,
+    alloc: Global,
+    mut auction: Auction,
+    scenario: Scenario,
+    book: &Book,
+    mut racers: Vec<R>,
+    gate: &G,
+) -> Result<Record, NoMemory>
+    requires scenario { scenario ≡ auction.scenario }
+    requires book { book.now ≡ auction.book }
+    requires racers { map R.worker racers.items ≡ auction.scenario.workers }
+    ensures backed { IfOk result (IsBacked scenario book.now auction.state.order) }
+    ensures goes_on { IfOk result (GoesOnIn auction.state) }
+{
+    // With its count of postings an auction says what its history replays to.
+    let _ = auction.posted();
+    'waves: while !auction.ended() {
+        (auction, racers) = raced(rt, alloc, book, auction, racers, gate)?;
+        serial_turn(alloc, &mut auction, &mut racers)?;
+    }
+    let _ = auction.posted();
+    let record = auction.into_result(alloc, scenario)?;
+    Ok(record)
+}
+
 /// The record of the auction of this scenario and book, each round of which tests the stations by volume. The racers, of which
 /// each worker has one, in order, race on a board for its queries, each in a thread of its own where one can be made; after
 /// each race they try the standing query one after another on this thread; and so on, until the auction has ended. The only
@@ -137,20 +166,37 @@ pub fn run_with<R: Racer + Send + Drop, G: Gate + Sync, W: Threads + Wait + Sync
     alloc: Global,
     sc: &Scenario,
     book: &Book,
-    mut racers: Vec<R>,
+    racers: Vec<R>,
     gate: &G,
 ) -> Result<Record, NoMemory>
     requires auction { IsOfAuction sc.now book.now }
     requires racers { map R.worker racers.items ≡ sc.now.workers }
     ensures { IfOk result (IsBacked sc.now book.now Order.ByVolume) }
 {
-    let mut auction = Auction::start(alloc, sc, book, Order::ByVolume)?;
-    'waves: while !auction.ended() {
-        (auction, racers) = raced(rt, alloc, book, auction, racers, gate)?;
-        serial_turn(alloc, &mut auction, &mut racers)?;
-    }
-    let record = auction.into_result(alloc, sc.copy(alloc)?)?;
-    Ok(record)
+    let auction = Auction::start(alloc, sc, book, Order::ByVolume)?;
+    let scenario = sc.copy(alloc)?;
+    finish_with(rt, alloc, auction, scenario, book, racers, gate)
+}
+
+/// The record of this auction, which goes on from where it stands between two postings, in its own order: the solvers of its
+/// scenario's workers are the racers that carry it on, as `run_with` does. Its start, where that was shown, and its steps so far
+/// stay, and no other step is shown by a proof from outside. Where the auction has ended, nothing is asked. The scenario and the
+/// book are the auction's. The only error is want of memory.
+pub fn go_on<G: Gate + Sync, W: Threads + Wait + Sync>(
+    rt: &W,
+    alloc: Global,
+    auction: Auction,
+    scenario: Scenario,
+    book: &Book,
+    gate: &G,
+) -> Result<Record, NoMemory>
+    requires scenario { scenario ≡ auction.scenario }
+    requires book { book.now ≡ auction.book }
+    ensures backed { IfOk result (IsBacked scenario book.now auction.state.order) }
+    ensures goes_on { IfOk result (GoesOnIn auction.state) }
+{
+    let racers = racers_of(alloc, auction.workers())?;
+    finish_with(rt, alloc, auction, scenario, book, racers, gate)
 }
 
 /// The record of the auction of this scenario and book, each round of which tests the stations by volume. The solvers of the

@@ -24,69 +24,16 @@ use Rattle.auction_core.proofs.Sets.{fits-stand-first}
 use Rattle.auction_core.proofs.Starts.{start-map}
 use Rattle.auction_core.proofs.Steps.{after_steps-steps}
 use Rattle.auction_core.proofs.Done.{AreListed, asked-apart, listed-shown, done-room}
-use Rattle.transcript_text.specs.declared.transcript.Transcript.{Transcript}
+use Rattle.auction_core.specs.declared.transcript.Transcript.{Transcript}
 use Rattle.transcript_text.specs.Spelling.{transcript_steps, transcript_for}
-use Rattle.transcript_check.specs.NotShown.{start_fault, steps_fault, not_shown}
-use Rattle.transcript_check.specs.Sound.{steps_in, transcript_record, AreNumbered, IsSound}
-use Rattle.transcript_check.proofs.StepLemmas.{unless-from, absurd-place, clean-fit}
-use Rattle.transcript_check.proofs.WalkLemmas.{step_or-parts, followed, ruled}
-
--- ---- the start
-
-none-is : (o : Option Shown) → is_none o ≡ true → o ≡ None
-none-is None e = refl
-none-is (Some x) e = absurd cc
-
-pub start-shown : (sc : Scenario) (book : BookView) (start : Shown) → start_fault sc book start ≡ None → IsStartShown sc book start × (ending_of start ≡ Done)
-start-shown sc book Empty e =
-    let parts = unless-parts (is_empty (start_set sc)) Kind None e in
-    (rw parts.0 refl, refl)
-start-shown sc book (Fits delta) e =
-    let parts = unless-parts (is_none (start_unasked sc book)) Kind (fit_fault book (start_task sc 1) delta) e in
-    let none = none-is (start_unasked sc book) parts.0 in
-    (subst (λ o. MatchOption o (IsSettledBy sc book (start_task sc 1) (Fits delta)) (λ unasked. Fits delta ≡ unasked)) (sym none) (fit-clean book (start_task sc 1) delta parts.1), refl)
-start-shown sc book Same e = absurd (absurd-place Kind e)
-start-shown sc book (NoChannel s) e = absurd (absurd-place Kind e)
-start-shown sc book (Refuted w how) e = absurd (absurd-place Kind e)
-start-shown sc book (Outside proof) e = absurd (absurd-place Kind e)
-start-shown sc book (Undecided xs) e = absurd (absurd-place Kind e)
-
-start-none : (sc : Scenario) (book : BookView) (start : Shown) → IsStartShown sc book start → ending_of start ≡ Done → start_fault sc book start ≡ None
-start-none sc book Empty h d =
-    go (is_empty (start_set sc)) (find (λ s. is_empty (domain_of book s)) (start_set sc)) h
-  where
-    go : (b : Bool) (o : Option ℕ) → MatchOption (if b then Some Empty else option_map NoChannel o) ⊥ (λ unasked. Empty ≡ unasked) → unless b Kind None ≡ None
-    go true o h = refl
-    go false None h = absurd h
-    go false (Some s) h = absurd cc
-start-none sc book (Fits delta) h d =
-    go (is_empty (start_set sc)) (find (λ s. is_empty (domain_of book s)) (start_set sc)) h
-  where
-    go : (b : Bool) (o : Option ℕ) → MatchOption (if b then Some Empty else option_map NoChannel o) (IsSettledBy sc book (start_task sc 1) (Fits delta)) (λ unasked. Fits delta ≡ unasked)
-        → unless (is_none (if b then Some Empty else option_map NoChannel o)) Kind (fit_fault book (start_task sc 1) delta) ≡ None
-    go true o h = absurd cc
-    go false None h = clean-fit book (start_task sc 1) delta h
-    go false (Some s) h = absurd cc
-start-none sc book Same h d =
-    go (is_empty (start_set sc)) (find (λ s. is_empty (domain_of book s)) (start_set sc)) h
-  where
-    go : (b : Bool) (o : Option ℕ) → MatchOption (if b then Some Empty else option_map NoChannel o) ⊥ (λ unasked. Same ≡ unasked) → Some Kind ≡ None
-    go true o h = absurd cc
-    go false None h = absurd h
-    go false (Some s) h = absurd cc
-start-none sc book (NoChannel s) h d = absurd cc
-start-none sc book (Refuted w how) h d = absurd cc
-start-none sc book (Outside proof) h d = absurd cc
-start-none sc book (Undecided xs) h d = absurd cc
+use Rattle.auction_core.specs.NotShown.{start_fault, steps_fault, not_shown}
+use Rattle.auction_core.specs.LogNumbers.{steps_in, AreNumbered}
+use Rattle.transcript_check.specs.Sound.{transcript_record, IsSound}
+use Rattle.auction_core.proofs.StepLemmas.{unless-from, absurd-place, clean-fit}
+use Rattle.auction_core.proofs.WalkLemmas.{step_or-parts, followed, ruled}
+use Rattle.auction_core.proofs.StartFaults.{start-shown, start-none, start-walk, after_steps-order}
 
 -- ---- the whole
-
-start-walk : (sc : Scenario) (book : BookView) (order : Order) (start : Shown) → IsAuction sc book → IsStartShown sc book start → shows_room start ≡ true → IsWalked sc book start (after_start sc order start) []
-start-walk sc book order start a h r = first-walk sc book start (before_start sc order) a (record { clock = refl; left = refl; map = refl; steps = refl }) h r
-
-after_steps-order : (sc : Scenario) (state : CoreState) (xs : List Step) → (after_steps sc state xs).order ≡ state.order
-after_steps-order sc state [] = refl
-after_steps-order sc state (x ∷ xs) = after_steps-order sc (settled sc state (test_of x) x.shown) xs
 
 carried : (sc : Scenario) (book : BookView) (t : Transcript) → IsWalked sc book t.start (after_steps sc (after_start sc t.order t.start) (steps_in t.steps)) (clock_tests sc t.order) → IsCarriedThrough sc book t.order (transcript_record sc book t)
 unfolding clock_rule asked_tests

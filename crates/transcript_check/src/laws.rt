@@ -8,8 +8,8 @@ ghost use Rattle.auction_core.specs.declared.record.Ending.TheVariants.{Done};
 ghost use Rattle.auction_core.specs.Backed.{IsBacked};
 ghost use Rattle.transcript_text.specs.Spelling.{transcript_for};
 ghost use Rattle.auction_core.specs.Rule.{IsAuction};
-ghost use Rattle.transcript_text.specs.declared.transcript.Transcript.{Transcript};
-ghost use Rattle.transcript_check.specs.NotShown.{not_shown};
+ghost use Rattle.auction_core.specs.declared.transcript.Transcript.{Transcript};
+ghost use Rattle.auction_core.specs.NotShown.{not_shown};
 ghost use Rattle.transcript_check.specs.Sound.{IsSound, transcript_record};
 
 /// A transcript is sound exactly where no step is the first that is not shown.

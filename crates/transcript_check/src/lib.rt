@@ -1,13 +1,10 @@
 //! Whether a transcript is sound, and the record that it shows.
 #![tactic(auto)]
 
-mod answers;
-mod error;
 pub mod laws;
-mod numbers;
-mod receipts;
-mod step_err;
-mod steps;
 pub mod verify;
 
-pub use error::{ShownWhy, VerifyErr};
+pub use auction_core::prefix::ShownWhy;
+
+/// Why a transcript was not verified: why no auction goes on from it.
+pub type VerifyErr = auction_core::prefix::ResumeErr;

@@ -7,8 +7,8 @@ use Rattle.lrat_text.specs.Lines.{is_whole, whole_lines}
 use Rattle.pack_defs.specs.Book.{BookView}
 use Rattle.transcript_text.specs.declared.error.TextErr.{TextErr}
 use Rattle.transcript_text.specs.declared.error.TextErr.TheVariants.{Version, BadLine, Truncated, NoMemory}
-use Rattle.transcript_text.specs.declared.transcript.Transcript.{Transcript}
-use Rattle.transcript_text.specs.declared.transcript.TranscriptStep.{TranscriptStep}
+use Rattle.auction_core.specs.declared.transcript.Transcript.{Transcript}
+use Rattle.auction_core.specs.declared.transcript.TranscriptStep.{TranscriptStep}
 use Rattle.transcript_text.specs.Steps.{◌>>=◌, Fails, Gives}
 use Rattle.transcript_text.specs.Fields.{LinesLeft}
 use Rattle.transcript_text.specs.Reading.{next_step, start_at, step_or, steps_at, text_end, transcript_of, version_at}
@@ -60,7 +60,7 @@ abbrev pub turned : Scenario → BookView → Transcript → Bool → Option Tra
 turned sc book begun whole (None, rest) = text_end whole rest >>= λ u. Ok begun
 turned sc book begun whole (Some x, rest) = goes_on sc book (with_step begun x) whole rest
 
-with-none : (begun : Transcript) → record { order = begun.order; start = begun.start; steps = begun.steps ++ [] } ≡ begun
+pub with-none : (begun : Transcript) → record { order = begun.order; start = begun.start; steps = begun.steps ++ [] } ≡ begun
 with-none begun = ap (λ (steps : List TranscriptStep). record { order = begun.order; start = begun.start; steps = steps }) (append-nil begun.steps)
 
 pub goes-by-step : (sc : Scenario) (book : BookView) (begun : Transcript) (whole : Bool) (lines : LinesLeft)

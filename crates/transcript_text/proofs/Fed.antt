@@ -8,7 +8,7 @@ use Rattle.transcript_text.specs.declared.error.TextErr.{TextErr}
 use Rattle.transcript_text.specs.declared.error.TextErr.TheVariants.{Version, BadLine, Truncated, NoMemory}
 use Rattle.transcript_text.specs.declared.reader.Stage.{Stage}
 use Rattle.transcript_text.specs.declared.reader.Stage.TheVariants.{Opening, Steps, Whole, Refused}
-use Rattle.transcript_text.specs.declared.transcript.Transcript.{Transcript}
+use Rattle.auction_core.specs.declared.transcript.Transcript.{Transcript}
 use Rattle.transcript_text.specs.Steps.{◌>>=◌, Fails, Gives}
 use Rattle.transcript_text.specs.Fields.{LinesLeft}
 use Rattle.transcript_text.specs.Reading.{transcript_of}

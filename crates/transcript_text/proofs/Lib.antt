@@ -21,4 +21,7 @@ pub mod Stays
 pub mod Ahead
 pub mod Cuts
 pub mod Fed
+pub mod PrefixSteps
+pub mod PrefixLaws
+pub mod PrefixSaid
 pub mod NumeralLemmas

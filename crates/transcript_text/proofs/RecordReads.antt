@@ -29,7 +29,8 @@ use Rattle.transcript_text.specs.Fields.{greatest_u32}
 use Rattle.transcript_text.specs.Named.{IsFitAscending, IsHeld, IsNamed}
 use Rattle.transcript_text.specs.Reading.{transcript_of}
 use Rattle.transcript_text.specs.Spelled.{IsShownSpelled, IsSpelled, IsStartSpelled, IsStepSpelled}
-use Rattle.transcript_text.specs.Spelling.{clauses_in, firsts_of, transcript_for, transcript_steps, transcript_text}
+use Rattle.auction_core.specs.LogNumbers.{clauses_in, firsts_of}
+use Rattle.transcript_text.specs.Spelling.{transcript_for, transcript_steps, transcript_text}
 use Rattle.transcript_text.proofs.RecordSpelled.{IsKnown, fit-spelled, settled-spelled, station-of}
 use Rattle.transcript_text.proofs.TextReads.{transcript-again}
 use Rattle.transcript_text.proofs.Writes.{head-of, steps-count}

@@ -42,7 +42,7 @@ use Rattle.lrat_text.proofs.Named.{follows-spelled}
 use Rattle.transcript_text.specs.Fields.{greatest_u32, is_above, most_counted}
 use Rattle.transcript_text.specs.Named.{IsFitAscending, IsNamed}
 use Rattle.transcript_text.specs.Spelled.{AreEntries, AreLines, AreReceiptsSpelled, AreStations, IsEntry, IsHint, IsLog, IsOneLog, IsReceipt, IsRefutation, IsShownSpelled, IsStation}
-use Rattle.transcript_text.specs.Spelling.{clauses_in, first_number, first_of, firsts_of}
+use Rattle.auction_core.specs.LogNumbers.{clauses_in, first_number, first_of, firsts_of}
 use Rattle.transcript_text.proofs.Sizes.{clauses-most, few-channels, no-longer, variables-most}
 use Rattle.transcript_text.proofs.Writes.{budget-most, head-of, of-worker}
 

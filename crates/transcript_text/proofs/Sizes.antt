@@ -11,7 +11,7 @@ use Rattle.pack_defs.specs.Lists.{is_ascending, is_in}
 use Rattle.cnf_encode.specs.Formula.{at_most_one, choices, is_inside, not_both, station_variables, variable_of, variables_in}
 use Rattle.cnf_encode.proofs.AscendingLemmas.{count-most}
 use Rattle.cnf_encode.proofs.CountLemmas.{formula-counted}
-use Rattle.transcript_text.specs.Spelling.{clauses_in}
+use Rattle.auction_core.specs.LogNumbers.{clauses_in}
 
 -- an ascending list of numbers up to 51
 short : (x : ℕ) (xs : List ℕ) → is_ascending (x ∷ xs) ≡ true → ((c : ℕ) → is_in (x ∷ xs) c ≡ true → c ≤ 51) → length (x ∷ xs) + x ≤ 52

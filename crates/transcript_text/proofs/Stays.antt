@@ -11,7 +11,7 @@ use Rattle.transcript_text.specs.declared.error.TextErr.TheVariants.{Version, Ba
 use Rattle.transcript_text.specs.declared.head.Head.{Head}
 use Rattle.transcript_text.specs.declared.head.Head.TheVariants.{Fit, Same, NoChannel, Log, Dead, Outside, Undecided, End}
 use Rattle.transcript_text.specs.Steps.{◌>>=◌}
-use Rattle.transcript_text.specs.Spelling.{clauses_in}
+use Rattle.auction_core.specs.LogNumbers.{clauses_in}
 use Rattle.transcript_text.specs.Fields.{LinesLeft, count_at, line_end, next_line, next_field, number_at, word_at}
 use Rattle.transcript_text.specs.LogLines.{log_at, log_line, entries_at, entry_at, moves_at, stations_at}
 use Rattle.transcript_text.specs.Reading.{some_log, numbered_log, lines_receipt, moves_receipt, receipt_count, receipt_by, receipt_at, receipts_at, head_at, fit_step, log_step, outside_step, undecided_step, step_at, next_step, order_of, version_or, version_at, fit_start, empty_start, start_at}
@@ -23,7 +23,7 @@ Stays more (Ok x) read = read ≡ Ok (x.0, with_lines x.1 more)
 Stays more (Err Version) read = read ≡ Err Version
 Stays more (Err (BadLine n)) read = read ≡ Err (BadLine n)
 Stays more (Err Truncated) read = Unit {0}
-Stays more (Err NoMemory) read = Unit {0}
+Stays more (Err NoMemory) read = read ≡ Err NoMemory
 
 stays-then : {A B : Type 0} (more : List (List ℕ)) (r s : Result (A × LinesLeft) TextErr) (f g : A × LinesLeft → Result (B × LinesLeft) TextErr)
     → Stays more r s → ((x : A × LinesLeft) → Stays more (f x) (g (x.0, with_lines x.1 more))) → Stays more (r >>= f) (s >>= g)
@@ -31,13 +31,13 @@ stays-then more (Ok x) s f g h k = subst (λ r. Stays more (f x) (r >>= g)) (sym
 stays-then more (Err Version) s f g h k = ap (λ r. r >>= g) h
 stays-then more (Err (BadLine n)) s f g h k = ap (λ r. r >>= g) h
 stays-then more (Err Truncated) s f g h k = tt
-stays-then more (Err NoMemory) s f g h k = tt
+stays-then more (Err NoMemory) s f g h k = ap (λ r. r >>= g) h
 
 fault-stays : (A : Type 0) (more : List (List ℕ)) (e : TextErr) → Stays {A = A} more (Err e) (Err e)
 fault-stays A more Version = refl
 fault-stays A more (BadLine n) = refl
 fault-stays A more Truncated = tt
-fault-stays A more NoMemory = tt
+fault-stays A more NoMemory = refl
 
 -- a step that touches no lines
 any-stays : {A B : Type 0} (more : List (List ℕ)) (r : Result A TextErr) (f g : A → Result (B × LinesLeft) TextErr) → ((x : A) → Stays more (f x) (g x)) → Stays more (r >>= f) (r >>= g)
@@ -127,7 +127,7 @@ next-step-stays more sc book steps lines =
     stays-then more (next_line lines) (next_line (with_lines lines more)) _ _ (next-stays more lines)
     (λ next. any-stays more (head_at sc steps next.0) _ _ (λ head. step-stays more sc book head next.1))
 
-start-stays : (more : List (List ℕ)) (sc : Scenario) (lines : LinesLeft) → Stays more (start_at sc lines) (start_at sc (with_lines lines more))
+pub start-stays : (more : List (List ℕ)) (sc : Scenario) (lines : LinesLeft) → Stays more (start_at sc lines) (start_at sc (with_lines lines more))
 unfolding start_at empty_start fit_start
 start-stays more sc lines =
     stays-then more (next_line lines) (next_line (with_lines lines more)) _ _ (next-stays more lines)
@@ -137,7 +137,7 @@ start-stays more sc lines =
     (any-stays more (count_at kind.1) _ _ (λ k. any-stays more (line_end k.1) _ _ (λ u. stays-then more (entries_at sc None k.0 next.1) (entries_at sc None k.0 (with_lines next.1 more)) _ _ (entries-stay more sc None k.0 next.1) (λ entries. refl))))
     refl))))
 
-version-stays : (more lines : List (List ℕ)) → Stays more (version_at lines) (version_at (lines ++ more))
+pub version-stays : (more lines : List (List ℕ)) → Stays more (version_at lines) (version_at (lines ++ more))
 version-stays more [] = tt
 version-stays more (line ∷ lines) = go (order_of line)
   where

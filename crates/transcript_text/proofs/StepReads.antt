@@ -16,7 +16,7 @@ use Rattle.lrat_text.proofs.NumberLemmas.{decimal-field}
 use Rattle.transcript_text.specs.declared.head.StepTest.{StepTest}
 use Rattle.transcript_text.specs.declared.head.Head.{Head}
 use Rattle.transcript_text.specs.declared.head.Head.TheVariants.{Fit, Same, NoChannel, Log as LogHead, Dead, Outside, Undecided, End}
-use Rattle.transcript_text.specs.declared.transcript.TranscriptStep.{TranscriptStep}
+use Rattle.auction_core.specs.declared.transcript.TranscriptStep.{TranscriptStep}
 use Rattle.transcript_text.specs.Spelling.{entry_text, receipt_text, receipts_text}
 use Rattle.transcript_text.specs.Fields.{greatest_u32, most_counted}
 use Rattle.transcript_text.specs.LogLines.{moves_at}

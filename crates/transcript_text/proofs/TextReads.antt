@@ -20,10 +20,11 @@ use Rattle.lrat_text.proofs.LineLemmas.{IsField, AreFields}
 use Rattle.lrat_text.proofs.NumberLemmas.{decimal-field}
 use Rattle.transcript_text.specs.declared.head.StepTest.{StepTest}
 use Rattle.transcript_text.specs.declared.head.Head.TheVariants.{Fit, Same, NoChannel, Log as LogHead, Dead, Outside, Undecided}
-use Rattle.transcript_text.specs.declared.transcript.Transcript.{Transcript}
-use Rattle.transcript_text.specs.declared.transcript.TranscriptStep.{TranscriptStep}
+use Rattle.auction_core.specs.declared.transcript.Transcript.{Transcript}
+use Rattle.auction_core.specs.declared.transcript.TranscriptStep.{TranscriptStep}
 use Rattle.transcript_text.specs.Steps.{◌>>=◌}
-use Rattle.transcript_text.specs.Spelling.{clauses_in, at_lines, head_line, outside_text, receipts_text, refuted_text, shown_text, step_text, start_text, version_text, end_text, spelling}
+use Rattle.auction_core.specs.LogNumbers.{clauses_in}
+use Rattle.transcript_text.specs.Spelling.{at_lines, head_line, outside_text, receipts_text, refuted_text, shown_text, step_text, start_text, version_text, end_text, spelling}
 use Rattle.transcript_text.specs.Fields.{greatest_u32, most_counted}
 use Rattle.transcript_text.specs.Reading.{receipts_at, fit_step, log_step, outside_step, undecided_step, step_of, step_at, next_step, steps_at, order_of, version_at, fit_start, empty_start, start_at, text_end, transcript_of}
 use Rattle.transcript_text.specs.Spelled.{IsLog, IsOneLog, IsStation, IsWorker, AreEntries, AreStations, AreLines, IsRefutation, IsShownSpelled, IsStepSpelled, IsStartSpelled, IsSpelled}

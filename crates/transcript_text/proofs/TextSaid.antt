@@ -20,9 +20,10 @@ use Rattle.transcript_text.specs.declared.error.TextErr.TheVariants.{BadLine, Tr
 use Rattle.transcript_text.specs.declared.head.StepTest.{StepTest}
 use Rattle.transcript_text.specs.declared.head.Head.{Head}
 use Rattle.transcript_text.specs.declared.head.Head.TheVariants.{Fit, Same, NoChannel, Log as LogHead, Dead, Outside, Undecided, End}
-use Rattle.transcript_text.specs.declared.transcript.Transcript.{Transcript}
-use Rattle.transcript_text.specs.declared.transcript.TranscriptStep.{TranscriptStep}
-use Rattle.transcript_text.specs.Spelling.{at_lines, clauses_in, end_text, head_line, outside_text, receipts_text, refuted_text, shown_text, spelling, start_text, step_text, version_text}
+use Rattle.auction_core.specs.declared.transcript.Transcript.{Transcript}
+use Rattle.auction_core.specs.declared.transcript.TranscriptStep.{TranscriptStep}
+use Rattle.transcript_text.specs.Spelling.{at_lines, end_text, head_line, outside_text, receipts_text, refuted_text, shown_text, spelling, start_text, step_text, version_text}
+use Rattle.auction_core.specs.LogNumbers.{clauses_in}
 use Rattle.transcript_text.specs.Fields.{FieldsLeft, LinesLeft, count_at, line_end, most_counted, next_field, next_line, word_at}
 use Rattle.transcript_text.specs.LogLines.{entries_at, log_at, stations_at}
 use Rattle.transcript_text.specs.Reading.{as_some, empty_start, fit_start, fit_step, head_at, log_step, next_step, numbered_log, order_of, outside_step, receipts_at, start_at, start_by, step_at, step_of, step_or, steps_at, text_end, transcript_of, undecided_step, version_at, version_or}
@@ -34,7 +35,7 @@ use Rattle.transcript_text.proofs.Rising.{after-ok}
 -- ---- a step
 
 -- the text of a step, or of the last line after this many
-abbrev next_text : BookView → ℕ → Option TranscriptStep → List ℕ
+abbrev pub next_text : BookView → ℕ → Option TranscriptStep → List ℕ
 next_text book steps None = end_text steps
 next_text book steps (Some x) = step_text book x
 
@@ -109,7 +110,7 @@ step-said sc book steps (Outside t k) lines x le e = some-said sc book steps (Ou
 step-said sc book steps (Undecided t) lines x le e = some-said sc book steps (Undecided t) lines (undecided_step sc t lines) x (λ y q. undecided-step-said sc book steps t lines y le q) e
 step-said sc book steps End lines x le e = subst (IsNextSaid sc book steps End lines) (ok-same (None, lines) x e) refl
 
-next-step-said : (sc : Scenario) (book : BookView) (steps : ℕ) (lines : LinesLeft) (x : Option TranscriptStep × LinesLeft) → length sc.workers ≤ greatest → next_step sc book steps lines ≡ Ok x → left_text lines ≡ next_text book steps x.0 ++ left_text x.1
+pub next-step-said : (sc : Scenario) (book : BookView) (steps : ℕ) (lines : LinesLeft) (x : Option TranscriptStep × LinesLeft) → length sc.workers ≤ greatest → next_step sc book steps lines ≡ Ok x → left_text lines ≡ next_text book steps x.0 ++ left_text x.1
 unfolding next_step
 next-step-said sc book steps lines x le e =
     let next = after-ok (next_line lines) _ x e in
@@ -148,7 +149,7 @@ steps-said sc book (suc most) steps lines x le e =
 
 -- ---- the start
 
-abbrev IsStartSaid : LinesLeft → Shown × LinesLeft → Type 0
+abbrev pub IsStartSaid : LinesLeft → Shown × LinesLeft → Type 0
 IsStartSaid lines x = left_text lines ≡ start_text x.0 ++ left_text x.1
 
 -- behind the word and the kind of a start
@@ -184,7 +185,7 @@ start-by-said sc n kind line lines x e = go (bytes_eq kind (codes "empty")) (byt
     go false true p q h = subst (λ (w : List ℕ). IsStartBody w line lines x) (sym (same-bytes-said kind (codes "fit") q)) (fit-start-said sc line lines x h)
     go false false p q h = absurd (err-ok (BadLine n) x h)
 
-start-said : (sc : Scenario) (lines : LinesLeft) (x : Shown × LinesLeft) → start_at sc lines ≡ Ok x → IsStartSaid lines x
+pub start-said : (sc : Scenario) (lines : LinesLeft) (x : Shown × LinesLeft) → start_at sc lines ≡ Ok x → IsStartSaid lines x
 unfolding start_at
 start-said sc lines x e =
     let next = after-ok (next_line lines) _ x e in
@@ -212,7 +213,7 @@ order-said line order e = go (bytes_eq line (codes "transcript 1")) (bytes_eq li
     go false true p q h = ap (λ (l : List ℕ). l ++ 10 ∷ []) (same-bytes-said line (codes "transcript 2") q) ∙ ap version_text (named h)
     go false false p q h = nothing h
 
-version-said : (lines : List (List ℕ)) (x : Order × LinesLeft) → version_at lines ≡ Ok x → ended lines ≡ version_text x.0 ++ left_text x.1
+pub version-said : (lines : List (List ℕ)) (x : Order × LinesLeft) → version_at lines ≡ Ok x → ended lines ≡ version_text x.0 ++ left_text x.1
 version-said [] x e = absurd (err-ok Truncated x e)
 version-said (line ∷ lines) x e = go (order_of line) refl e
   where

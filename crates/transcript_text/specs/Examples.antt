@@ -8,8 +8,8 @@ use Rattle.cert_types.specs.declared.answer.Receipt.TheVariants.{Lines, Moves}
 use Rattle.auction_core.specs.declared.record.Shown.{Shown}
 use Rattle.auction_core.specs.declared.record.Shown.TheVariants.{Empty, Fits, Same, NoChannel, Refuted, Outside, Undecided}
 use Rattle.auction_core.specs.Examples.{auction_of_three}
-use Rattle.transcript_text.specs.declared.transcript.Transcript.{Transcript}
-use Rattle.transcript_text.specs.declared.transcript.TranscriptStep.{TranscriptStep}
+use Rattle.auction_core.specs.declared.transcript.Transcript.{Transcript}
+use Rattle.auction_core.specs.declared.transcript.TranscriptStep.{TranscriptStep}
 
 abbrev pub three : Scenario
 three = auction_of_three (learner 1000 ∷ [])

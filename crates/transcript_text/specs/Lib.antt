@@ -8,3 +8,5 @@ pub mod Reading
 pub mod Spelled
 pub mod Named
 pub mod Pieces
+pub mod PrefixReading
+pub mod PrefixSpelling

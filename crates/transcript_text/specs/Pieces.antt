@@ -7,7 +7,7 @@ use Rattle.transcript_text.specs.declared.error.TextErr.{TextErr}
 use Rattle.transcript_text.specs.declared.error.TextErr.TheVariants.{Version, BadLine, Truncated, NoMemory}
 use Rattle.transcript_text.specs.declared.reader.Stage.{Stage}
 use Rattle.transcript_text.specs.declared.reader.Stage.TheVariants.{Opening, Steps, Whole, Refused}
-use Rattle.transcript_text.specs.declared.transcript.Transcript.{Transcript}
+use Rattle.auction_core.specs.declared.transcript.Transcript.{Transcript}
 use Rattle.transcript_text.specs.Fields.{LinesLeft}
 use Rattle.transcript_text.specs.Reading.{next_step, start_at, steps_at, text_end, transcript_of, version_at}
 use Rattle.transcript_text.specs.Steps.{◌>>=◌, Fails}

@@ -20,10 +20,10 @@ use Rattle.transcript_text.specs.declared.error.TextErr.TheVariants.{Version, Ba
 use Rattle.transcript_text.specs.declared.head.StepTest.{StepTest}
 use Rattle.transcript_text.specs.declared.head.Head.{Head}
 use Rattle.transcript_text.specs.declared.head.Head.TheVariants.{Fit, Same, NoChannel, Log as LogHead, Dead, Outside, Undecided, End}
-use Rattle.transcript_text.specs.declared.transcript.Transcript.{Transcript}
-use Rattle.transcript_text.specs.declared.transcript.TranscriptStep.{TranscriptStep}
+use Rattle.auction_core.specs.declared.transcript.Transcript.{Transcript}
+use Rattle.auction_core.specs.declared.transcript.TranscriptStep.{TranscriptStep}
 use Rattle.transcript_text.specs.Steps.{◌>>=◌}
-use Rattle.transcript_text.specs.Spelling.{clauses_in}
+use Rattle.auction_core.specs.LogNumbers.{clauses_in}
 use Rattle.transcript_text.specs.Fields.{LinesLeft, FieldsLeft, next_line, next_field, line_end, word_at, number_at, count_at, exactly_at, station_at, channel_at, worker_at, greatest_u32, most_counted}
 use Rattle.transcript_text.specs.LogLines.{log_at, entries_at, moves_at, stations_at}
 

@@ -14,9 +14,9 @@ use Rattle.cert_types.specs.declared.answer.Refutation.TheVariants.{Proof, Dead}
 use Rattle.auction_core.specs.declared.record.Shown.{Shown}
 use Rattle.auction_core.specs.declared.record.Shown.TheVariants.{Empty, Fits, Same, NoChannel, Refuted, Outside, Undecided}
 use Rattle.lrat_text.specs.LogText.{greatest, IsLitSpelled}
-use Rattle.transcript_text.specs.declared.transcript.Transcript.{Transcript}
-use Rattle.transcript_text.specs.declared.transcript.TranscriptStep.{TranscriptStep}
-use Rattle.transcript_text.specs.Spelling.{clauses_in}
+use Rattle.auction_core.specs.declared.transcript.Transcript.{Transcript}
+use Rattle.auction_core.specs.declared.transcript.TranscriptStep.{TranscriptStep}
+use Rattle.auction_core.specs.LogNumbers.{clauses_in}
 use Rattle.transcript_text.specs.Fields.{greatest_u32, most_counted, is_above}
 
 -- a station of the scenario

@@ -7,7 +7,6 @@ use Rattle.pack_defs.specs.ClockRule.{ClockState, after_answer, opening_state}
 use Rattle.pack_defs.specs.declared.order.Order.{Order}
 use Rattle.pack_defs.specs.declared.order.Order.TheVariants.{ByFacility, ByVolume}
 use Rattle.pack_defs.specs.declared.scenario.Scenario.{Scenario}
-use Rattle.cnf_encode.specs.Formula.{packing_formula}
 use Rattle.rup_check.specs.declared.line.Line.{Line}
 use Rattle.cert_types.specs.declared.answer.Receipt.{Receipt}
 use Rattle.cert_types.specs.declared.answer.Receipt.TheVariants.{Lines, Moves}
@@ -17,15 +16,12 @@ use Rattle.auction_core.specs.declared.record.Shown.{Shown}
 use Rattle.auction_core.specs.declared.record.Shown.TheVariants.{Empty, Fits, Same, NoChannel, Refuted, Outside, Undecided}
 use Rattle.auction_core.specs.declared.record.Step.{Step}
 use Rattle.auction_core.specs.declared.record.Record.{Record}
+use Rattle.auction_core.specs.LogNumbers.{clauses_in, firsts_of}
 use Rattle.auction_core.specs.State.{shows_room, test_of, tested_set}
 use Rattle.lrat_text.specs.Lines.{line_of}
 use Rattle.lrat_text.specs.LogText.{log_text}
-use Rattle.transcript_text.specs.declared.transcript.Transcript.{Transcript}
-use Rattle.transcript_text.specs.declared.transcript.TranscriptStep.{TranscriptStep}
-
--- how many clauses the formula of a set has
-abbrev pub clauses_in : BookView → List ℕ → ℕ
-clauses_in book set = length (packing_formula book set)
+use Rattle.auction_core.specs.declared.transcript.Transcript.{Transcript}
+use Rattle.auction_core.specs.declared.transcript.TranscriptStep.{TranscriptStep}
 
 -- a station and its channel, behind a word
 abbrev pub entry_text : List ℕ → ℕ × ℕ → List ℕ
@@ -110,26 +106,6 @@ spelling book t =
     version_text t.order ++ (start_text t.start ++ (flat_map (step_text book) t.steps ++ end_text (length t.steps)))
 
 -- ---- the transcript of a record
-
--- the number of the first line of a log over this many clauses; 0 where it has no line
-abbrev pub first_number : ℕ → List Line → ℕ
-first_number clauses [] = 0
-first_number clauses (x ∷ xs) = clauses + 1
-
--- the same of a receipt's log
-abbrev pub first_of : ℕ → Receipt → ℕ
-first_of clauses (Lines log) = first_number clauses log.lines
-first_of clauses (Moves moves) = 0
-
--- the same of each log of a step that is over the clauses of its test's set
-abbrev pub firsts_of : ℕ → Shown → List ℕ
-firsts_of clauses Empty = []
-firsts_of clauses (Fits delta) = []
-firsts_of clauses Same = []
-firsts_of clauses (NoChannel s) = []
-firsts_of clauses (Refuted worker how) = []
-firsts_of clauses (Outside proof) = first_number clauses proof.log.lines ∷ []
-firsts_of clauses (Undecided receipts) = map (first_of clauses) receipts
 
 -- the step of a transcript, in this state of the clock
 abbrev pub transcript_step : Scenario → BookView → ClockState → Step → TranscriptStep

@@ -1,7 +1,7 @@
 //! What a transcript's text says, about the definitions alone: worked texts, and that a text which is written is read
 //! again.
 
-ghost use Rattle.std.specs.Prelude.{◌≡◌, ◌<◌, ◌^◌, ◌∷◌, [], ℕ, List, Ok, Err, codes, length};
+ghost use Rattle.std.specs.Prelude.{◌≡◌, ◌≢◌, ◌<◌, ◌^◌, ◌∷◌, ◌++◌, [], ℕ, List, MatchResult, Ok, Err, codes, length, take, true};
 ghost use Rattle.auction_core.specs.declared.record.Shown.TheVariants as Shown;
 ghost use Rattle.pack_defs.specs.Scenario.{IsWithinLimits};
 ghost use Rattle.pack_defs.specs.declared.scenario.Scenario.{Scenario};
@@ -11,11 +11,14 @@ ghost use Rattle.auction_core.specs.declared.record.Ending.TheVariants as Ending
 ghost use Rattle.transcript_text.specs.Named.{IsHeld, IsNamed};
 ghost use Rattle.pack_defs.specs.Book.{BookView};
 ghost use Rattle.pack_defs.specs.declared.order.Order.TheVariants.{ByFacility};
-ghost use Rattle.transcript_text.specs.declared.transcript.Transcript.{Transcript};
+ghost use Rattle.auction_core.specs.declared.transcript.Transcript.{Transcript};
 ghost use Rattle.transcript_text.specs.Spelled.{IsSpelled};
 ghost use Rattle.pack_defs.specs.Examples.{three_stations};
 ghost use Rattle.transcript_text.specs.declared.error.TextErr.TheVariants.{BadLine, Truncated, Version};
 ghost use Rattle.transcript_text.specs.Examples.{fitted, later_text, later_transcript, other_text, other_transcript, three, three_text, three_transcript, two_workers};
+ghost use Rattle.auction_core.specs.declared.prefix.Prefix.{Prefix};
+ghost use Rattle.transcript_text.specs.PrefixReading.{IsPrefixOf, prefix_of, transcript_there};
+ghost use Rattle.transcript_text.specs.PrefixSpelling.{prefix_spelling};
 ghost use Rattle.transcript_text.specs.Reading.{transcript_of};
 ghost use Rattle.transcript_text.specs.Spelling.{spelling, transcript_for, transcript_text};
 
@@ -49,4 +52,25 @@ pub fn a_records_transcript_is_read()
 /// written of it. The scenario's workers are counted in 32 bits.
 pub fn a_transcript_has_one_text()
     ensures { (sc : Scenario) (book : BookView) (text : List ℕ) (t : Transcript) → length sc.workers < 2 ^ 32 → transcript_of sc book text ≡ Ok t → text ≡ spelling book t }
+{}
+
+/// A transcript that is all there is read as a beginning that has all of it, and its `end` line.
+pub fn all_of_a_transcript_is_there()
+    ensures { (sc : Scenario) (book : BookView) (text : List ℕ) (t : Transcript) → transcript_of sc book text ≡ Ok t → prefix_of sc book text ≡ Ok (transcript_there t true) }
+{}
+
+/// Any first bytes of a transcript's text are read as a beginning of it, whatever they are cut in.
+pub fn a_beginning_is_read()
+    ensures { (sc : Scenario) (book : BookView) (before after : List ℕ) (t : Transcript) → transcript_of sc book (before ++ after) ≡ Ok t → MatchResult (prefix_of sc book before) (λ kept. IsPrefixOf kept t) (λ why. ⊥) }
+{}
+
+/// No beginning is refused for what comes behind it.
+pub fn no_beginning_is_cut_short()
+    ensures { (sc : Scenario) (book : BookView) (text : List ℕ) → prefix_of sc book text ≢ Err Truncated }
+{}
+
+/// What is kept of a text is what it begins with: the text of all that isn't dropped. The scenario's workers are counted
+/// in 32 bits.
+pub fn a_text_begins_with_what_is_kept()
+    ensures { (sc : Scenario) (book : BookView) (text : List ℕ) (kept : Prefix) → length sc.workers < 2 ^ 32 → prefix_of sc book text ≡ Ok kept → take (length (prefix_spelling book kept)) text ≡ prefix_spelling book kept }
 {}

@@ -3,6 +3,7 @@
 #![tactic(auto)]
 
 pub mod again;
+pub mod beginning;
 mod error;
 mod fields;
 mod head;
@@ -18,7 +19,6 @@ pub mod reader;
 mod reading;
 mod steps;
 pub mod test_set;
-pub mod transcript;
 pub mod write;
 
 pub use error::TextErr;

@@ -4,7 +4,8 @@ ghost use Rattle.std.specs.Prelude.{◌≡◌, ◌≤◌, ◌+◌, ◌^◌, ◌+
 ghost use Rattle.std.specs.List.{All, flat_map};
 ghost use Rattle.lrat_text.specs.Lines.{line_of};
 ghost use Rattle.transcript_text.specs.Fields.{most_counted};
-ghost use Rattle.transcript_text.specs.Spelling.{end_text, entry_text, first_number, first_of, firsts_of, outside_text, receipt_text, receipts_text, refuted_text, shown_text, start_text, version_text};
+ghost use Rattle.transcript_text.specs.Spelling.{end_text, entry_text, outside_text, receipt_text, receipts_text, refuted_text, shown_text, start_text, version_text};
+ghost use Rattle.auction_core.specs.LogNumbers.{first_number, first_of, firsts_of};
 ghost use Rattle.transcript_text.specs.Writable.{IsShownWritable, IsWritable, lines_in};
 
 use auction_core::record::{Shown, Step};

@@ -11,8 +11,8 @@ use crate::error::TextErr;
 use crate::fields::{LineFields, TextLines, count_at, line_end, next_field, next_line, word_at};
 use crate::log_lines::entries_at;
 use crate::steps::{StepsRead, steps_on};
-use crate::transcript::Transcript;
 use auction_core::record::Shown;
+use auction_core::transcript::Transcript;
 use lrat_text::lines::{is_whole, split_line};
 use pack_defs::book::Book;
 use pack_defs::channel_map::ChannelMap;
@@ -35,8 +35,8 @@ fn order_of(line: &[u8]) -> Option<Order>
     None
 }
 
-// The order that the first line names, and the lines behind it.
-fn version_at(text: &[u8]) -> Result<(Order, TextLines<'_>), TextErr>
+/// The order that the first line names, and the lines behind it.
+pub(crate) fn version_at(text: &[u8]) -> Result<(Order, TextLines<'_>), TextErr>
     ensures { Gives (λ x. x) (version_at (whole_lines text.now)) result }
 {
     let Some((line, rest)) = split_line(text) else {
@@ -103,9 +103,9 @@ fn start_by<'a>(
     Err(TextErr::BadLine { n })
 }
 
-// How the start test was settled.
+/// How the start test was settled.
 #[tactic(auto, unfolding(crate::specs::Reading::start_at))]
-fn start_at<'a>(
+pub(crate) fn start_at<'a>(
     alloc: Global,
     sc: &Scenario,
     lines: TextLines<'a>,
@@ -120,8 +120,8 @@ fn start_at<'a>(
     start_by(alloc, sc, n, kind, fields, rest)
 }
 
-// That nothing stands behind the last line.
-fn text_end<'a>(whole: bool, lines: TextLines<'a>) -> Result<(), TextErr>
+/// That nothing stands behind the last line.
+pub(crate) fn text_end<'a>(whole: bool, lines: TextLines<'a>) -> Result<(), TextErr>
     ensures { Gives (λ u. u) (text_end whole lines.entry) result }
 {
     match split_line(lines.text) {

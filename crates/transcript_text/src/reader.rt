@@ -18,7 +18,7 @@ use crate::heads::head_at;
 use crate::pieces::{kept_of, line_ends, lines_from, whole_part};
 use crate::read::{ended_by, goes_on, opened_at, read_transcript};
 use crate::steps::{StepsRead, steps_on};
-use crate::transcript::Transcript;
+use auction_core::transcript::Transcript;
 use lrat_text::lines::is_whole;
 use pack_defs::book::Book;
 use pack_defs::scenario::Scenario;

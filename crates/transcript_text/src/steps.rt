@@ -5,6 +5,7 @@ ghost use Rattle.pack_defs.specs.Scenario.{StationsAscend};
 ghost use Rattle.transcript_text.specs.Fields.{most_counted};
 ghost use Rattle.transcript_text.specs.Reading.{IsCounted, fit_step, log_step, next_step, outside_step, step_at, step_of, undecided_step};
 ghost use Rattle.transcript_text.specs.Pieces.{IsAtEnd, ReadsOn, stopped};
+ghost use Rattle.transcript_text.specs.PrefixReading.{AreStepsThere};
 ghost use Rattle.transcript_text.specs.Steps.{Gives};
 
 use crate::error::TextErr;
@@ -13,8 +14,8 @@ use crate::head::{Head, StepTest};
 use crate::heads::head_at;
 use crate::log_lines::{entries_at, log_at, stations_of};
 use crate::reading::{NumberedLog, Receipts, numbered_log, receipts_at};
-use crate::transcript::{Transcript, TranscriptStep};
 use auction_core::record::{Shown, Step};
+use auction_core::transcript::{Transcript, TranscriptStep};
 use cert_types::answer::Refutation;
 use cert_types::outside::OutsideProof;
 use cnf_encode::count::clause_count;
@@ -252,6 +253,7 @@ pub(crate) fn steps_on<'a>(
     requires { StationsAscend sc.now }
     ensures read { ReadsOn sc.now book.now begun lines.entry result }
     ensures waits { IfOk result (λ x. IsAtEnd sc.now book.now x) }
+    ensures there { AreStepsThere sc.now book.now begun lines.entry result }
 {
     let Transcript {
         order,

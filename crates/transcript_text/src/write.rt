@@ -10,7 +10,8 @@ ghost use Rattle.pack_defs.specs.Scenario.{IsWithinLimits, StationsAscend, facil
 ghost use Rattle.auction_core.specs.Backed.{IsBacked};
 ghost use Rattle.auction_core.specs.Clock.{AreStandings};
 ghost use Rattle.auction_core.specs.State.{tested_set};
-ghost use Rattle.transcript_text.specs.Spelling.{clauses_in, firsts_of, transcript_text};
+ghost use Rattle.auction_core.specs.LogNumbers.{clauses_in, firsts_of};
+ghost use Rattle.transcript_text.specs.Spelling.{transcript_text};
 
 use crate::parts::{push_end, push_start, push_step, push_version};
 use crate::test_set::test_set;

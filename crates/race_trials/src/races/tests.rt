@@ -1,14 +1,19 @@
 //! Tests of whole auctions.
 
-ghost use Rattle.std.specs.Prelude.{◌≡◌, ◌≤◌, ◌∷◌, []};
+ghost use Rattle.std.specs.Prelude.{◌≡◌, ◌≤◌, ◌∷◌, [], IfOk};
 ghost use Rattle.pack_defs.specs.Scenario.{IsWithinLimits, facilities};
+ghost use Rattle.auction_core.specs.Setup.{IsOfAuction};
 
 use crate::races::samples::{all_on_air, learner, three_bids, three_stations};
+use auction_core::auction::Auction;
 use auction_core::record::{Ending, Record, Shown, Step};
 use cert_types::answer::Refutation;
+use pack_defs::book::Book;
 use pack_defs::channel_map::ChannelMap;
+use pack_defs::order::Order;
 use pack_defs::scenario::Scenario;
-use race_wave::run::run_auction;
+use race_wave::run::{go_on, racers_of, run_auction};
+use race_wave::serial::serial_turn;
 use solver_gate::gate::{EmptyGate, Gate};
 use std::alloc::{AllocError as NoMemory, Global};
 use std::sync::Wait;
@@ -108,14 +113,18 @@ pub(crate) fn freezes<G: Gate + Sync, W: Threads + Wait + Sync>(
     requires limits { IsWithinLimits sc.now }
     requires stations { facilities sc.now ≡ 1 ∷ 2 ∷ 3 ∷ [] }
 {
-    let tests = [
+    ends(rt, alloc, gate, sc, Ending::Done, 60, &last_tests(last))
+}
+
+// The tests of three stations that end with this one of station 3.
+fn last_tests(last: By) -> [Test; 5] {
+    [
         (1, 1, By::Fit),
         (1, 2, By::Fit),
         (1, 3, By::Fit),
         (2, 1, By::Fit),
         (2, 3, last),
-    ];
-    ends(rt, alloc, gate, sc, Ending::Done, 60, &tests)
+    ]
 }
 
 // The same of the auction by one worker of this budget.
@@ -130,6 +139,33 @@ fn one_freezes<W: Threads + Wait + Sync>(
 {
     let sc = three_bids(alloc, vec![in alloc; learner(budget)]?, 1)?;
     freezes(rt, alloc, &EmptyGate, &sc, last)
+}
+
+// The same of the auction by one worker, where so many turns on this thread were behind it when it went on.
+fn freezes_behind<W: Threads + Wait + Sync>(
+    rt: &W,
+    alloc: Global,
+    turns: u32,
+) -> Result<bool, NoMemory> {
+    let sc = three_bids(alloc, vec![in alloc; learner(1000)]?, 1)?;
+    let book = three_stations(alloc)?;
+    let auction = turned(alloc, &sc, &book, turns)?;
+    let record = go_on(rt, alloc, auction, sc, &book, &EmptyGate)?;
+    Ok(is_end(&record, Ending::Done, 60, &last_tests(By::ProofOf(0))))
+}
+
+// The auction after so many turns on this thread.
+fn turned(alloc: Global, sc: &Scenario, book: &Book, turns: u32) -> Result<Auction, NoMemory>
+    requires { IsOfAuction sc.now book.now }
+    ensures scenario { IfOk result (λ auction. auction.scenario ≡ sc.now) }
+    ensures book { IfOk result (λ auction. auction.book ≡ book.now) }
+{
+    let mut racers = racers_of(alloc, sc.workers.as_slice())?;
+    let mut auction = Auction::start(alloc, sc, book, Order::ByVolume)?;
+    for _turn in 0..turns {
+        serial_turn(alloc, &mut auction, &mut racers)?;
+    }
+    Ok(auction)
 }
 
 // The same of the auction by two workers of these budgets.
@@ -153,6 +189,15 @@ fn two_freeze<W: Threads + Wait + Sync>(
 fn three_stations_are_asked_by_a_worker(rt: HostRuntime) -> Result<(), Fail> {
     assert!(rt; one_freezes(&rt, rt.alloc(), 1000, By::ProofOf(0))?);
     assert!(rt; one_freezes(&rt, rt.alloc(), 1, By::None)?);
+    Ok(())
+}
+
+// It goes on from its first query, from each later one and from its end.
+#[test]
+fn three_stations_go_on_from_any_query(rt: HostRuntime) -> Result<(), Fail> {
+    for turns in 0..7 {
+        assert!(rt; freezes_behind(&rt, rt.alloc(), turns)?);
+    }
     Ok(())
 }
 

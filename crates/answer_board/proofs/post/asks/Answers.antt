@@ -21,7 +21,7 @@ pub returns : goal.returns
 returns c =
     let now = c.args.auction.now in
     let stands = sym c.in-Ok-Some.ensures.task ∙ c.in-Ok-Some.field-0-is in (
-      record { setup = refl; history = refl },
+      record { beginning = refl; history = refl },
       record {
         stands = stands;
         query = subst (λ o. MatchOption o ⊤ (IsQuery now.book)) c.in-Ok-Some.field-0-is c.in-Ok-Some.ensures.query;

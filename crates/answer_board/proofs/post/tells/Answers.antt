@@ -1,6 +1,5 @@
-use Rattle.std.proofs.Common.{◌∙◌, ◌++◌, ◌∷◌, [], ap, sym}
+use Rattle.std.proofs.Common.{◌∙◌, ◌++◌, ◌∷◌, [], ap, sym, true}
 use Rattle.auction_core.specs.Said.{StandsFor}
-use Rattle.auction_core.specs.State.{CoreState}
 use Rattle.answer_board.proofs.PostLemmas.{kept-alike}
 use Rattle.answer_board.proofs.post.tells.Goals as goal
 
@@ -13,9 +12,10 @@ returns-clause-taken c answer h =
     record {
       told = rw (sym c.reserve.ensures.scenario, sym c.reserve.ensures.book, sym c.reserve.ensures.state) (told.seen answer said);
       history = told.history ∙ rw (c.reserve.ensures.history) (ap (λ e. now.history ++ e ∷ []) (kept-alike at.scenario at.book at.state c.take-told.new.self.state _ answer c.take-told.result said told.told));
-      setup = λ i. record {
+      beginning = λ i. record {
         scenario = (told.scenario ∙ c.reserve.ensures.scenario) i;
         book = (told.book ∙ c.reserve.ensures.book) i;
-        order = (told.order ∙ ap (λ (s : CoreState). s.order) c.reserve.ensures.state) i;
+        state = (told.opened ∙ c.reserve.ensures.opened) i;
+        ready = true;
       };
     }

@@ -5,7 +5,7 @@ use Rattle.cert_types.specs.Outside.{IsOutsideProof}
 use Rattle.cert_types.specs.declared.outside.OutsideProof.{OutsideProof}
 use Rattle.lrat_text.specs.LogReading.{log_of}
 use Rattle.std.specs.Prelude.{List, Ok}
-use Rattle.transcript_text.specs.Spelling.{clauses_in}
+use Rattle.auction_core.specs.LogNumbers.{clauses_in}
 use Rattle.open_tests.specs.Settled.{settled_by}
 use Rattle.open_tests.specs.Settling.{cut_proof}
 use Rattle.open_tests.proofs.SettleLemmas.{settled-so}

@@ -1,5 +1,6 @@
 use Rattle.std.proofs.Common.{◌≡◌, ◌++◌, drop, map}
-use Rattle.transcript_text.specs.Spelling.{first_of, receipts_text}
+use Rattle.auction_core.specs.LogNumbers.{first_of}
+use Rattle.transcript_text.specs.Spelling.{receipts_text}
 use Rattle.transcript_text.proofs.parts.push_receipts.Given as goal
 
 abbrev pub invariant-loop-i : goal.invariant-loop-i

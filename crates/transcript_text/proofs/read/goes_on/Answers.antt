@@ -1,6 +1,6 @@
 use Rattle.std.proofs.Common.{subst, sym, Result}
 use Rattle.transcript_text.specs.declared.error.TextErr.{TextErr}
-use Rattle.transcript_text.specs.declared.transcript.Transcript.{Transcript}
+use Rattle.auction_core.specs.declared.transcript.Transcript.{Transcript}
 use Rattle.transcript_text.specs.Steps.{Gives}
 use Rattle.transcript_text.proofs.Ahead.{all-read, fault-read}
 use Rattle.transcript_text.proofs.read.goes_on.Goals as goal

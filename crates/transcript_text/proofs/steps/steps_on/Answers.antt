@@ -1,8 +1,10 @@
 use Rattle.std.proofs.Common.{◌≡◌, ◌∙◌, Ok, ap, length, subst, sym}
 use Rattle.transcript_text.specs.Pieces.{ReadsOn, StepsSoFar, stopped}
+use Rattle.transcript_text.specs.PrefixReading.{AreStepsThere}
 use Rattle.transcript_text.specs.Reading.{next_step}
 use Rattle.transcript_text.specs.Steps.{Fails}
 use Rattle.transcript_text.proofs.Ahead.{asked-same, end-read, step-read-as, stop-read}
+use Rattle.transcript_text.proofs.PrefixSteps.{end-there, step-there, stop-there}
 use Rattle.transcript_text.proofs.StepLoop.{step-fewer, took-line}
 use Rattle.transcript_text.proofs.steps.steps_on.Goals as goal
 
@@ -14,6 +16,8 @@ loop-next-smaller c =
 pub loop-next-preserved : goal.loop-next-preserved
 loop-next-preserved c = record {
   read = step-read-as c.args.sc.now c.args.book.now c.args.begun _ c.args.lines c.loop-next.rest c.in-Ok.after c.in-Some.step c.push.new.self.items c.loop-next.invariant.read
+      (asked-same (λ r. r ≡ Ok (c.in-Ok.next, c.in-Ok.after)) c.args.sc.now c.args.book.now c.len.result (length c.loop-next.steps.items) c.again.result c.loop-next.rest (c.len.ensures ∙ c.loop-next.steps.ok.0) c.again.ensures c.in-Ok.ensures ∙ ap (λ o. Ok (o, c.in-Ok.after)) c.in-Some.is) c.in_ok-push-in-Some.ensures.items;
+  there = step-there c.args.sc.now c.args.book.now c.args.begun _ c.args.lines c.loop-next.rest c.in-Ok.after c.in-Some.step c.push.new.self.items c.loop-next.invariant.there
       (asked-same (λ r. r ≡ Ok (c.in-Ok.next, c.in-Ok.after)) c.args.sc.now c.args.book.now c.len.result (length c.loop-next.steps.items) c.again.result c.loop-next.rest (c.len.ensures ∙ c.loop-next.steps.ok.0) c.again.ensures c.in-Ok.ensures ∙ ap (λ o. Ok (o, c.in-Ok.after)) c.in-Some.is) c.in_ok-push-in-Some.ensures.items;
 }
 
@@ -28,4 +32,17 @@ returns-in-Err-clause-read c =
     subst (ReadsOn c.args.sc.now c.args.book.now c.args.begun c.args.lines) (sym c.stopped.ensures)
     (subst (λ (x : StepsSoFar). ReadsOn c.args.sc.now c.args.book.now c.args.begun c.args.lines (stopped c.in-Err.why x)) (sym c.so_far-in-Err.ensures)
     (stop-read c.args.sc.now c.args.book.now c.args.begun _ c.args.lines c.loop-next.rest c.in-Err.why c.loop-next.invariant.read
+    (asked-same (Fails c.in-Err.why) c.args.sc.now c.args.book.now c.len.result (length c.loop-next.steps.items) c.again.result c.loop-next.rest (c.len.ensures ∙ c.loop-next.steps.ok.0) c.again.ensures c.in-Err.ensures)))
+
+pub returns-in-None-clause-there : goal.returns-in-None-clause-there
+returns-in-None-clause-there c =
+    subst (λ (x : StepsSoFar). AreStepsThere c.args.sc.now c.args.book.now c.args.begun c.args.lines (Ok x)) (sym c.so_far.ensures)
+    (end-there c.args.sc.now c.args.book.now c.args.begun _ c.args.lines c.loop-next.rest c.in-Ok.after c.loop-next.invariant.there
+    (asked-same (λ r. r ≡ Ok (c.in-Ok.next, c.in-Ok.after)) c.args.sc.now c.args.book.now c.len.result (length c.loop-next.steps.items) c.again.result c.loop-next.rest (c.len.ensures ∙ c.loop-next.steps.ok.0) c.again.ensures c.in-Ok.ensures ∙ ap (λ o. Ok (o, c.in-Ok.after)) c.in-None.is))
+
+pub returns-in-Err-clause-there : goal.returns-in-Err-clause-there
+returns-in-Err-clause-there c =
+    subst (AreStepsThere c.args.sc.now c.args.book.now c.args.begun c.args.lines) (sym c.stopped.ensures)
+    (subst (λ (x : StepsSoFar). AreStepsThere c.args.sc.now c.args.book.now c.args.begun c.args.lines (stopped c.in-Err.why x)) (sym c.so_far-in-Err.ensures)
+    (stop-there c.args.sc.now c.args.book.now c.args.begun _ c.args.lines c.loop-next.rest c.in-Err.why c.loop-next.invariant.there
     (asked-same (Fails c.in-Err.why) c.args.sc.now c.args.book.now c.len.result (length c.loop-next.steps.items) c.again.result c.loop-next.rest (c.len.ensures ∙ c.loop-next.steps.ok.0) c.again.ensures c.in-Err.ensures)))

@@ -1,6 +1,6 @@
 use Rattle.std.proofs.Common.{◌∙◌, ap, sym, subst}
 use Rattle.std.proofs.lemmas.Result.{IfOk-weaker}
-use Rattle.auction_core.specs.Setup.{SetupView}
+use Rattle.auction_core.specs.Clockwork.{ClockworkView}
 use Rattle.answer_board.specs.Boards.{raised}
 use Rattle.answer_board.specs.Posts.{LookIs}
 use Rattle.answer_board.proofs.PostLemmas.{seen-replays}
@@ -12,5 +12,5 @@ returns-clause-look g c =
     IfOk-weaker c.what_stands-looked.result _ _ (λ look h. record {
       state = value.state;
       replays = seen-replays (raised c.args.self.now) value _ c.enter-turn.ensures.base (c.enter-turn.ensures.value ∙ sym (ap (λ k. k.seen) c.leave.ensures.known)) c.posted.ensures.replays;
-      holds = subst (λ (s : SetupView). LookIs s.scenario s.book value.state look) c.enter-turn.ensures.base h;
+      holds = subst (λ (s : ClockworkView). LookIs s.scenario s.book value.state look) c.enter-turn.ensures.base h;
     }) c.what_stands-looked.ensures

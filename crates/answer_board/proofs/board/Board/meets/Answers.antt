@@ -3,11 +3,11 @@ use Rattle.std.specs.Prelude.{slice_get}
 use Rattle.cert_types.specs.declared.answer.Answer.TheVariants.{Fit}
 use Rattle.cert_types.specs.Query.{IsQuery}
 use Rattle.auction_core.specs.Replay.{EntryView, entry_of}
-use Rattle.auction_core.specs.Setup.{SetupView}
+use Rattle.auction_core.specs.Clockwork.{ClockworkView}
 use Rattle.auction_core.specs.State.{task_of}
 use Rattle.auction_core.specs.Take.{PostingView}
 use Rattle.turn_lock.specs.Passes.{known_of, number_of, seen_of}
-use Rattle.answer_board.specs.Boards.{raised, setup_of}
+use Rattle.answer_board.specs.Boards.{beginning_of, raised}
 use Rattle.answer_board.specs.Entries.{numbered}
 use Rattle.answer_board.specs.Posts.{HasMet, IsPosted, IsTaken}
 use Rattle.answer_board.proofs.PostLemmas.{numbered-more, posted, seen-replays}
@@ -30,7 +30,7 @@ commit-requires-clause-base g c =
     let told = subst (HasMet value c.meets.new.auction c.number-worker.result c.args.number) c.in-Ok-Told.field-0-is c.in-Ok-Told.ensures.met in
     let posting : PostingView = record { worker = c.number-worker.result; number = c.args.number; answer = Fit [] } in
     let taken : IsTaken value c.meets.new.auction posting c.in-Ok-Told.reply = told (Fit []) in
-    taken.setup ∙ c.enter-turn.ensures.base
+    taken.beginning ∙ c.enter-turn.ensures.base
 
 pub leave-requires-clause-base : goal.leave-requires-clause-base
 leave-requires-clause-base g c =
@@ -38,7 +38,7 @@ leave-requires-clause-base g c =
     let told = subst (HasMet value c.meets.new.auction c.number-worker.result c.args.number) c.in-Ok-Told.field-0-is c.in-Ok-Told.ensures.met in
     let posting : PostingView = record { worker = c.number-worker.result; number = c.args.number; answer = Fit [] } in
     let taken : IsTaken value c.meets.new.auction posting c.in-Ok-Told.reply = told (Fit []) in
-    ap (λ t. setup_of t.value.auction) c.commit.ensures.value ∙ (taken.setup ∙ c.enter-turn.ensures.base)
+    ap (λ t. beginning_of t.value.auction) c.commit.ensures.value ∙ (taken.beginning ∙ c.enter-turn.ensures.base)
 
 pub returns-in-Ok-Told-clause-seen : goal.returns-in-Ok-Told-clause-seen
 returns-in-Ok-Told-clause-seen g c =
@@ -82,9 +82,9 @@ returns-in-Ok-Asked-clause-met g c =
         begins = starts-itself (seen_of c.leave-in-Ok-Asked.new.pass);
         state = value.state;
         replays = seen-replays made value _ base (c.enter-turn.ensures.value ∙ sym (ap (λ k. k.seen) left)) c.posted.ensures.replays;
-        stands = subst (λ (s : SetupView). task_of s.scenario s.book value.state ≡ Some c.in-Ok-Asked.task) base asked.stands;
+        stands = subst (λ (s : ClockworkView). task_of s.scenario s.book value.state ≡ Some c.in-Ok-Asked.task) base asked.stands;
       };
-      query = subst (λ (s : SetupView). IsQuery s.book c.in-Ok-Asked.task) base asked.query;
-      worker = subst (λ (s : SetupView). slice_get s.scenario.workers (number_of c.args.pass.now) ≡ Some c.in-Ok-Asked.worker) base (subst (λ w. slice_get value.scenario.workers w ≡ Some c.in-Ok-Asked.worker) c.number-worker.ensures asked.worker);
+      query = subst (λ (s : ClockworkView). IsQuery s.book c.in-Ok-Asked.task) base asked.query;
+      worker = subst (λ (s : ClockworkView). slice_get s.scenario.workers (number_of c.args.pass.now) ≡ Some c.in-Ok-Asked.worker) base (subst (λ w. slice_get value.scenario.workers w ≡ Some c.in-Ok-Asked.worker) c.number-worker.ensures asked.worker);
       number = asked.number;
     }

@@ -4,7 +4,7 @@ use Rattle.auction_core.specs.Take.{PostingView}
 use Rattle.auction_core.specs.declared.posting.Posting.{Posting}
 use Rattle.auction_core.specs.Said.{StandsFor}
 use Rattle.turn_lock.specs.Passes.{known_of, seen_of}
-use Rattle.answer_board.specs.Boards.{raised, setup_of}
+use Rattle.answer_board.specs.Boards.{beginning_of, raised}
 use Rattle.answer_board.specs.Entries.{numbered}
 use Rattle.answer_board.specs.Posts.{IsPosted, IsTaken, StandsOn}
 use Rattle.answer_board.proofs.PostLemmas.{numbered-more, posted, stands-here, stands-may}
@@ -38,7 +38,7 @@ commit-requires-clause-base g c =
     let stands : StandsFor value.scenario value.book value.state said c.args.answer.now.value = stands-here (raised c.args.self.now) value (seen_of c.args.pass.now) (seen_of c.enter-turn.new.pass) said c.args.answer.now.value on c.enter-turn.ensures.base c.enter-turn.ensures.value c.posted.ensures.replays c.enter-turn.ensures.seen in
     let posting : PostingView = record { worker = c.number-worker.result; number = c.args.number; answer = c.args.answer.now.value } in
     let taken : IsTaken value c.tells.new.auction posting c.in-Ok.reply = c.in-Ok.ensures.taken c.args.answer.now.value stands in
-    taken.setup ∙ c.enter-turn.ensures.base
+    taken.beginning ∙ c.enter-turn.ensures.base
 
 pub leave-requires-clause-base : goal.leave-requires-clause-base
 leave-requires-clause-base g c =
@@ -48,7 +48,7 @@ leave-requires-clause-base g c =
     let stands : StandsFor value.scenario value.book value.state said c.args.answer.now.value = stands-here (raised c.args.self.now) value (seen_of c.args.pass.now) (seen_of c.enter-turn.new.pass) said c.args.answer.now.value on c.enter-turn.ensures.base c.enter-turn.ensures.value c.posted.ensures.replays c.enter-turn.ensures.seen in
     let posting : PostingView = record { worker = c.number-worker.result; number = c.args.number; answer = c.args.answer.now.value } in
     let taken : IsTaken value c.tells.new.auction posting c.in-Ok.reply = c.in-Ok.ensures.taken c.args.answer.now.value stands in
-    ap (λ t. setup_of t.value.auction) c.commit.ensures.value ∙ (taken.setup ∙ c.enter-turn.ensures.base)
+    ap (λ t. beginning_of t.value.auction) c.commit.ensures.value ∙ (taken.beginning ∙ c.enter-turn.ensures.base)
 
 pub returns-in-Ok-clause-seen : goal.returns-in-Ok-clause-seen
 returns-in-Ok-clause-seen g c =

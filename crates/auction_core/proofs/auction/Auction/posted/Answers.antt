@@ -1,11 +1,25 @@
--- What a history replays to keeps the rule.
-use Rattle.std.proofs.Common.{subst}
-use Rattle.auction_core.specs.Auction.{state_at}
+-- What a history replays to keeps the rule, and goes on from where it began.
+use Rattle.std.proofs.Common.{◌≡◌, subst}
+use Rattle.auction_core.specs.Auction.{AuctionView, state_at}
+use Rattle.auction_core.specs.Postings.{GoesOn}
 use Rattle.auction_core.specs.Rule.{KeepsTheRule}
 use Rattle.auction_core.proofs.AuctionLemmas.{replayed-rule}
+use Rattle.auction_core.proofs.GoesOn.{replay-goes}
 use Rattle.auction_core.proofs.auction.Auction.posted.Goals as goal
 
 pub returns-clause-rule : goal.returns-clause-rule
 returns-clause-rule c =
     let a = c.self.inside in
-    subst (λ v. KeepsTheRule v.scenario v.book v.state) c.self.view_is (replayed-rule a.clockwork.scenario a.clockwork.book a.history.items (state_at a.clockwork a.notes) c.self.invariant.replayed)
+    subst (λ v. KeepsTheRule v.scenario v.book v.state) c.self.view_is (replayed-rule a.clockwork.scenario a.clockwork.book a.opened.value.state a.history.items (state_at a.clockwork a.notes) c.self.invariant.replayed)
+
+pub returns-clause-order : goal.returns-clause-order
+returns-clause-order c =
+    let a = c.self.inside in
+    subst (λ (v : AuctionView). v.state.order ≡ v.opened.order) c.self.view_is
+    (replay-goes a.clockwork.scenario a.clockwork.book a.history.items a.opened.value.state (state_at a.clockwork a.notes) c.self.invariant.replayed.replays).order
+
+pub returns-clause-goes_on : goal.returns-clause-goes_on
+returns-clause-goes_on c =
+    let a = c.self.inside in
+    subst (λ (v : AuctionView). GoesOn v.opened v.state) c.self.view_is
+    (replay-goes a.clockwork.scenario a.clockwork.book a.history.items a.opened.value.state (state_at a.clockwork a.notes) c.self.invariant.replayed.replays)

@@ -10,7 +10,7 @@ use Rattle.auction_core.proofs.auction.Auction.take.Goals as goal
 pub tell-reply-requires-clause-ready : goal.tell-reply-requires-clause-ready
 tell-reply-requires-clause-ready c =
     let a = c.self.inside in
-    spare-ready a.clockwork a.notes a.history.items (vec_capacity a.history - vec_len a.history) c.self.invariant (subst (λ v. 1 ≤ v.spare) (sym c.self.view_is) c.requires.spare)
+    spare-ready a.clockwork a.notes a.opened.value.state a.history.items (vec_capacity a.history - vec_len a.history) c.self.invariant (subst (λ v. 1 ≤ v.spare) (sym c.self.view_is) c.requires.spare)
 
 pub invariant_of-self : goal.invariant_of-self
 invariant_of-self c =
@@ -22,7 +22,7 @@ invariant_of-self c =
     let items : c.push_reserved.new.self.items ≡ a.history.items ++ entry_told c.args.posting reply ∷ [] =
     c.push_reserved.ensures.items ∙ ap (λ o. a.history.items ++ record { worker = c.args.posting.worker; number = c.args.posting.number; reply = reply; answer = o } ∷ []) kept in
     let e = c.tell-reply.ensures in
-    rw items (told-between w c.tell-reply.new.clockwork a.notes c.tell-reply.new.notes a.history.items c.args.posting reply c.self.invariant may e.told e.scenario e.book e.places)
+    rw items (told-between w c.tell-reply.new.clockwork a.notes c.tell-reply.new.notes a.opened.value.state a.history.items c.args.posting reply c.self.invariant may e.told e.scenario e.book e.places)
 
 pub returns-clause-seen : goal.returns-clause-seen
 returns-clause-seen c answer h =
@@ -33,7 +33,7 @@ returns-clause-seen c answer h =
 pub returns-clause-rule : goal.returns-clause-rule
 returns-clause-rule c =
     let w = c.tell-reply.new.clockwork in
-    replayed-rule w.scenario w.book c.push_reserved.new.self.items (state_at w c.tell-reply.new.notes) (invariant_of-self c).replayed
+    replayed-rule w.scenario w.book c.self.inside.opened.value.state c.push_reserved.new.self.items (state_at w c.tell-reply.new.notes) (invariant_of-self c).replayed
 
 pub returns-clause-order : goal.returns-clause-order
 returns-clause-order c =
@@ -41,5 +41,5 @@ returns-clause-order c =
     let w = a.clockwork in
     let new = state_at c.tell-reply.new.clockwork c.tell-reply.new.notes in
     let may : MayBeTaken w.scenario w.book (state_at w a.notes) c.args.posting = subst (λ v. MayBeTaken v.scenario v.book v.state c.args.posting) (sym c.self.view_is) c.requires.said in
-    told-order w.scenario w.book a.history.items (state_at w a.notes) new c.args.posting c.tell-reply.result c.self.invariant.replayed may c.tell-reply.ensures.told
+    told-order w.scenario w.book a.opened.value.state a.history.items (state_at w a.notes) new c.args.posting c.tell-reply.result c.self.invariant.replayed may c.tell-reply.ensures.told
     ∙ ap (λ v. v.state.order) c.self.view_is

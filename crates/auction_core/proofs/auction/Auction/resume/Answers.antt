@@ -1,0 +1,8 @@
+-- What is kept without a fault may be kept.
+use Rattle.auction_core.proofs.AuctionLemmas.{is-auction}
+use Rattle.auction_core.proofs.KeptLemmas.{kept-prefix}
+use Rattle.auction_core.proofs.auction.Auction.resume.Goals as goal
+
+pub returns-clause-kept : goal.returns-clause-kept
+returns-clause-kept c =
+    kept-prefix c.args.sc.now c.args.book.now c.args.prefix (is-auction c.args.sc.now c.args.book.now c.requires c.len.ensures.in_order) c.in_ok-clockwork.ensures.none

@@ -1,0 +1,291 @@
+//! The check of a transcript's start and steps, one after the other: an auction is carried out again, each query settled as the
+//! transcript says, where the certificate for it is let through. In this order: one step is checked (`step_check`, by `shown_by`,
+//! `receipts`, `log_numbers` and `step_err`), then the start, then all steps, then the end.
+
+ghost use Rattle.std.specs.Prelude.{◌≡◌, ◌<◌, ◌^◌, ◌≤◌, ◌&&◌, [], IfErr, IfOk, List, None, OnOk, Option, Some, length, not, option_map, true};
+ghost use Rattle.auction_core.specs.Setup.{IsOfAuction};
+ghost use Rattle.auction_core.specs.State.{answered, has_ended, opening, start_task};
+ghost use Rattle.auction_core.specs.declared.record.Shown.{Shown};
+ghost use Rattle.auction_core.specs.declared.record.Shown.TheVariants as Shown;
+ghost use Rattle.auction_core.specs.Backed.{after_start};
+ghost use Rattle.cert_types.specs.Valid.{fit_fault};
+ghost use Rattle.pack_defs.specs.ClockRule.{clock_tests};
+ghost use Rattle.pack_defs.specs.declared.order.Order.{Order};
+ghost use Rattle.auction_core.specs.declared.transcript.TranscriptStep.{TranscriptStep};
+ghost use Rattle.auction_core.specs.Checked.{FinishTells, IsAllShown, IsAt, IsEarly, Tells, found_in, is_empty_shown};
+ghost use Rattle.auction_core.specs.LogNumbers.{steps_in};
+ghost use Rattle.auction_core.specs.NotShown.{NotShown, Explains, not_kept, not_shown, order_kept, start_fault, started_fault, steps_fault};
+ghost use Rattle.auction_core.specs.Prefix.{resumed};
+ghost use Rattle.pack_defs.specs.Lists.{is_empty};
+ghost use Rattle.auction_core.specs.declared.prefix.ShownWhy.TheVariants.{NotValid};
+
+use crate::clockwork::Clockwork;
+use crate::prefix::{Prefix, ResumeErr, ShownWhy};
+use crate::record::Shown;
+use crate::shown_by::fit;
+use crate::step_check::check_step;
+use crate::step_err::{StepErr, not_valid};
+use crate::transcript::{Transcript, TranscriptStep};
+use cert_types::answer::Place;
+use pack_defs::book::Book;
+use pack_defs::channel_map::ChannelMap;
+use pack_defs::order::Order;
+use pack_defs::scenario::Scenario;
+use std::alloc::Global;
+
+// The error of a step at fault.
+fn at(step: u64, e: StepErr) -> ResumeErr
+    ensures why { (found : Option ShownWhy) → Tells e found → Explains result (option_map (λ why. record { step = step; why = why }) found) }
+    ensures early { IsEarly result step }
+{
+    match e {
+        StepErr::Fault(why) => ResumeErr::NotShown { step, why },
+        StepErr::NoMemory => ResumeErr::NoMemory,
+    }
+}
+
+// Whether the start was shown as empty.
+fn is_empty_shown(start: &Option<Shown>) -> bool
+    ensures { result ≡ is_empty_shown start.now }
+{
+    matches!(start, Some(Shown::Empty))
+}
+
+// Settles the start test by a fit.
+fn start_fit(alloc: Global, clockwork: &mut Clockwork, delta: ChannelMap) -> Result<(), StepErr>
+    requires auction { IsOfAuction clockwork.old.scenario clockwork.old.book }
+    requires standing { clockwork.old.state.start ≡ None }
+    ensures fault { OnOk result (fit_fault clockwork.old.book (start_task clockwork.old.scenario clockwork.old.state.number) delta ≡ None) }
+    ensures state { OnOk result (clockwork.new.state ≡ answered clockwork.old.scenario clockwork.old.book clockwork.old.state (Shown.Fits delta)) }
+    ensures why { IfErr result (λ e. Tells e (option_map NotValid (fit_fault clockwork.old.book (start_task clockwork.old.scenario clockwork.old.state.number) delta))) }
+    ensures scenario { OnOk result (clockwork.new.scenario ≡ clockwork.old.scenario) }
+    ensures book { OnOk result (clockwork.new.book ≡ clockwork.old.book) }
+{
+    let Some(task) = clockwork.task(alloc)? else {
+        unreachable!()
+    };
+    match fit(alloc, clockwork.book(), &task, delta) {
+        Ok(delta) => {
+            clockwork.reserve()?;
+            clockwork.settle(Shown::Fits(delta));
+            Ok(())
+        }
+        Err(e) => Err(e),
+    }
+}
+
+// Checks how the start is shown, and settles its test by it, where it needs a query.
+fn check_start(alloc: Global, clockwork: &mut Clockwork, start: Shown) -> Result<(), StepErr>
+    requires auction { IsOfAuction clockwork.old.scenario clockwork.old.book }
+    requires opening { clockwork.old.state ≡ opening clockwork.old.scenario clockwork.old.book clockwork.old.state.order }
+    ensures fault { OnOk result (start_fault clockwork.old.scenario clockwork.old.book start ≡ None) }
+    ensures at { OnOk result ((xs : List TranscriptStep) (found : Option NotShown) → steps_fault clockwork.old.scenario clockwork.old.book 1 (after_start clockwork.old.scenario clockwork.old.state.order start) (clock_tests clockwork.old.scenario clockwork.old.state.order) xs ≡ found → IsAt clockwork.old.scenario clockwork.old.book clockwork.old.state.order start [] xs found clockwork.new.state) }
+    ensures why { IfErr result (λ e. Tells e (option_map NotValid (start_fault clockwork.old.scenario clockwork.old.book start))) }
+    ensures scenario { OnOk result (clockwork.new.scenario ≡ clockwork.old.scenario) }
+    ensures book { OnOk result (clockwork.new.book ≡ clockwork.old.book) }
+{
+    match start {
+        Shown::Empty => {
+            if is_empty_shown(clockwork.start()) {
+                return Ok(());
+            }
+            Err(not_valid(Place::Kind))
+        }
+        Shown::Fits(delta) => {
+            if clockwork.start().is_some() {
+                return Err(not_valid(Place::Kind));
+            }
+            match start_fit(alloc, clockwork, delta) {
+                Ok(()) => Ok(()),
+                Err(e) => Err(e),
+            }
+        }
+        Shown::Same => Err(not_valid(Place::Kind)),
+        Shown::NoChannel(_) => Err(not_valid(Place::Kind)),
+        Shown::Refuted { .. } => Err(not_valid(Place::Kind)),
+        Shown::Outside(_) => Err(not_valid(Place::Kind)),
+        Shown::Undecided(_) => Err(not_valid(Place::Kind)),
+    }
+}
+
+// Checks the steps, in order.
+fn check_steps(
+    alloc: Global,
+    clockwork: &mut Clockwork,
+    steps: Vec<TranscriptStep>,
+) -> Result<(), ResumeErr>
+    requires { IsOfAuction clockwork.old.scenario clockwork.old.book }
+    ensures at { OnOk result ((order : Order) (start : Shown) (found : Option NotShown) → IsAt clockwork.old.scenario clockwork.old.book order start [] steps.items found clockwork.old.state → IsAt clockwork.old.scenario clockwork.old.book order start (steps_in steps.items) [] found clockwork.new.state) }
+    ensures why { IfErr result (λ e. (order : Order) (start : Shown) (found : Option NotShown) → IsAt clockwork.old.scenario clockwork.old.book order start [] steps.items found clockwork.old.state → Explains e found) }
+    ensures early { IfErr result (λ e. IsEarly e (length steps.items)) }
+    ensures scenario { OnOk result (clockwork.new.scenario ≡ clockwork.old.scenario) }
+    ensures book { OnOk result (clockwork.new.book ≡ clockwork.old.book) }
+{
+    let mut place: usize = 0;
+    'steps: for x in steps {
+        match check_step(alloc, clockwork, place, x) {
+            Ok(()) => {}
+            Err(e) => return Err(at(place as u64 + 1, e)),
+        }
+        place += 1;
+    }
+    Ok(())
+}
+
+// The auction once the start and every step of the transcript are checked.
+fn follow(
+    alloc: Global,
+    book: &Book,
+    sc: &Scenario,
+    transcript: Transcript,
+) -> Result<Clockwork, ResumeErr>
+    requires { IsOfAuction sc.now book.now }
+    ensures start { IfOk result (λ clockwork. start_fault sc.now book.now transcript.start ≡ None) }
+    ensures at { IfOk result (λ clockwork. IsAt sc.now book.now transcript.order transcript.start (steps_in transcript.steps) [] (found_in sc.now book.now transcript) clockwork.state) }
+    ensures state { IfOk result (λ clockwork. clockwork.state ≡ resumed sc.now book.now transcript.order (Some transcript.start) (steps_in transcript.steps)) }
+    ensures why { IfErr result (λ e. Explains e (not_shown sc.now book.now transcript)) }
+    ensures early { IfErr result (λ e. IsEarly e (length transcript.steps)) }
+    ensures scenario { IfOk result (λ clockwork. clockwork.scenario ≡ sc.now) }
+    ensures book { IfOk result (λ clockwork. clockwork.book ≡ book.now) }
+{
+    let Transcript {
+        order,
+        start,
+        steps,
+    } = transcript;
+    let mut clockwork = Clockwork::open(alloc, sc, book, order)?;
+    match check_start(alloc, &mut clockwork, start) {
+        Ok(()) => {}
+        Err(e) => return Err(at(0, e)),
+    }
+    match check_steps(alloc, &mut clockwork, steps.into_vec()) {
+        Ok(()) => Ok(clockwork),
+        Err(e) => Err(e),
+    }
+}
+
+// Whether the steps of a transcript, so many, led the auction to its end. A step is missing where the auction has not ended, or
+// has settled more tests without a query than these steps.
+fn check_end(clockwork: &Clockwork, steps: usize) -> Result<(), ResumeErr>
+    requires small { steps < 2 ^ 63 }
+    ensures ended { OnOk result (has_ended clockwork.now.state ≡ true) }
+    ensures all { OnOk result (length clockwork.now.state.steps ≡ steps) }
+    ensures why { IfErr result (λ e. FinishTells e clockwork.now.state steps) }
+{
+    if !clockwork.has_ended() || clockwork.steps().len() != steps {
+        return Err(ResumeErr::NotShown {
+            step: steps as u64 + 1,
+            why: ShownWhy::Order,
+        });
+    }
+    Ok(())
+}
+
+/// The auction of this scenario and book, carried out again as a whole transcript has it, at its end. No solver is asked. It costs
+/// what the certificates cost to check, which are moved, and what each query costs to put.
+///
+/// # Errors
+///
+/// The first step that is not shown, and why; or want of memory.
+pub fn follow_whole(
+    alloc: Global,
+    book: &Book,
+    sc: &Scenario,
+    transcript: Transcript,
+) -> Result<Clockwork, ResumeErr>
+    requires { IsOfAuction sc.now book.now }
+    ensures all { IfOk result (λ clockwork. IsAllShown sc.now book.now transcript clockwork.state) }
+    ensures state { IfOk result (λ clockwork. clockwork.state ≡ resumed sc.now book.now transcript.order (Some transcript.start) (steps_in transcript.steps)) }
+    ensures why { IfErr result (λ e. Explains e (not_shown sc.now book.now transcript)) }
+    ensures scenario { IfOk result (λ clockwork. clockwork.scenario ≡ sc.now) }
+    ensures book { IfOk result (λ clockwork. clockwork.book ≡ book.now) }
+{
+    let count = transcript.steps.as_slice().len();
+    let clockwork = match follow(alloc, book, sc, transcript) {
+        Ok(clockwork) => clockwork,
+        Err(e) => return Err(e),
+    };
+    match check_end(&clockwork, count) {
+        Ok(()) => Ok(clockwork),
+        Err(e) => Err(e),
+    }
+}
+
+// The auction as far as these steps go, behind a start that was shown, or to its end where they have one.
+fn follow_started(
+    alloc: Global,
+    book: &Book,
+    sc: &Scenario,
+    ended: bool,
+    transcript: Transcript,
+) -> Result<Clockwork, ResumeErr>
+    requires { IsOfAuction sc.now book.now }
+    ensures none { IfOk result (λ clockwork. started_fault sc.now book.now ended transcript ≡ None) }
+    ensures state { IfOk result (λ clockwork. clockwork.state ≡ resumed sc.now book.now transcript.order (Some transcript.start) (steps_in transcript.steps)) }
+    ensures why { IfErr result (λ e. Explains e (started_fault sc.now book.now ended transcript)) }
+    ensures scenario { IfOk result (λ clockwork. clockwork.scenario ≡ sc.now) }
+    ensures book { IfOk result (λ clockwork. clockwork.book ≡ book.now) }
+{
+    if ended {
+        return match follow_whole(alloc, book, sc, transcript) {
+            Ok(clockwork) => Ok(clockwork),
+            Err(e) => Err(e),
+        };
+    }
+    match follow(alloc, book, sc, transcript) {
+        Ok(clockwork) => Ok(clockwork),
+        Err(e) => Err(e),
+    }
+}
+
+// Whether nothing is kept behind a start test that stands.
+fn is_unstarted(steps: &[TranscriptStep], ended: bool) -> bool
+    ensures { result ≡ (is_empty steps.now && not ended) }
+{
+    steps.is_empty() && !ended
+}
+
+/// The auction of this scenario and book as far as what is kept of a transcript has it, at its next query or its end.
+///
+/// # Errors
+///
+/// The first step that is not shown, and why; or want of memory.
+pub(crate) fn follow_kept(
+    alloc: Global,
+    book: &Book,
+    sc: &Scenario,
+    prefix: Prefix,
+) -> Result<Clockwork, ResumeErr>
+    requires { IsOfAuction sc.now book.now }
+    ensures none { IfOk result (λ clockwork. not_kept sc.now book.now prefix ≡ None) }
+    ensures state { IfOk result (λ clockwork. clockwork.state ≡ resumed sc.now book.now (order_kept prefix) prefix.start (steps_in prefix.steps)) }
+    ensures why { IfErr result (λ e. Explains e (not_kept sc.now book.now prefix)) }
+    ensures scenario { IfOk result (λ clockwork. clockwork.scenario ≡ sc.now) }
+    ensures book { IfOk result (λ clockwork. clockwork.book ≡ book.now) }
+{
+    let Prefix {
+        order,
+        start,
+        steps,
+        ended,
+    } = prefix;
+    let order = order.unwrap_or(Order::ByVolume);
+    let Some(start) = start else {
+        if is_unstarted(steps.as_slice(), ended) {
+            return Ok(Clockwork::open(alloc, sc, book, order)?);
+        }
+        return Err(ResumeErr::NotShown {
+            step: 1,
+            why: ShownWhy::Order,
+        });
+    };
+    let transcript = Transcript {
+        order,
+        start,
+        steps,
+    };
+    match follow_started(alloc, book, sc, ended, transcript) {
+        Ok(clockwork) => Ok(clockwork),
+        Err(e) => Err(e),
+    }
+}

@@ -1,0 +1,268 @@
+-- A beginning of a transcript against the whole: what is kept of it is the transcript's beginning.
+use Rattle.std.proofs.Common.{◌≡◌, ◌≢◌, ◌+◌, ◌∙◌, ◌==◌, ◌&&◌, ℕ, zero, suc, Bool, true, false, List, [], ◌∷◌, ◌++◌, Option, Some, None, Result, Ok, Err, if◌then◌else◌, refl, sym, ap, subst, length, take}
+use Rattle.std.specs.Prelude.{MatchResult}
+use Rattle.std.proofs.lemmas.Bool.{and_parts}
+use Rattle.pack_defs.specs.Lists.{is_empty}
+use Rattle.pack_defs.specs.declared.scenario.Scenario.{Scenario}
+use Rattle.pack_defs.specs.declared.order.Order.{Order}
+use Rattle.pack_defs.specs.Book.{BookView}
+use Rattle.auction_core.specs.declared.record.Shown.{Shown}
+use Rattle.lrat_text.specs.Lines.{is_whole, onto_first, whole_lines}
+use Rattle.transcript_text.specs.declared.error.TextErr.{TextErr}
+use Rattle.transcript_text.specs.declared.error.TextErr.TheVariants.{Version, BadLine, Truncated, NoMemory}
+use Rattle.auction_core.specs.declared.prefix.Prefix.{Prefix}
+use Rattle.auction_core.specs.declared.transcript.Transcript.{Transcript}
+use Rattle.auction_core.specs.declared.transcript.TranscriptStep.{TranscriptStep}
+use Rattle.transcript_text.specs.Fields.{LinesLeft}
+use Rattle.transcript_text.specs.Pieces.{with_lines}
+use Rattle.transcript_text.specs.PrefixReading.{IsPrefixOf, StepsThere, goes_on_there, if_there, no_more, nothing_there, order_there, prefix_of, start_there, steps_there, there_or, transcript_there}
+use Rattle.transcript_text.specs.Reading.{next_step, start_at, step_or, steps_at, text_end, transcript_of, version_at}
+use Rattle.transcript_text.specs.Steps.{◌>>=◌}
+use Rattle.transcript_text.proofs.FieldSaid.{err-ok, if-ok, ok-same}
+use Rattle.transcript_text.proofs.Rising.{after-ok}
+use Rattle.transcript_text.proofs.Stays.{Stays, next-step-stays, start-stays, version-stays}
+
+-- ---- no beginning is cut short
+
+if-there-never : {A B : Type 0} (kept : B) (r : Result A TextErr) (f : A → Result B TextErr) → ((x : A) → f x ≢ Err Truncated) → if_there kept r f ≢ Err Truncated
+if-there-never kept (Ok x) f h = h x
+if-there-never kept (Err Version) f h = λ e. absurd cc e
+if-there-never kept (Err (BadLine n)) f h = λ e. absurd cc e
+if-there-never kept (Err Truncated) f h = λ e. absurd cc e
+if-there-never kept (Err NoMemory) f h = λ e. absurd cc e
+
+then-never : {A B : Type 0} (r : Result A TextErr) (f : A → Result B TextErr) → r ≢ Err Truncated → ((x : A) → f x ≢ Err Truncated) → (r >>= f) ≢ Err Truncated
+then-never (Ok x) f h g = g x
+then-never (Err Version) f h g = λ e. absurd cc e
+then-never (Err (BadLine n)) f h g = λ e. absurd cc e
+then-never (Err Truncated) f h g = λ e. h refl
+then-never (Err NoMemory) f h g = λ e. absurd cc e
+
+abbrev Never : Result (Unit {0}) TextErr → Type 0
+Never r = r ≢ Err Truncated
+
+end-never : (lines : LinesLeft) → text_end true lines ≢ Err Truncated
+end-never lines = go (is_empty lines.left && true)
+  where
+    go : (b : Bool) → Never (if b then Ok tt else Err (BadLine lines.number))
+    go true = λ e. absurd cc e
+    go false = λ e. absurd cc e
+
+ok-never : {A : Type 0} (x : A) → Ok x ≢ Err Truncated
+ok-never x = λ e. absurd cc e
+
+there-or-never : (o : Option TranscriptStep) (lines : LinesLeft) (rest : LinesLeft → Result StepsThere TextErr) → ((lines : LinesLeft) → rest lines ≢ Err Truncated) → there_or o lines rest ≢ Err Truncated
+there-or-never None lines rest h = then-never (text_end true lines) _ (end-never lines) (λ u. ok-never _)
+there-or-never (Some x) lines rest h = then-never (rest lines) _ (h lines) (λ more. ok-never _)
+
+steps-never : (sc : Scenario) (book : BookView) (most n : ℕ) (lines : LinesLeft) → steps_there sc book most n lines ≢ Err Truncated
+unfolding steps_there
+steps-never sc book zero n lines = ok-never _
+steps-never sc book (suc most) n lines =
+    if-there-never no_more (next_step sc book n lines) _ (λ next. there-or-never next.0 next.1 _ (λ rest. steps-never sc book most (n + 1) rest))
+
+pub prefix-never : (sc : Scenario) (book : BookView) (text : List ℕ) → prefix_of sc book text ≢ Err Truncated
+unfolding prefix_of start_there goes_on_there
+prefix-never sc book text =
+    if-there-never nothing_there (version_at (whole_lines text)) _
+    (λ version. if-there-never (order_there version.0) (start_at sc version.1) _
+    (λ start. then-never (steps_there sc book (length start.1.left) 0 start.1) _ (steps-never sc book (length start.1.left) 0 start.1) (λ more. ok-never _)))
+
+-- ---- a whole transcript is all there
+
+steps-all : (sc : Scenario) (book : BookView) (most n : ℕ) (lines : LinesLeft) (x : List TranscriptStep × LinesLeft) → steps_at sc book most n lines ≡ Ok x → is_empty x.1.left ≡ true
+    → steps_there sc book most n lines ≡ Ok (record { steps = x.0; ended = true })
+unfolding steps_at steps_there
+steps-all sc book zero n lines x e none = absurd (err-ok Truncated x e)
+steps-all sc book (suc most) n lines x e none = go (next_step sc book n lines) (λ rest y. steps-all sc book most (n + 1) rest y) e
+  where
+    go : (r : Result (Option TranscriptStep × LinesLeft) TextErr)
+        → ((rest : LinesLeft) (y : List TranscriptStep × LinesLeft) → steps_at sc book most (n + 1) rest ≡ Ok y → is_empty y.1.left ≡ true → steps_there sc book most (n + 1) rest ≡ Ok (record { steps = y.0; ended = true }))
+        → (r >>= λ next. step_or next.0 next.1 (λ rest. steps_at sc book most (n + 1) rest)) ≡ Ok x
+        → if_there no_more r (λ next. there_or next.0 next.1 (λ rest. steps_there sc book most (n + 1) rest)) ≡ Ok (record { steps = x.0; ended = true })
+    go (Ok (Some s, rest)) all h =
+        let more = after-ok (steps_at sc book most (n + 1) rest) (λ more. Ok (s ∷ more.0, more.1)) x h in
+        let same = ok-same (s ∷ more.0.0, more.0.1) x more.2 in
+        let empty : is_empty more.0.1.left ≡ true = ap (λ (y : List TranscriptStep × LinesLeft). is_empty y.1.left) same ∙ none in
+        ap (λ (r : Result StepsThere TextErr). r >>= λ more. Ok (record { steps = s ∷ more.steps; ended = more.ended })) (all rest more.0 more.1 empty)
+        ∙ ap (λ (y : List TranscriptStep × LinesLeft). Ok (record { steps = y.0; ended = true })) same
+    go (Ok (None, rest)) all h =
+        let same = ok-same ([], rest) x h in
+        let empty : is_empty rest.left ≡ true = ap (λ (y : List TranscriptStep × LinesLeft). is_empty y.1.left) same ∙ none in
+        ap (λ (b : Bool). (if b && true then Ok tt else Err (BadLine rest.number)) >>= λ u. Ok (record { steps = []; ended = true })) empty
+        ∙ ap (λ (y : List TranscriptStep × LinesLeft). Ok (record { steps = y.0; ended = true })) same
+    go (Err e) all h = absurd (err-ok e x h)
+
+pub prefix-all : (sc : Scenario) (book : BookView) (text : List ℕ) (t : Transcript) → transcript_of sc book text ≡ Ok t → prefix_of sc book text ≡ Ok (transcript_there t true)
+unfolding transcript_of prefix_of start_there goes_on_there
+prefix-all sc book text t e =
+    let version = after-ok (version_at (whole_lines text)) _ t e in
+    let start = after-ok (start_at sc version.0.1) _ t version.2 in
+    let steps = after-ok (steps_at sc book (length start.0.1.left) 0 start.0.1) _ t start.2 in
+    let u = after-ok (text_end (is_whole text) steps.0.1) _ t steps.2 in
+    let last = if-ok (is_empty steps.0.1.left && is_whole text) tt u.0 (BadLine steps.0.1.number) u.1 in
+    let parts = and_parts (is_empty steps.0.1.left) (is_whole text) last.0 in
+    ap (λ (r : Result (Order × LinesLeft) TextErr). if_there nothing_there r (λ version. start_there sc book version.0 version.1)) version.1
+    ∙ ap (λ (r : Result (Shown × LinesLeft) TextErr). if_there (order_there version.0.0) r (λ start. goes_on_there sc book (record { order = version.0.0; start = start.0; steps = [] }) start.1)) start.1
+    ∙ ap (λ (r : Result StepsThere TextErr). r >>= λ more. Ok (transcript_there (record { order = version.0.0; start = start.0.0; steps = more.steps }) more.ended)) (steps-all sc book (length start.0.1.left) 0 start.0.1 steps.0 steps.1 parts.0)
+    ∙ ap (λ (t : Transcript). Ok (transcript_there t true)) (ok-same (record { order = version.0.0; start = start.0.0; steps = steps.0.0 }) t u.2)
+
+-- ---- the whole lines of a beginning are the first of the whole's
+
+-- the lines behind those of the first bytes
+lines_behind : List ℕ → List ℕ → List (List ℕ)
+lines_behind [] after = whole_lines after
+lines_behind (c ∷ before) after =
+    if c == 10 then lines_behind before after else (if is_empty (whole_lines before) then onto_first c (lines_behind before after) else lines_behind before after)
+
+lines-apart : (before after : List ℕ) → whole_lines (before ++ after) ≡ whole_lines before ++ lines_behind before after
+unfolding whole_lines lines_behind
+lines-apart [] after = refl
+lines-apart (c ∷ before) after =
+    ap (λ (ls : List (List ℕ)). if c == 10 then [] ∷ ls else onto_first c ls) (lines-apart before after) ∙ go (c == 10) (whole_lines before) (lines_behind before after)
+  where
+    go : (b : Bool) (ls more : List (List ℕ))
+        → (if b then [] ∷ (ls ++ more) else onto_first c (ls ++ more))
+        ≡ (if b then [] ∷ ls else onto_first c ls) ++ (if b then more else (if is_empty ls then onto_first c more else more))
+    go true ls more = refl
+    go false [] more = refl
+    go false (l ∷ ls) more = refl
+
+-- ---- what is kept is a beginning
+
+-- these steps are the first of those, and all where the `end` line is there
+record IsFirstOf (kept : StepsThere) (steps : List TranscriptStep) : Type 0 where
+  pub first : kept.steps ≡ take (length kept.steps) steps
+  pub all : kept.ended ≡ true → kept.steps ≡ steps
+
+abbrev AreFirst : Result StepsThere TextErr → List TranscriptStep → Type 0
+AreFirst r steps = MatchResult r (λ kept. IsFirstOf kept steps) (λ why. ⊥)
+
+none-first : (steps : List TranscriptStep) → IsFirstOf no_more steps
+none-first steps = record { first = refl; all = λ e. absurd cc e }
+
+one-first : (s : TranscriptStep) (steps : List TranscriptStep) (r : Result StepsThere TextErr) → AreFirst r steps → AreFirst (r >>= λ more. Ok (record { steps = s ∷ more.steps; ended = more.ended })) (s ∷ steps)
+one-first s steps (Ok kept) h = record { first = ap (λ (xs : List TranscriptStep). s ∷ xs) h.first; all = λ e. ap (λ (xs : List TranscriptStep). s ∷ xs) (h.all e) }
+one-first s steps (Err e) h = h
+
+no-lines : (left more : List (List ℕ)) → is_empty (left ++ more) ≡ true → is_empty left ≡ true
+no-lines [] more h = refl
+no-lines (l ∷ left) more h = h
+
+steps-first : (sc : Scenario) (book : BookView) (a b n : ℕ) (lines : LinesLeft) (more : List (List ℕ)) (x : List TranscriptStep × LinesLeft)
+    → steps_at sc book b n (with_lines lines more) ≡ Ok x → is_empty x.1.left ≡ true → AreFirst (steps_there sc book a n lines) x.0
+unfolding steps_at steps_there
+steps-first sc book zero b n lines more x e none = none-first x.0
+steps-first sc book (suc a) zero n lines more x e none = absurd (err-ok Truncated x e)
+steps-first sc book (suc a) (suc b) n lines more x e none =
+    go (next_step sc book n lines) (next_step sc book n (with_lines lines more)) (next-step-stays more sc book n lines) (λ rest y. steps-first sc book a b (n + 1) rest more y) e
+  where
+    from : Result (Option TranscriptStep × LinesLeft) TextErr → Result (List TranscriptStep × LinesLeft) TextErr
+    from s = s >>= λ next. step_or next.0 next.1 (λ rest. steps_at sc book b (n + 1) rest)
+
+    go : (r s : Result (Option TranscriptStep × LinesLeft) TextErr) → Stays more r s
+        → ((rest : LinesLeft) (y : List TranscriptStep × LinesLeft) → steps_at sc book b (n + 1) (with_lines rest more) ≡ Ok y → is_empty y.1.left ≡ true → AreFirst (steps_there sc book a (n + 1) rest) y.0)
+        → from s ≡ Ok x
+        → AreFirst (if_there no_more r (λ next. there_or next.0 next.1 (λ rest. steps_there sc book a (n + 1) rest))) x.0
+    go (Ok (Some y, rest)) s stays first h =
+        let found = after-ok (steps_at sc book b (n + 1) (with_lines rest more)) (λ more. Ok (y ∷ more.0, more.1)) x (sym (ap from stays) ∙ h) in
+        let same = ok-same (y ∷ found.0.0, found.0.1) x found.2 in
+        let empty : is_empty found.0.1.left ≡ true = ap (λ (z : List TranscriptStep × LinesLeft). is_empty z.1.left) same ∙ none in
+        subst (λ (z : List TranscriptStep × LinesLeft). AreFirst (steps_there sc book a (n + 1) rest >>= λ more. Ok (record { steps = y ∷ more.steps; ended = more.ended })) z.0) same
+        (one-first y found.0.0 (steps_there sc book a (n + 1) rest) (first rest found.0 found.1 empty))
+    go (Ok (None, rest)) s stays first h =
+        let same = ok-same ([], with_lines rest more) x (sym (ap from stays) ∙ h) in
+        let empty : is_empty rest.left ≡ true = no-lines rest.left more (ap (λ (z : List TranscriptStep × LinesLeft). is_empty z.1.left) same ∙ none) in
+        subst (λ (z : List TranscriptStep × LinesLeft). AreFirst (text_end true rest >>= λ u. Ok (record { steps = []; ended = true })) z.0) same
+        (subst (λ (b : Bool). AreFirst ((if b && true then Ok tt else Err (BadLine rest.number)) >>= λ u. Ok (record { steps = []; ended = true })) []) (sym empty) (record { first = refl; all = λ e. refl }))
+    go (Err Version) s stays first h = absurd (err-ok Version x (sym (ap from stays) ∙ h))
+    go (Err (BadLine m)) s stays first h = absurd (err-ok (BadLine m) x (sym (ap from stays) ∙ h))
+    go (Err Truncated) s stays first h = none-first x.0
+    go (Err NoMemory) s stays first h = absurd (err-ok NoMemory x (sym (ap from stays) ∙ h))
+
+-- ---- the whole
+
+abbrev IsFirstPart : Result Prefix TextErr → Transcript → Type 0
+IsFirstPart r t = MatchResult r (λ kept. IsPrefixOf kept t) (λ why. ⊥)
+
+-- the transcript that is read from its steps on
+abbrev from_steps : Scenario → BookView → Bool → Order → Shown × LinesLeft → Result Transcript TextErr
+from_steps sc book whole order start = steps_at sc book (length start.1.left) 0 start.1 >>= λ steps. text_end whole steps.1 >>= λ u. Ok (record { order = order; start = start.0; steps = steps.0 })
+
+-- and from its start on
+abbrev from_start : Scenario → BookView → Bool → Order × LinesLeft → Result Transcript TextErr
+from_start sc book whole version = start_at sc version.1 >>= λ start. from_steps sc book whole version.0 start
+
+-- what was read of the whole, and the whole's steps and end
+record IsFrom (order : Order) (start : Shown) (steps : List TranscriptStep × LinesLeft) (t : Transcript) : Type 0 where
+  pub none : is_empty steps.1.left ≡ true
+  pub same : record { order = order; start = start; steps = steps.0 } ≡ t
+
+ends-so : (whole : Bool) (order : Order) (start : Shown) (steps : List TranscriptStep × LinesLeft) (t : Transcript)
+    → (text_end whole steps.1 >>= λ u. Ok (record { order = order; start = start; steps = steps.0 })) ≡ Ok t → IsFrom order start steps t
+ends-so whole order start steps t e =
+    let u = after-ok (text_end whole steps.1) (λ u. Ok (record { order = order; start = start; steps = steps.0 })) t e in
+    let last = if-ok (is_empty steps.1.left && whole) tt u.0 (BadLine steps.1.number) u.1 in
+    record { none = (and_parts (is_empty steps.1.left) whole last.0).0; same = ok-same (record { order = order; start = start; steps = steps.0 }) t u.2 }
+
+-- the order of the whole is that of its first line
+same-order : (sc : Scenario) (book : BookView) (whole : Bool) (version : Order × LinesLeft) (t : Transcript) → from_start sc book whole version ≡ Ok t → version.0 ≡ t.order
+same-order sc book whole version t e =
+    let start = after-ok (start_at sc version.1) (λ start. from_steps sc book whole version.0 start) t e in
+    let steps = after-ok (steps_at sc book (length start.0.1.left) 0 start.0.1) (λ steps. text_end whole steps.1 >>= λ u. Ok (record { order = version.0; start = start.0.0; steps = steps.0 })) t start.2 in
+    ap (λ (t : Transcript). t.order) (ends-so whole version.0 start.0.0 steps.0 t steps.2).same
+
+-- the whole's steps behind those that are there
+with-steps : (order : Order) (start : Shown) (steps : List TranscriptStep) (r : Result StepsThere TextErr) → AreFirst r steps
+    → IsFirstPart (r >>= λ more. Ok (transcript_there (record { order = order; start = start; steps = more.steps }) more.ended)) (record { order = order; start = start; steps = steps })
+with-steps order start steps (Ok kept) h = record {
+  order = refl;
+  start = refl;
+  steps = h.first;
+  all = λ e. ap (λ (b : Bool). transcript_there (record { order = order; start = start; steps = kept.steps }) b) e ∙ ap (λ (xs : List TranscriptStep). transcript_there (record { order = order; start = start; steps = xs }) true) (h.all e);
+}
+with-steps order start steps (Err e) h = h
+
+started : (sc : Scenario) (book : BookView) (whole : Bool) (order : Order) (start : Shown × LinesLeft) (more : List (List ℕ)) (t : Transcript)
+    → from_steps sc book whole order (start.0, with_lines start.1 more) ≡ Ok t → IsFirstPart (goes_on_there sc book (record { order = order; start = start.0; steps = [] }) start.1) t
+unfolding goes_on_there
+started sc book whole order start more t e =
+    let steps = after-ok (steps_at sc book (length (start.1.left ++ more)) 0 (with_lines start.1 more)) (λ steps. text_end whole steps.1 >>= λ u. Ok (record { order = order; start = start.0; steps = steps.0 })) t e in
+    let from = ends-so whole order start.0 steps.0 t steps.2 in
+    subst (λ (t : Transcript). IsFirstPart (steps_there sc book (length start.1.left) 0 start.1 >>= λ more. Ok (transcript_there (record { order = order; start = start.0; steps = more.steps }) more.ended)) t) from.same
+    (with-steps order start.0 steps.0.0 (steps_there sc book (length start.1.left) 0 start.1) (steps-first sc book (length start.1.left) (length (start.1.left ++ more)) 0 start.1 more steps.0 steps.1 from.none))
+
+opened : (sc : Scenario) (book : BookView) (whole : Bool) (order : Order) (lines : LinesLeft) (more : List (List ℕ)) (t : Transcript)
+    → from_start sc book whole (order, with_lines lines more) ≡ Ok t → IsFirstPart (start_there sc book order lines) t
+unfolding start_there
+opened sc book whole order lines more t e = go (start_at sc lines) (start_at sc (with_lines lines more)) (start-stays more sc lines) e
+  where
+    from : Result (Shown × LinesLeft) TextErr → Result Transcript TextErr
+    from s = s >>= λ start. from_steps sc book whole order start
+
+    go : (r s : Result (Shown × LinesLeft) TextErr) → Stays more r s → from s ≡ Ok t → IsFirstPart (if_there (order_there order) r (λ start. goes_on_there sc book (record { order = order; start = start.0; steps = [] }) start.1)) t
+    go (Ok start) s stays h = started sc book whole order start more t (sym (ap from stays) ∙ h)
+    go (Err Version) s stays h = absurd (err-ok Version t (sym (ap from stays) ∙ h))
+    go (Err (BadLine m)) s stays h = absurd (err-ok (BadLine m) t (sym (ap from stays) ∙ h))
+    go (Err Truncated) s stays h = record { order = same-order sc book whole (order, with_lines lines more) t e; start = tt; steps = refl; all = λ e. absurd cc e }
+    go (Err NoMemory) s stays h = absurd (err-ok NoMemory t (sym (ap from stays) ∙ h))
+
+named : (sc : Scenario) (book : BookView) (whole : Bool) (lines more : List (List ℕ)) (t : Transcript)
+    → (version_at (lines ++ more) >>= λ version. from_start sc book whole version) ≡ Ok t → IsFirstPart (if_there nothing_there (version_at lines) (λ version. start_there sc book version.0 version.1)) t
+named sc book whole lines more t e = go (version_at lines) (version_at (lines ++ more)) (version-stays more lines) e
+  where
+    from : Result (Order × LinesLeft) TextErr → Result Transcript TextErr
+    from s = s >>= λ version. from_start sc book whole version
+
+    go : (r s : Result (Order × LinesLeft) TextErr) → Stays more r s → from s ≡ Ok t → IsFirstPart (if_there nothing_there r (λ version. start_there sc book version.0 version.1)) t
+    go (Ok version) s stays h = opened sc book whole version.0 version.1 more t (sym (ap from stays) ∙ h)
+    go (Err Version) s stays h = absurd (err-ok Version t (sym (ap from stays) ∙ h))
+    go (Err (BadLine m)) s stays h = absurd (err-ok (BadLine m) t (sym (ap from stays) ∙ h))
+    go (Err Truncated) s stays h = record { order = tt; start = tt; steps = refl; all = λ e. absurd cc e }
+    go (Err NoMemory) s stays h = absurd (err-ok NoMemory t (sym (ap from stays) ∙ h))
+
+pub prefix-first : (sc : Scenario) (book : BookView) (before after : List ℕ) (t : Transcript) → transcript_of sc book (before ++ after) ≡ Ok t → MatchResult (prefix_of sc book before) (λ kept. IsPrefixOf kept t) (λ why. ⊥)
+unfolding transcript_of prefix_of
+prefix-first sc book before after t e =
+    named sc book (is_whole (before ++ after)) (whole_lines before) (lines_behind before after) t
+    (sym (ap (λ (ls : List (List ℕ)). version_at ls >>= λ version. from_start sc book (is_whole (before ++ after)) version) (lines-apart before after)) ∙ e)

@@ -1,0 +1,148 @@
+-- The steps that are there of a beginning, one after the other.
+use Rattle.std.proofs.Common.{◌≡◌, ◌≤◌, ◌+◌, ◌∙◌, ℕ, zero, suc, true, false, List, [], ◌∷◌, ◌++◌, Option, Some, None, Result, Ok, Err, refl, sym, ap, subst, arith, length, length-append, append_assoc}
+use Rattle.pack_defs.specs.declared.scenario.Scenario.{Scenario}
+use Rattle.pack_defs.specs.declared.order.Order.{Order}
+use Rattle.pack_defs.specs.Book.{BookView}
+use Rattle.auction_core.specs.declared.record.Shown.{Shown}
+use Rattle.lrat_text.specs.Lines.{whole_lines}
+use Rattle.transcript_text.specs.declared.error.TextErr.{TextErr}
+use Rattle.transcript_text.specs.declared.error.TextErr.TheVariants.{Version, BadLine, Truncated, NoMemory}
+use Rattle.auction_core.specs.declared.prefix.Prefix.{Prefix}
+use Rattle.auction_core.specs.declared.transcript.Transcript.{Transcript}
+use Rattle.auction_core.specs.declared.transcript.TranscriptStep.{TranscriptStep}
+use Rattle.transcript_text.specs.Fields.{LinesLeft}
+use Rattle.transcript_text.specs.Pieces.{stopped}
+use Rattle.transcript_text.specs.PrefixReading.{AreStepsThere, StepsThere, goes_on_there, if_there, kept_at, no_more, nothing_there, order_there, prefix_of, start_there, steps_there, there_by, there_or, transcript_there}
+use Rattle.transcript_text.specs.Reading.{next_step, start_at, text_end, version_at}
+use Rattle.transcript_text.specs.Steps.{◌>>=◌, Fails, Gives}
+use Rattle.transcript_text.proofs.Ahead.{with-none, with_step}
+use Rattle.transcript_text.proofs.StepLoop.{Fewer, next-truncated, step-fewer}
+
+-- ---- any bound on the steps will do that is no less than the lines
+
+same-there : (sc : Scenario) (book : BookView) (a b n : ℕ) (lines : LinesLeft) → length lines.left ≤ a → length lines.left ≤ b → steps_there sc book a n lines ≡ steps_there sc book b n lines
+unfolding steps_there
+same-there sc book zero zero n lines p q = refl
+same-there sc book zero (suc b) n lines p q = rw (next-truncated sc book n lines.number lines.left p) refl
+same-there sc book (suc a) zero n lines p q = rw (next-truncated sc book n lines.number lines.left q) refl
+same-there sc book (suc a) (suc b) n lines p q = go (next_step sc book n lines) (step-fewer sc book n lines) (λ rest. same-there sc book a b (n + 1) rest)
+  where
+    go : (r : Result (Option TranscriptStep × LinesLeft) TextErr) → Fewer lines r
+        → ((rest : LinesLeft) → length rest.left ≤ a → length rest.left ≤ b → steps_there sc book a (n + 1) rest ≡ steps_there sc book b (n + 1) rest)
+        → if_there no_more r (λ next. there_or next.0 next.1 (λ rest. steps_there sc book a (n + 1) rest)) ≡ if_there no_more r (λ next. there_or next.0 next.1 (λ rest. steps_there sc book b (n + 1) rest))
+    go (Ok (Some x, rest)) less same = ap (λ (r : Result StepsThere TextErr). r >>= λ more. Ok (record { steps = x ∷ more.steps; ended = more.ended })) (same rest (omega (arith, p, less)) (omega (arith, q, less)))
+    go (Ok (None, rest)) less same = refl
+    go (Err e) less same = refl
+
+-- the steps from the next one on
+there-unrolled : (sc : Scenario) (book : BookView) (n : ℕ) (lines : LinesLeft)
+    → steps_there sc book (length lines.left) n lines ≡ if_there no_more (next_step sc book n lines) (λ next. there_or next.0 next.1 (λ rest. steps_there sc book (length rest.left) (n + 1) rest))
+unfolding steps_there
+there-unrolled sc book n lines = go lines.number lines.left
+  where
+    go : (m : ℕ) (left : List (List ℕ)) → steps_there sc book (length left) n (record { number = m; left = left })
+        ≡ if_there no_more (next_step sc book n (record { number = m; left = left })) (λ next. there_or next.0 next.1 (λ rest. steps_there sc book (length rest.left) (n + 1) rest))
+    go m [] = rw (next-truncated sc book n m [] (omega arith)) refl
+    go m (line ∷ left) = step (next_step sc book n (record { number = m; left = line ∷ left })) (step-fewer sc book n (record { number = m; left = line ∷ left }))
+      where
+        step : (r : Result (Option TranscriptStep × LinesLeft) TextErr) → Fewer (record { number = m; left = line ∷ left }) r
+            → if_there no_more r (λ next. there_or next.0 next.1 (λ rest. steps_there sc book (length left) (n + 1) rest)) ≡ if_there no_more r (λ next. there_or next.0 next.1 (λ rest. steps_there sc book (length rest.left) (n + 1) rest))
+        step (Ok (Some x, rest)) less = ap (λ (r : Result StepsThere TextErr). r >>= λ more. Ok (record { steps = x ∷ more.steps; ended = more.ended })) (same-there sc book (length left) (length rest.left) (n + 1) rest (omega (arith, less)) (omega arith))
+        step (Ok (None, rest)) less = refl
+        step (Err e) less = refl
+
+-- ---- what is there goes on by the next step
+
+abbrev turned_there : Scenario → BookView → Transcript → Option TranscriptStep × LinesLeft → Result Prefix TextErr
+turned_there sc book begun (None, rest) = text_end true rest >>= λ u. Ok (transcript_there begun true)
+turned_there sc book begun (Some x, rest) = goes_on_there sc book (with_step begun x) rest
+
+there-by-step : (sc : Scenario) (book : BookView) (begun : Transcript) (lines : LinesLeft)
+    → goes_on_there sc book begun lines ≡ if_there (transcript_there begun false) (next_step sc book (length begun.steps) lines) (turned_there sc book begun)
+unfolding goes_on_there
+there-by-step sc book begun lines =
+    ap (λ (r : Result StepsThere TextErr). r >>= put) (there-unrolled sc book (length begun.steps) lines) ∙ go (next_step sc book (length begun.steps) lines)
+  where
+    put : StepsThere → Result Prefix TextErr
+    put more = Ok (transcript_there (record { order = begun.order; start = begun.start; steps = begun.steps ++ more.steps }) more.ended)
+
+    more : (x : TranscriptStep) (r : Result StepsThere TextErr)
+        → ((r >>= λ more. Ok (record { steps = x ∷ more.steps; ended = more.ended })) >>= put)
+        ≡ (r >>= λ more. Ok (transcript_there (record { order = begun.order; start = begun.start; steps = (begun.steps ++ x ∷ []) ++ more.steps }) more.ended))
+    more x (Ok s) = ap (λ (xs : List TranscriptStep). Ok (transcript_there (record { order = begun.order; start = begun.start; steps = xs }) s.ended)) (sym (append_assoc begun.steps (x ∷ []) s.steps))
+    more x (Err e) = refl
+
+    last : (r : Result (Unit {0}) TextErr) → ((r >>= λ u. Ok (record { steps = []; ended = true })) >>= put) ≡ (r >>= λ u. Ok (transcript_there begun true))
+    last (Ok u) = ap (λ (t : Transcript). Ok (transcript_there t true)) (with-none begun)
+    last (Err e) = refl
+
+    go : (r : Result (Option TranscriptStep × LinesLeft) TextErr)
+        → (if_there no_more r (λ next. there_or next.0 next.1 (λ rest. steps_there sc book (length rest.left) (length begun.steps + 1) rest)) >>= put)
+        ≡ if_there (transcript_there begun false) r (turned_there sc book begun)
+    go (Ok (Some x, rest)) =
+        more x (steps_there sc book (length rest.left) (length begun.steps + 1) rest)
+        ∙ ap (λ (n : ℕ). steps_there sc book (length rest.left) n rest >>= λ more. Ok (transcript_there (record { order = begun.order; start = begun.start; steps = (begun.steps ++ x ∷ []) ++ more.steps }) more.ended)) (sym (length-append begun.steps (x ∷ [])))
+    go (Ok (None, rest)) = last (text_end true rest)
+    go (Err Version) = refl
+    go (Err (BadLine n)) = refl
+    go (Err Truncated) = ap (λ (t : Transcript). Ok (transcript_there t false)) (with-none begun)
+    go (Err NoMemory) = refl
+
+-- ---- the loop over steps
+
+there-with : (sc : Scenario) (book : BookView) (begun now : Transcript) (lines rest : LinesLeft) (r : Result (Option TranscriptStep × LinesLeft) TextErr) → goes_on_there sc book begun lines ≡ goes_on_there sc book now rest
+    → next_step sc book (length now.steps) rest ≡ r → goes_on_there sc book begun lines ≡ if_there (transcript_there now false) r (turned_there sc book now)
+there-with sc book begun now lines rest r h e = h ∙ there-by-step sc book now rest ∙ ap (λ r. if_there (transcript_there now false) r (turned_there sc book now)) e
+
+pub step-there : (sc : Scenario) (book : BookView) (begun now : Transcript) (lines rest after : LinesLeft) (x : TranscriptStep) (steps : List TranscriptStep) → goes_on_there sc book begun lines ≡ goes_on_there sc book now rest
+    → next_step sc book (length now.steps) rest ≡ Ok (Some x, after) → steps ≡ now.steps ++ x ∷ [] → goes_on_there sc book begun lines ≡ goes_on_there sc book (record { order = now.order; start = now.start; steps = steps }) after
+step-there sc book begun now lines rest after x steps h e is =
+    there-with sc book begun now lines rest (Ok (Some x, after)) h e
+    ∙ sym (ap (λ (xs : List TranscriptStep). goes_on_there sc book (record { order = now.order; start = now.start; steps = xs }) after) is)
+
+pub end-there : (sc : Scenario) (book : BookView) (begun now : Transcript) (lines rest after : LinesLeft) → goes_on_there sc book begun lines ≡ goes_on_there sc book now rest
+    → next_step sc book (length now.steps) rest ≡ Ok (None, after) → AreStepsThere sc book begun lines (Ok (record { begun = now; rest = after; ended = true }))
+unfolding there_by
+end-there sc book begun now lines rest after h e = there-with sc book begun now lines rest (Ok (None, after)) h e
+
+pub stop-there : (sc : Scenario) (book : BookView) (begun now : Transcript) (lines rest : LinesLeft) (why : TextErr) → goes_on_there sc book begun lines ≡ goes_on_there sc book now rest
+    → Fails why (next_step sc book (length now.steps) rest) → AreStepsThere sc book begun lines (stopped why (record { begun = now; rest = rest; ended = false }))
+unfolding there_by
+stop-there sc book begun now lines rest Version h e = there-with sc book begun now lines rest (Err Version) h e
+stop-there sc book begun now lines rest (BadLine n) h e = there-with sc book begun now lines rest (Err (BadLine n)) h e
+stop-there sc book begun now lines rest Truncated h e = there-with sc book begun now lines rest (Err Truncated) h e
+stop-there sc book begun now lines rest NoMemory h e = tt
+
+-- ---- a part that is there, and one that isn't
+
+there-gives : {A B : Type 0} (kept : B) (r : Result A TextErr) (f : A → Result B TextErr) (x : A) (result : Result B TextErr) → r ≡ Ok x → Gives (λ p. p) (f x) result → Gives (λ p. p) (if_there kept r f) result
+there-gives kept r f x result e h = subst (λ r. Gives (λ p. p) (if_there kept r f) result) (sym e) h
+
+kept-gives : {A B : Type 0} (kept : B) (r : Result A TextErr) (f : A → Result B TextErr) (why : TextErr) → Fails why r → Gives (λ p. p) (if_there kept r f) (kept_at kept why)
+kept-gives kept r f Version h = ap (λ r. if_there kept r f) h
+kept-gives kept r f (BadLine n) h = ap (λ r. if_there kept r f) h
+kept-gives kept r f Truncated h = ap (λ r. if_there kept r f) h
+kept-gives kept r f NoMemory h = tt
+
+pub start-gives : (sc : Scenario) (book : BookView) (order : Order) (start : Shown) (lines rest : LinesLeft) (begun : Transcript) (result : Result Prefix TextErr) → start_at sc lines ≡ Ok (start, rest)
+    → begun ≡ record { order = order; start = start; steps = [] } → Gives (λ (p : Prefix). p) (goes_on_there sc book begun rest) result → Gives (λ (p : Prefix). p) (start_there sc book order lines) result
+unfolding start_there
+start-gives sc book order start lines rest begun result e is h =
+    there-gives (order_there order) (start_at sc lines) _ (start, rest) result e (subst (λ (t : Transcript). Gives (λ (p : Prefix). p) (goes_on_there sc book t rest) result) is h)
+
+pub start-kept : (sc : Scenario) (book : BookView) (order : Order) (lines : LinesLeft) (why : TextErr) (kept : Prefix) (result : Result Prefix TextErr) → Fails why (start_at sc lines)
+    → kept ≡ order_there order → result ≡ kept_at kept why → Gives (λ (p : Prefix). p) (start_there sc book order lines) result
+unfolding start_there
+start-kept sc book order lines why kept result h k e =
+    subst (Gives (λ (p : Prefix). p) (start_there sc book order lines)) (sym (e ∙ ap (λ (p : Prefix). kept_at p why) k)) (kept-gives (order_there order) (start_at sc lines) _ why h)
+
+pub prefix-gives : (sc : Scenario) (book : BookView) (text : List ℕ) (order : Order) (lines : LinesLeft) (result : Result Prefix TextErr) → version_at (whole_lines text) ≡ Ok (order, lines)
+    → Gives (λ (p : Prefix). p) (start_there sc book order lines) result → Gives (λ (p : Prefix). p) (prefix_of sc book text) result
+unfolding prefix_of
+prefix-gives sc book text order lines result e h = there-gives nothing_there (version_at (whole_lines text)) _ (order, lines) result e h
+
+pub prefix-kept : (sc : Scenario) (book : BookView) (text : List ℕ) (why : TextErr) (kept : Prefix) (result : Result Prefix TextErr) → Fails why (version_at (whole_lines text))
+    → kept ≡ nothing_there → result ≡ kept_at kept why → Gives (λ (p : Prefix). p) (prefix_of sc book text) result
+unfolding prefix_of
+prefix-kept sc book text why kept result h k e =
+    subst (Gives (λ (p : Prefix). p) (prefix_of sc book text)) (sym (e ∙ ap (λ (p : Prefix). kept_at p why) k)) (kept-gives nothing_there (version_at (whole_lines text)) _ why h)

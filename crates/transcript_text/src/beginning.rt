@@ -1,0 +1,136 @@
+//! The reading of a transcript's beginning: of any first bytes of one, as far as whole parts of it are there.
+
+ghost use Rattle.std.specs.Prelude.{◌≡◌, [], None, false};
+ghost use Rattle.pack_defs.specs.Scenario.{StationsAscend};
+ghost use Rattle.transcript_text.specs.PrefixReading.{goes_on_there, kept_at, prefix_of, start_there, there_by};
+ghost use Rattle.transcript_text.specs.Steps.{Gives};
+
+use crate::error::TextErr;
+use crate::fields::TextLines;
+use crate::read::{start_at, text_end, version_at};
+use crate::steps::{StepsRead, steps_on};
+use auction_core::prefix::Prefix;
+use auction_core::record::Shown;
+use auction_core::transcript::Transcript;
+use pack_defs::book::Book;
+use pack_defs::items::Items;
+use pack_defs::order::Order;
+use pack_defs::scenario::Scenario;
+use std::alloc::Global;
+
+// What is kept where a part was stopped by this error: this, where lines are wanted.
+fn kept_at(why: TextErr, kept: Prefix) -> Result<Prefix, TextErr>
+    ensures { result ≡ kept_at kept why }
+{
+    match why {
+        TextErr::Version => return Err(TextErr::Version),
+        TextErr::BadLine { n } => return Err(TextErr::BadLine { n }),
+        TextErr::Truncated => return Ok(kept),
+        TextErr::NoMemory => return Err(TextErr::NoMemory),
+    }
+}
+
+// What is there without a start.
+fn unstarted(alloc: Global, order: Option<Order>) -> Prefix
+    ensures { result ≡ record { order = order; start = None; steps = []; ended = false } }
+{
+    Prefix {
+        order,
+        start: None,
+        steps: Items::from_vec(Vec::new(alloc)),
+        ended: false,
+    }
+}
+
+// A transcript with its start, before its first step.
+fn started(alloc: Global, order: Order, start: Shown) -> Transcript
+    ensures { result ≡ record { order = order; start = start; steps = [] } }
+{
+    Transcript {
+        order,
+        start,
+        steps: Items::from_vec(Vec::new(alloc)),
+    }
+}
+
+// What reading steps came to, where no more whole lines come.
+#[tactic(auto, unfolding(crate::specs::PrefixReading::there_by))]
+fn there_by<'a>(read: StepsRead<'a>) -> Result<Prefix, TextErr>
+    ensures { Gives (λ p. p) (there_by read.entry) result }
+{
+    let StepsRead { begun, rest, ended } = read;
+    if ended {
+        text_end(true, rest)?;
+    }
+    let Transcript {
+        order,
+        start,
+        steps,
+    } = begun;
+    Ok(Prefix {
+        order: Some(order),
+        start: Some(start),
+        steps,
+        ended,
+    })
+}
+
+// What is there behind the start.
+fn steps_there<'a>(
+    alloc: Global,
+    sc: &Scenario,
+    book: &Book,
+    begun: Transcript,
+    lines: TextLines<'a>,
+) -> Result<Prefix, TextErr>
+    requires { StationsAscend sc.now }
+    ensures { Gives (λ p. p) (goes_on_there sc.now book.now begun lines.entry) result }
+{
+    match steps_on(alloc, sc, book, begun, lines) {
+        Ok(read) => return there_by(read),
+        Err(why) => return Err(why),
+    }
+}
+
+// What is there behind the first line, which names this order.
+fn start_there<'a>(
+    alloc: Global,
+    sc: &Scenario,
+    book: &Book,
+    order: Order,
+    lines: TextLines<'a>,
+) -> Result<Prefix, TextErr>
+    requires { StationsAscend sc.now }
+    ensures { Gives (λ p. p) (start_there sc.now book.now order lines.entry) result }
+{
+    match start_at(alloc, sc, lines) {
+        Ok((start, rest)) => {
+            let begun = started(alloc, order, start);
+            return steps_there(alloc, sc, book, begun, rest);
+        }
+        Err(why) => return kept_at(why, unstarted(alloc, Some(order))),
+    }
+}
+
+/// What is there of a transcript that begins with this text, of an auction by this scenario and this book. The text may end
+/// anywhere: bytes behind its last line end are dropped, and so are the start and a step whose lines aren't all there. It
+/// goes over the text once, as [`read_transcript`](crate::read::read_transcript) does, and takes memory for what it read.
+///
+/// # Errors
+///
+/// `Version` where the first line is whole and names no version; `BadLine` of the first whole line that may not stand
+/// where it stands, or that stands behind the `end` line; `NoMemory` where memory ran out. `Truncated` never comes.
+pub fn read_prefix(
+    alloc: Global,
+    text: &[u8],
+    sc: &Scenario,
+    book: &Book,
+) -> Result<Prefix, TextErr>
+    requires { StationsAscend sc.now }
+    ensures { Gives (λ p. p) (prefix_of sc.now book.now text.now) result }
+{
+    match version_at(text) {
+        Ok((order, lines)) => return start_there(alloc, sc, book, order, lines),
+        Err(why) => return kept_at(why, unstarted(alloc, None)),
+    }
+}
