@@ -1,4 +1,4 @@
-//! The command `batch`: the auctions of many scenarios over the same constraint files, carried out at the same time.
+//! The command `batch`: the auctions of many scenarios over the same constraint files, carried out as many at a time as there are processors.
 
 ghost use Rattle.std.specs.Prelude.{◌≡◌, ◌==◌, ◌++◌, ◌∷◌, [], All, IfOk, None, OnOk, length, map, option_map};
 ghost use Rattle.std.specs.List.{list_any};
@@ -206,8 +206,8 @@ fn carry_all_out<G: Gate + Sync, W: Threads + Wait + Sync>(
     })
 }
 
-/// Reads the constraint files, the list, and the scenario of each of its lines, and carries all their auctions out at the same time:
-/// each as `run` does, by solvers that share what they answered. The results of those that were carried through are stored, in the
+/// Reads the constraint files, the list, and the scenario of each of its lines, and carries all their auctions out, as many at a time
+/// as the machine has processors: each as `run` does, by solvers that share what they answered. The results of those that were carried through are stored, in the
 /// list's order, and a line is printed for each scenario with the status that `run` would end with. Nothing is stored before all
 /// auctions are done.
 pub fn batch<F: Folder, K: Sink, G: Gate + Sync, W: Threads + Wait + Sync>(

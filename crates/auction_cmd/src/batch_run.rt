@@ -1,5 +1,8 @@
-//! The auctions of a batch, all carried out at the same time. Their solvers share a cache of answers, which says nothing but what
-//! is valid for the query and the worker that ask; so it decides how long an auction takes, and never its result.
+//! The auctions of a batch, as many at a time as there are processors. Their solvers share a cache of answers, which says nothing
+//! but what is valid for the query and the worker that ask; so it decides how long an auction takes, and never its result.
+//!
+//! Auctions that go on side by side come to the same hard query at the same time, and each answers it for itself; those that begin
+//! later find it answered. So more of them at a time would spend more, and end no sooner.
 
 ghost use Rattle.std.specs.Prelude.{◌≡◌, All, IfOk, length, map, option_map};
 ghost use Rattle.std.specs.List.{AllZip};
@@ -16,13 +19,47 @@ use race_wave::cached::run_cached;
 use result_text::rows::result_csv;
 use solver_gate::gate::Gate;
 use std::alloc::{AllocError as NoMemory, Global};
-use std::sync::{Mutex, Wait};
+use std::sync::{Condvar, Mutex, Wait};
 use std::thread;
 use std::thread::Threads;
 
 /// How many channel maps, and how many refutations, the cache keeps. A query that none of them answers has looked at all of one
 /// kind and then of the other (`benchmarks/cache`).
 const CACHE_ROOM: u32 = 1024;
+
+// An auction waits for a permit before it begins, and holds it until it has ended.
+#[derive(Drop)]
+struct Permits {
+    left: Mutex<usize>,
+    one_more: Condvar,
+}
+
+impl Permits {
+    // As many as the machine has processors, or one where that isn't told.
+    fn make(rt: &impl Threads) -> Permits {
+        let processors = match thread::available_parallelism(rt) {
+            Ok(processors) => processors.get(),
+            Err(_) => 1,
+        };
+        Permits {
+            left: Mutex::new(processors),
+            one_more: Condvar::new(),
+        }
+    }
+
+    fn take(&self, rt: &impl Wait) {
+        let left = self.left.lock(rt);
+        let mut left = self.one_more.wait_while(rt, left, |left| *left == 0);
+        *left = left.saturating_sub(1);
+    }
+
+    fn give_back(&self, rt: &impl Wait) {
+        let mut left = self.left.lock(rt);
+        *left = left.saturating_add(1);
+        drop(left);
+        self.one_more.notify_one();
+    }
+}
 
 /// An auction that was carried out: its record, and the text of its result, unless it ended at its start.
 #[derive(Drop)]
@@ -79,8 +116,26 @@ fn carry_out<G: Gate + Sync, W: Threads + Wait + Sync>(
     Ok(Ran { record, result })
 }
 
-/// Carries these auctions out, each in a thread of its own where one can be made, beside those of its workers. The only error is
-/// want of memory, of any of them.
+// Carries one auction out, once there is a permit for it.
+fn carry_out_in_turn<G: Gate + Sync, W: Threads + Wait + Sync>(
+    rt: &W,
+    alloc: Global,
+    inputs: Inputs,
+    cache: &Mutex<Cache>,
+    permits: &Permits,
+    gate: &G,
+) -> Result<Ran, NoMemory>
+    requires { IsOfAuction inputs.scenario inputs.book }
+    ensures { IfOk result (IsRun inputs) }
+{
+    permits.take(rt);
+    let ran = carry_out(rt, alloc, inputs, cache, gate);
+    permits.give_back(rt);
+    ran
+}
+
+/// Carries these auctions out, each in a thread of its own where one can be made, beside those of its workers, and as many at a
+/// time as the machine has processors. The only error is want of memory, of any of them.
 pub fn run_all<G: Gate + Sync, W: Threads + Wait + Sync>(
     rt: &W,
     alloc: Global,
@@ -91,16 +146,18 @@ pub fn run_all<G: Gate + Sync, W: Threads + Wait + Sync>(
     ensures { IfOk result (λ rans. AllZip IsRun auctions.items rans.items) }
 {
     let cache = Mutex::new(Cache::make(alloc, CACHE_ROOM)?);
-    let rans = run_each(rt, alloc, auctions, &cache, gate)?;
+    let permits = Permits::make(rt);
+    let rans = run_each(rt, alloc, auctions, &cache, &permits, gate)?;
     all_of(alloc, rans)
 }
 
-// Carries these auctions out by a cache that is given, and tells of each what came of it.
+// Carries these auctions out by a cache and permits that are given, and tells of each what came of it.
 fn run_each<G: Gate + Sync, W: Threads + Wait + Sync>(
     rt: &W,
     alloc: Global,
     auctions: Vec<Inputs>,
     cache: &Mutex<Cache>,
+    permits: &Permits,
     gate: &G,
 ) -> Result<Vec<Result<Ran, NoMemory>>, NoMemory>
     requires { All (λ i. IsOfAuction i.scenario i.book) auctions.items }
@@ -109,7 +166,7 @@ fn run_each<G: Gate + Sync, W: Threads + Wait + Sync>(
     let part = |inputs: Inputs| -> Result<Ran, NoMemory>
         requires { IsSync W.row × IsSync G.row × IsOfAuction inputs.scenario inputs.book }
         ensures { IfOk result (IsRun inputs) }
-    { carry_out(rt, alloc, inputs, cache, gate) };
+    { carry_out_in_turn(rt, alloc, inputs, cache, permits, gate) };
     thread::map_vec(rt, auctions, &part)
 }
 
