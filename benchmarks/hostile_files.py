@@ -1,8 +1,9 @@
 """Sound inputs of the program, and how they are made hostile.
 
 A set holds the texts of an auction's three input files, of a transcript of it, and of what its owners say who follow their
-values. Most transcripts are those that the program writes; some are written here, with steps that few auctions have. A draw of a stream makes one or more of a set's texts
-hostile, or all the words that go with them.
+values. Most transcripts are those that the program writes; some are written here, with steps that few auctions have. A draw of a
+stream makes one or more of a set's texts hostile, or all the words that go with them. The files of a batch are drawn from the
+sets: the constraint files of one, scenarios that are variants of its own or another's, and a list.
 """
 import json
 import re
@@ -12,6 +13,7 @@ INPUTS = ("domains.csv", "rows.csv", "scenario.json")
 OUTPUTS = ("result.csv", "channels.csv", "stored.txt")
 TRANSCRIPT = "transcript.txt"
 OWNERS = "owners.csv"
+LIST = "list.csv"
 NAMES = (*INPUTS, TRANSCRIPT)
 FILES = (*NAMES, OWNERS)
 MADE = (1, 5, 16)
@@ -343,3 +345,131 @@ def hostile(draw, files, others, weights):
     files["scenario.json"] = tamed(draw, files["scenario.json"])
     if draw.randrange(40) == 0:
         del files[draw.choice(list(files))]
+
+
+# The names of a batch's scenarios and results, of a number: most are plain, and some stand in quotes in the list.
+PLAIN = ("{}.json", "{}.csv")
+SCENARIOS = [*[PLAIN[0]] * 8, "scenario {}.json", "{},x.json", "\u00e9{}.json", '"{}".json', "{}\r.json", "-{}", "x 6\r{}"]
+RESULTS = [
+    *[PLAIN[1]] * 8, "result {}.csv", "{},x.csv", "\u00e9{}.csv", '{}"x".csv', "{}\r.csv", "-{}.csv", "./{}.csv", ".//./{}",
+]
+# Names that no file may have, or that none has.
+NOWHERE = [
+    b"", b".", b"..", b"/", b"./", b"nowhere", b"nowhere/x", b"x" * 255, b"x" * 256, b"-", b"--", b"a\0b", b"/dev/null/x",
+    b"x/..",
+]
+# Names that aren't UTF-8.
+BROKEN = [b"\xff", b"x\xc3", b"\xed\xa0\x80.csv", b"\xc0\x80", b"\xf4\x90\x80\x80", b"x\x80y"]
+# What may stand at the end of a line of a list.
+ENDS = [
+    *[b"\n"] * 8, b"\r\n", b"\n\n", b" \t\n", b",,\n", b" , ,\n", b"\r", b"\r\r\n", b"\n , \n", b'\n""\n', b',""\n',
+    b"\n\xef\xbb\xbf",
+]
+# Lines of a list, of which most are refused.
+LISTED = [
+    b"0.json", b"0.json,", b"0.json,x,y", b"0.json,,x", b",x", b"# 0.json,x", b"0.json;x", b'"0.json,x', b'0.json,"x',
+    b'"0.json"x,y', b'0.json,x"', b' "0.json",x',
+    b"\t0.json\t,\tx\t", b"0.json,\xc2\xa0x", b"\xef\xbb\xbf\xef\xbb\xbf0.json,x", b"0.json,x,,, ,",
+    b"0.json,\xff", b"\xff,x", b"\xff", b"0.json,x\r0.json,y", b"0.json,x\ry", b"\0", b'"""0.json""",x', b'"",x', b'0.json,""',
+    b"domains.csv,x", b"list.csv,x", b"0.json,list.csv", b"0.json,0.json", b"0.json,./0.json", b"0.json,./list.csv",
+    b"./0.json,x", b"0.json,0.csv", b"0.json,./0.csv",
+]
+WORKERS = [
+    [{"kind": "cdcl", "budget": 1000}],
+    [{"kind": "cdcl", "budget": 1}],
+    [{"kind": "walk", "budget": 1}, {"kind": "cdcl", "budget": 1}],
+    [{"kind": "cdcl", "budget": 20, "seed": 3}, {"kind": "cdcl", "budget": 20}],
+    [{"kind": "walk", "budget": 99}, {"kind": "cdcl", "budget": 99}],
+]
+VALUES = [None, 0, 1, 50, 1000, 10**6, 10**15]
+# Of so many batches one has some 256 lines.
+LONG = 60
+
+
+def varied(draw, text):
+    """A sound scenario of some of a sound scenario's stations."""
+    told = json.loads(text)
+    for _ in range(draw.randrange(5)):
+        change = draw.randrange(6)
+        stations = told["stations"]
+        if change == 0:
+            told["top"] = draw.choice((14, 15, 16, draw.randrange(14, 52)))
+        elif change == 1:
+            told["workers"] = draw.choice(WORKERS)
+        elif change == 2:
+            value = draw.choice(VALUES)
+            for station in draw.sample(stations, draw.randrange(1, len(stations) + 1)):
+                station["value"] = value
+        elif change == 3:
+            told["stations"] = draw.sample(stations, draw.randrange(1, len(stations) + 1))
+        elif change == 4:
+            told["opening"] = min(1_000_000, told["opening"] + draw.choice((1, 50, 1000)))
+        else:
+            told.update(version=2, rate=draw.choice((100, 300, 1000)), floor=draw.choice((50, 1000)))
+    return json.dumps(told).encode()
+
+
+def field(draw, name):
+    """A name as a field of a list, in quotes where it has to be and now and then."""
+    if b'"' in name or b"," in name or b"\r" in name or draw.randrange(8) == 0:
+        name = b'"' + name.replace(b'"', b'""') + b'"'
+    return name + draw.choice((b"", b"", b"", b"", b" ", b"\t"))
+
+
+def change_pair(draw, pairs):
+    """Makes a line of a list hostile, by one of its names."""
+    names = [name for pair in pairs for name in pair] + [name.encode() for name in (*INPUTS[:2], LIST)]
+    pair, change = draw.choice(pairs), draw.randrange(7)
+    if change == 0:
+        pair[1] = draw.choice(names)
+    elif change == 1:
+        pair[1] = b"./" + draw.choice(names)
+    elif change == 2:
+        pair[0] = draw.choice(names)
+    else:
+        pair[draw.randrange(2)] = draw.choice(BROKEN if change == 3 else NOWHERE)
+
+
+def change_list(draw, text, other):
+    """A list that is made hostile, by a line of another kind or as any text."""
+    lines = text.split(b"\n")
+    change = draw.randrange(12)
+    if change == 0:
+        return draw.choice((b"", b"\n", b" , \n\r\n", MARKS[8], b'""', b",,,\n,"))
+    if change < 7:
+        lines.insert(draw.randrange(len(lines) + 1), draw.choice(LISTED))
+        return b"\n".join(lines)
+    return draw.choice(MILD if change < 9 else HARSH)(draw, text, other)
+
+
+def listed(draw, names):
+    """The pairs of a list: each of these names of scenarios with that of a result, and now and then some 256 of them."""
+    names = draw.choices(names, k=draw.randrange(255, 259)) if draw.randrange(LONG) == 0 else names
+    return [[name.encode(), draw.choice(RESULTS).format(number).encode()] for number, name in enumerate(names)]
+
+
+def hostile_batch(draw, sound):
+    """The files of a batch of two to six auctions, some of them hostile."""
+    own, others = draw.choice(sound), list(draw.choice(sound).values())
+    files = {name: own[name] for name in INPUTS[:2]}
+    names = [draw.choice(SCENARIOS).format(number) for number in range(draw.randrange(2, 7))]
+    for name in names:
+        files[name] = varied(draw, own[INPUTS[2]]) if draw.randrange(40) else draw.choice(sound)[INPUTS[2]]
+    pairs = listed(draw, names if draw.randrange(4) else draw.choices(names, k=len(names)))
+    files.update({pair[1].decode(): b"old\n" for pair in pairs if b"/" not in pair[1] and draw.randrange(2)})
+    many = draw.choices((0, 1, 2, 4), (9, 8, 3, 1))[0]
+    changes = draw.choices((change_pair, change_list, *INPUTS), (5, 4, 1, 1, 4), k=many)
+    for _ in range(changes.count(change_pair)):
+        change_pair(draw, pairs)
+    files[LIST] = b"".join(field(draw, one) + b"," + field(draw, two) + draw.choice(ENDS) for one, two in pairs)
+    for change in changes:
+        if change is change_list:
+            files[LIST] = change_list(draw, files[LIST], draw.choice(others))
+        elif change in INPUTS:
+            name = draw.choice(names) if change == INPUTS[2] else change
+            mutations = MILD if draw.randrange(2) else HARSH
+            files[name] = draw.choice(mutations)(draw, files[name], draw.choice(others))
+    files.update({name: tamed(draw, files[name]) for name in names})
+    if draw.randrange(40) == 0:
+        del files[draw.choice(list(files))]
+    return files
