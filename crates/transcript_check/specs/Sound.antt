@@ -1,11 +1,9 @@
 -- When a transcript is sound: its record is backed, and its logs are numbered on from the clauses of their tests' sets.
-use Rattle.std.specs.Prelude.{◌≡◌, List, [], ◌∷◌, map, sum_by}
+use Rattle.std.specs.Prelude.{sum_by}
 use Rattle.pack_defs.specs.declared.scenario.Scenario.{Scenario}
 use Rattle.pack_defs.specs.Book.{BookView}
 use Rattle.auction_core.specs.declared.record.Record.{Record}
-use Rattle.auction_core.specs.declared.record.Step.{Step}
 use Rattle.auction_core.specs.declared.record.Ending.TheVariants.{Done}
-use Rattle.auction_core.specs.State.{CoreState, settled, test_of, tested_set}
 use Rattle.auction_core.specs.Backed.{IsBacked, after_start, after_steps}
 use Rattle.auction_core.specs.declared.transcript.Transcript.{Transcript}
 use Rattle.auction_core.specs.LogNumbers.{AreNumbered, steps_in}

@@ -1,15 +1,19 @@
 //! What is proved of sound transcripts, about the definitions alone.
 
-ghost use Rattle.std.specs.Prelude.{◌≡◌, ◌++◌, [], ◌∷◌, None, Some};
+ghost use Rattle.std.specs.Prelude.{◌≡◌, ◌<◌, ◌^◌, ◌++◌, [], ◌∷◌, ℕ, List, MatchResult, None, Ok, Some, length};
 ghost use Rattle.pack_defs.specs.declared.scenario.Scenario.{Scenario};
 ghost use Rattle.pack_defs.specs.Book.{BookView};
 ghost use Rattle.auction_core.specs.declared.record.Record.{Record};
+ghost use Rattle.auction_core.specs.declared.record.Step.{Step};
 ghost use Rattle.auction_core.specs.declared.record.Ending.TheVariants.{Done};
 ghost use Rattle.auction_core.specs.Backed.{IsBacked};
-ghost use Rattle.transcript_text.specs.Spelling.{transcript_for};
+ghost use Rattle.auction_core.specs.LogNumbers.{steps_in};
+ghost use Rattle.transcript_text.specs.PrefixReading.{prefix_of};
+ghost use Rattle.transcript_text.specs.Reading.{transcript_of};
+ghost use Rattle.transcript_text.specs.Spelling.{transcript_for, transcript_text};
 ghost use Rattle.auction_core.specs.Rule.{IsAuction};
 ghost use Rattle.auction_core.specs.declared.transcript.Transcript.{Transcript};
-ghost use Rattle.auction_core.specs.NotShown.{not_shown};
+ghost use Rattle.auction_core.specs.NotShown.{not_kept, not_shown};
 ghost use Rattle.transcript_check.specs.Sound.{IsSound, transcript_record};
 
 /// A transcript is sound exactly where no step is the first that is not shown.
@@ -22,4 +26,21 @@ pub fn sound_where_all_is_shown()
 pub fn the_transcript_of_a_record()
     ensures sound { (sc : Scenario) (book : BookView) (rec : Record) → IsAuction sc book → IsBacked sc book rec.order rec → rec.ending ≡ Done → IsSound sc book (transcript_for sc book rec) }
     ensures same { (sc : Scenario) (book : BookView) (rec : Record) → IsAuction sc book → IsBacked sc book rec.order rec → rec.ending ≡ Done → transcript_record sc book (transcript_for sc book rec) ≡ rec }
+{}
+
+/// Any first bytes of a sound transcript's text are a beginning from which an auction goes on: no kept step is at fault.
+pub fn an_auction_goes_on_from_any_beginning()
+    ensures { (sc : Scenario) (book : BookView) (before after : List ℕ) (t : Transcript) → transcript_of sc book (before ++ after) ≡ Ok t → not_shown sc book t ≡ None → MatchResult (prefix_of sc book before) (λ kept. not_kept sc book kept ≡ None) (λ why. ⊥) }
+{}
+
+/// A whole sound transcript leaves nothing to ask. A backed record of an auction that was carried through, in the transcript's
+/// order, with its start and with its steps in front, has no other steps. So it is the transcript's record.
+pub fn a_sound_transcript_leaves_nothing_to_ask()
+    ensures steps { (sc : Scenario) (book : BookView) (t : Transcript) (rec : Record) (more : List Step) → IsAuction sc book → not_shown sc book t ≡ None → IsBacked sc book t.order rec → rec.ending ≡ Done → rec.start ≡ t.start → rec.steps ≡ steps_in t.steps ++ more → more ≡ [] }
+    ensures same { (sc : Scenario) (book : BookView) (t : Transcript) (rec : Record) (more : List Step) → IsAuction sc book → not_shown sc book t ≡ None → IsBacked sc book t.order rec → rec.ending ≡ Done → rec.start ≡ t.start → rec.steps ≡ steps_in t.steps ++ more → rec ≡ transcript_record sc book t }
+{}
+
+/// A sound transcript is the text of the record that it shows. The scenario's workers are counted in 32 bits.
+pub fn a_sound_transcript_is_its_records_text()
+    ensures { (sc : Scenario) (book : BookView) (text : List ℕ) (t : Transcript) → length sc.workers < 2 ^ 32 → transcript_of sc book text ≡ Ok t → not_shown sc book t ≡ None → transcript_text sc book (transcript_record sc book t) ≡ text }
 {}
