@@ -9,14 +9,14 @@ use Rattle.pack_defs.proofs.Chains.{ascending-skip}
 use Rattle.pack_defs.proofs.Words.{ascending-rest}
 use Rattle.batch_cache.specs.Walks.{finds_all}
 
-not-same : (x y : ℕ) → x < y → (x == y) ≡ false
+pub not-same : (x y : ℕ) → x < y → (x == y) ≡ false
 not-same x y h = grind (arith, nat_tests)
 
 not-same-back : (x y : ℕ) → y < x → (x == y) ≡ false
 not-same-back x y h = grind (arith, nat_tests)
 
 -- an ascending list has no number below its first
-below-first : (x : ℕ) (xs : List ℕ) (y : ℕ) → is_ascending (x ∷ xs) ≡ true → y < x → is_in (x ∷ xs) y ≡ false
+pub below-first : (x : ℕ) (xs : List ℕ) (y : ℕ) → is_ascending (x ∷ xs) ≡ true → y < x → is_in (x ∷ xs) y ≡ false
 below-first x [] y h less = ap (λ (b : Bool). b || false) (not-same-back x y less)
 below-first x (z ∷ zs) y h less =
     let parts = and_parts (nat_lt x z) (is_ascending (z ∷ zs)) h in

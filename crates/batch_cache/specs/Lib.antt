@@ -1,4 +1,5 @@
 pub mod Answering
+pub mod Gaps
 pub mod Kept
 pub mod Looks
 pub mod NoneKept

@@ -6,6 +6,7 @@ ghost use Rattle.batch_cache.specs.Looks.{learns_within, may_answer, may_be_of, 
 
 use crate::copies::copy_of;
 use crate::signed_set::SignedSet;
+use crate::witness::Witness;
 use cert_types::answer::Refutation;
 use pack_defs::worker::{Kind, Worker};
 use rup_check::line::Log;
@@ -54,7 +55,8 @@ impl KeptRefutation {
     pub fn may_answer(&self, set: &SignedSet, worker: &Worker) -> bool
         ensures { result ≡ may_answer set.now worker.now self.now }
     {
-        may_be_of(&self.refutation, worker) && set.holds(&self.stations)
+        // Each refutation names stations of its own, so that none is a witness for the next.
+        may_be_of(&self.refutation, worker) && set.holds(&self.stations, &mut Witness::none())
     }
 }
 

@@ -5,6 +5,7 @@ ghost use Rattle.std.specs.List.{list_all};
 ghost use Rattle.pack_defs.specs.Lists.{is_in};
 
 use crate::signed_set::SignedSet;
+use crate::witness::Witness;
 use std::alloc::{AllocError as NoMemory, Global};
 
 /// The top channel and the set of stations that an answer was found for.
@@ -32,10 +33,14 @@ impl Key {
         Key::of(alloc, self.top, self.set.stations())
     }
 
-    /// Whether it is of this top channel, and its set holds the stations of the other one.
-    pub fn holds(&self, top: u8, set: &SignedSet) -> bool
+    /// Whether it is of this top channel, and its set holds the stations of the other one. The witness is what the sets before
+    /// left, and a station that this one lacks.
+    pub(crate) fn holds(&self, top: u8, set: &SignedSet, witness: &mut Witness) -> bool
         ensures { result ≡ ((self.now.top == top) && list_all (is_in self.now.set) set.now) }
     {
-        self.top == top && self.set.holds(set)
+        if self.top != top {
+            return false;
+        }
+        self.set.holds(set, witness)
     }
 }

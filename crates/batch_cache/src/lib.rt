@@ -21,3 +21,4 @@ pub mod signed_set;
 mod station_bits;
 #[cfg(test)]
 mod tests;
+mod witness;

@@ -2,6 +2,7 @@
 
 ghost use Rattle.std.specs.Prelude.{◌≡◌, ◌/◌, IsTrue, nat_lt};
 ghost use Rattle.pack_defs.specs.Lists.{is_ascending, is_in};
+ghost use Rattle.batch_cache.specs.Gaps.{ends_below, goes_on_above, has_gap};
 ghost use Rattle.batch_cache.specs.Walks.{finds_all};
 
 /// Whether each number is above the one before it.
@@ -24,6 +25,57 @@ pub(crate) fn is_in(numbers: &[u32], number: u32) -> bool
     numbers.binary_search(&number).is_ok()
 }
 
+/// Whether the ascending list has the number. A look at the gap tells, if the number would fill it; else it is sought by halves,
+/// and the gap that it would fill is left for the next list.
+pub(crate) fn is_in_near(numbers: &[u32], number: u32, gap: &mut usize) -> bool
+    requires { IsTrue (is_ascending numbers.now) }
+    ensures { result ≡ is_in numbers.now number }
+{
+    if has_gap(numbers, *gap, number) {
+        return false;
+    }
+    match numbers.binary_search(&number) {
+        Ok(_) => true,
+        Err(place) => {
+            *gap = place;
+            false
+        }
+    }
+}
+
+// Whether the number would fill a gap at the place: what stands before it is below the number, and what stands there above.
+fn has_gap(numbers: &[u32], place: usize, number: u32) -> bool
+    ensures { result ≡ has_gap numbers.now place number }
+{
+    if !goes_on_above(numbers, place, number) {
+        return false;
+    }
+    ends_below(numbers, place, number)
+}
+
+// Whether the list goes on above the number from the place on, if it goes on.
+fn goes_on_above(numbers: &[u32], place: usize, number: u32) -> bool
+    ensures { result ≡ goes_on_above numbers.now place number }
+{
+    match numbers.get(place) {
+        Some(next) => number < *next,
+        None => true,
+    }
+}
+
+// Whether the list comes to the place, and what stands before it, if anything does, is below the number.
+fn ends_below(numbers: &[u32], place: usize, number: u32) -> bool
+    ensures { result ≡ ends_below numbers.now place number }
+{
+    let Some(last) = place.checked_sub(1) else {
+        return true;
+    };
+    match numbers.get(last) {
+        Some(before) => *before < number,
+        None => false,
+    }
+}
+
 /// Whether so few numbers are found sooner by halves than by a walk along the others: among some hundreds of them to seek one
 /// takes as long as some ten steps of a walk, and among more as a few more.
 pub(crate) fn are_few(sought: usize, others: usize) -> bool
@@ -33,8 +85,9 @@ pub(crate) fn are_few(sought: usize, others: usize) -> bool
 }
 
 /// Whether a walk along both lists finds each number of the second one in the first; where both ascend, it does so exactly
-/// where all are there. It ends with the first number that is missing, and isn't begun where the second list is the longer one.
-pub(crate) fn finds_all(these: &[u32], sought: &[u32]) -> bool
+/// where all are there. It ends with the first number that is missing, whose place is left, and isn't begun where the second
+/// list is the longer one.
+pub(crate) fn finds_all(these: &[u32], sought: &[u32], missing: &mut usize) -> bool
     ensures { result ≡ finds_all these.now sought.now }
 {
     if these.len() < sought.len() {
@@ -46,11 +99,13 @@ pub(crate) fn finds_all(these: &[u32], sought: &[u32]) -> bool
             return true;
         }
         if sought[next] < *number {
+            *missing = next;
             return false;
         }
         if sought[next] == *number {
             next += 1;
         }
     }
+    *missing = next;
     next == sought.len()
 }

@@ -9,6 +9,7 @@ use crate::judge::{fit_of, refutation_of};
 use crate::kept_refutation::KeptRefutation;
 use crate::key::Key;
 use crate::signed_set::SignedSet;
+use crate::witness::Witness;
 use cert_types::answer::Answer;
 use cert_types::task::Task;
 use lru::LruCache;
@@ -24,8 +25,8 @@ pub(crate) struct FoundAnswer {
     pub(crate) answer: Answer,
 }
 
-/// The fit of the most recently used map that gives one. The task's set is given with its bits too. The only error is want of
-/// memory.
+/// The fit of the most recently used map that gives one. The task's set is given with its bits too. A station of it that one map's
+/// set lacked is looked for first in the next one. The only error is want of memory.
 pub(crate) fn first_fit(
     alloc: Global,
     maps: &LruCache<Key, ChannelMap>,
@@ -39,8 +40,9 @@ pub(crate) fn first_fit(
     requires asked { asked.now ≡ task.now.set }
     ensures { IfOk result (λ found. found ≡ option_map (fit_found task.now) (find (gives_fit top book.now task.now worker.now) maps.now.entries)) }
 {
+    let mut witness = Witness::none();
     for (key, map) in maps.iter() {
-        if !key.holds(top, asked) {
+        if !key.holds(top, asked, &mut witness) {
             continue;
         }
         if let Some(answer) = fit_of(alloc, book, task, worker, map)? {

@@ -8,9 +8,11 @@ ghost use Rattle.std.specs.Cmp.Lexicographic.{nat_list_eq_equiv, pointwise};
 ghost use Rattle.std.specs.Cmp.Rules.{hashing};
 ghost use Rattle.std.proofs.Common.{rules};
 ghost use Rattle.pack_defs.specs.Lists.{is_in};
+ghost use Rattle.batch_cache.specs.Gaps.{lacks_at};
 
-use crate::numbers::{are_few, ascends, finds_all, is_in};
+use crate::numbers::{are_few, ascends, finds_all, is_in, is_in_near};
 use crate::station_bits::{StationBits, are_covered, station_bits};
+use crate::witness::Witness;
 use std::alloc::{AllocError as NoMemory, Global};
 use std::hash::{Hash, Hasher};
 use std::marker::Model;
@@ -89,36 +91,70 @@ impl SignedSet {
         self.stations.contains(&station)
     }
 
-    /// Whether it has each station of the other one. Mostly a look at a word or two tells that it hasn't; else both are walked
-    /// along, or each station is sought.
-    pub fn holds(&self, others: &SignedSet) -> bool
+    /// Whether it has each station of the other one. Mostly a look at a word or two tells that it hasn't, and else one at the
+    /// witness; only then are both walked along, or each station is sought. A station that it lacks becomes the witness.
+    pub(crate) fn holds(&self, others: &SignedSet, witness: &mut Witness) -> bool
         ensures { result ≡ list_all (is_in self.now) others.now }
     {
         if !are_covered(&self.bits, &others.bits) {
             return false;
         }
-        self.has_all(others)
+        self.has_where_covered(others, witness)
+    }
+
+    // Whether it has each station of the other one, where no bit tells: a look at the witness tells, or all are gone through. It
+    // is a call of its own, since what it saves on the stack would else be saved for most sets that the bits tell.
+    #[inline(never)]
+    fn has_where_covered(&self, others: &SignedSet, witness: &mut Witness) -> bool
+        ensures { result ≡ list_all (is_in self.now) others.now }
+    {
+        if self.lacks(others, witness) {
+            return false;
+        }
+        self.has_all(others, witness)
+    }
+
+    // Whether it lacks the witness, if that is a station of the other one.
+    fn lacks(&self, others: &SignedSet, witness: &mut Witness) -> bool
+        ensures { result ≡ lacks_at self.now others.now witness.old.place }
+    {
+        let Some(station) = others.stations.get(witness.place) else {
+            return false;
+        };
+        !self.has_near(*station, &mut witness.gap)
+    }
+
+    // Whether it has the station: where its own ascend, a gap that this one may fill is looked at first.
+    fn has_near(&self, station: u32, gap: &mut usize) -> bool
+        ensures { result ≡ is_in self.now station }
+    {
+        if self.ascends {
+            return is_in_near(&self.stations, station, gap);
+        }
+        self.stations.contains(&station)
     }
 
     // Whether it has each station of the other one: by a walk along both, where both ascend and the other one hasn't only a few.
-    fn has_all(&self, others: &SignedSet) -> bool
+    fn has_all(&self, others: &SignedSet, witness: &mut Witness) -> bool
         ensures { result ≡ list_all (is_in self.now) others.now }
     {
         if !self.ascends || !others.ascends {
-            return self.has_each(&others.stations);
+            return self.has_each(&others.stations, &mut witness.place);
         }
         if are_few(others.stations.len(), self.stations.len()) {
-            return self.has_each(&others.stations);
+            return self.has_each(&others.stations, &mut witness.place);
         }
-        finds_all(&self.stations, &others.stations)
+        finds_all(&self.stations, &others.stations, &mut witness.place)
     }
 
-    // Whether it has each of these stations: each is sought, by halves where its own ascend.
-    fn has_each(&self, stations: &[u32]) -> bool
+    // Whether it has each of these stations: each is sought, by halves where its own ascend. The place of one that it lacks is
+    // left.
+    fn has_each(&self, stations: &[u32], missing: &mut usize) -> bool
         ensures { result ≡ list_all (is_in self.now) stations.now }
     {
-        for station in stations {
-            if !self.has(*station) {
+        for place in 0..stations.len() {
+            if !self.has(stations[place]) {
+                *missing = place;
                 return false;
             }
         }

@@ -1,4 +1,6 @@
-//! Tests of the cache on three stations, each of which may use channels 14 and 15, and no two of which may share one.
+//! Tests of the cache on three stations, each of which may use channels 14 and 15, and no two of which may share one. The third
+//! one has the bit of the second, of those by which the cache looks, so that a set of one has to be looked into to tell that it
+//! lacks the other.
 
 ghost use Rattle.std.specs.Prelude.{◌≡◌, ◌≤◌, IfOk, IsTrue};
 ghost use Rattle.pack_defs.specs.Lists.{is_ascending};
@@ -18,6 +20,8 @@ use rup_check::line::Log;
 use rup_check::lines::Lines;
 use std::alloc::{AllocError as NoMemory, Global};
 use std::test::Fail;
+
+const THIRD: u32 = 1026;
 
 // A station on a channel.
 type Entry = (u32, u8);
@@ -71,17 +75,17 @@ fn three_stations(alloc: Global, channels: &[u8]) -> Result<Book, NoMemory>
     let domains = [
         station_on(alloc, 1, channels)?,
         station_on(alloc, 2, channels)?,
-        station_on(alloc, 3, channels)?,
+        station_on(alloc, THIRD, channels)?,
     ];
     let pairs = [
         on_one(1, 2, 14),
-        on_one(1, 3, 14),
+        on_one(1, THIRD, 14),
         on_one(1, 2, 15),
-        on_one(1, 3, 15),
-        on_one(2, 3, 14),
-        on_one(2, 3, 15),
+        on_one(1, THIRD, 15),
+        on_one(2, THIRD, 14),
+        on_one(2, THIRD, 15),
     ];
-    Book::build(alloc, 15, &[1, 2, 3], &domains, &pairs)
+    Book::build(alloc, 15, &[1, 2, THIRD], &domains, &pairs)
 }
 
 // The map of these entries.
@@ -143,10 +147,10 @@ fn keep_fit(
 
 fn keep_proof(alloc: Global, cache: &mut Cache) -> Result<(), NoMemory> {
     let proof = Refutation::Proof {
-        subset: Items::from_vec(Vec::from_slice(alloc, &[1, 2, 3])?),
+        subset: Items::from_vec(Vec::from_slice(alloc, &[1, 2, THIRD])?),
         log: two_lines(alloc)?,
     };
-    keep(alloc, cache, &[1, 2, 3], &[], Answer::Refuted(proof))
+    keep(alloc, cache, &[1, 2, THIRD], &[], Answer::Refuted(proof))
 }
 
 fn keep_spent(alloc: Global, cache: &mut Cache, set: &[u32]) -> Result<(), NoMemory> {
@@ -251,7 +255,7 @@ fn first_wrong(
     Ok(None)
 }
 
-const ALL: &[u32] = &[1, 2, 3];
+const ALL: &[u32] = &[1, 2, THIRD];
 
 const NOTHING: Want = Want::Nothing;
 
@@ -265,9 +269,9 @@ fn answers_by_what_is_kept(rt: HostRuntime) -> Result<(), Fail> {
         Step::AskOfWalk(&[1], Want::Fit(&[(1, 15)])),
         Step::AskOfTop16(&[1, 2], NOTHING),
         Step::Ask(ALL, NOTHING),
-        Step::Ask(&[1, 3], NOTHING),
-        Step::Spent(&[1, 3]),
-        Step::Ask(&[1, 3], NOTHING),
+        Step::Ask(&[1, THIRD], NOTHING),
+        Step::Spent(&[1, THIRD]),
+        Step::Ask(&[1, THIRD], NOTHING),
         Step::Proof,
         Step::Ask(ALL, Want::Proof),
         Step::AskOfOneLine(ALL, NOTHING),
@@ -292,7 +296,7 @@ fn answers_by_a_dead_pair(rt: HostRuntime) -> Result<(), Fail> {
         Step::Dead(&[1, 2]),
         Step::Ask(&[1, 2], Want::Dead),
         Step::AskOfWalk(ALL, Want::Dead),
-        Step::Ask(&[1, 3], NOTHING),
+        Step::Ask(&[1, THIRD], NOTHING),
         Step::AskOfTop16(&[1, 2], NOTHING),
     ];
     assert_eq!(rt; first_wrong(rt.alloc(), &[14], 1, STEPS)?, None);
@@ -306,29 +310,35 @@ fn the_least_recently_used_goes(rt: HostRuntime) -> Result<(), Fail> {
         // Maps and refutations have room of their own.
         Step::Proof,
         Step::Ask(&[1, 2], Want::Fit(&[(1, 15), (2, 14)])),
-        Step::Fit(&[1, 3], &[(1, 15), (3, 14)]),
+        Step::Fit(&[1, THIRD], &[(1, 15), (THIRD, 14)]),
         Step::Ask(&[1, 2], NOTHING),
-        Step::Ask(&[3], Want::Fit(&[(3, 14)])),
+        Step::Ask(&[THIRD], Want::Fit(&[(THIRD, 14)])),
         Step::Ask(ALL, Want::Proof),
     ];
     assert_eq!(rt; first_wrong(rt.alloc(), &[14, 15], 1, ONE)?, None);
     const TWO: &[Step] = &[
         Step::Fit(&[1, 2], &[(1, 15), (2, 14)]),
-        Step::Fit(&[1, 3], &[(1, 14), (3, 15)]),
+        Step::Fit(&[1, THIRD], &[(1, 14), (THIRD, 15)]),
         // Of two that answer the one that was used last does.
         Step::Ask(&[1], Want::Fit(&[(1, 14)])),
         Step::Ask(&[2], Want::Fit(&[(2, 14)])),
         Step::Ask(&[1], Want::Fit(&[(1, 15)])),
         // The one that answered stays, and the other one goes.
-        Step::Fit(&[2, 3], &[(2, 15), (3, 14)]),
-        Step::Ask(&[1, 3], NOTHING),
+        Step::Fit(&[2, THIRD], &[(2, 15), (THIRD, 14)]),
+        Step::Ask(&[1, THIRD], NOTHING),
         Step::Ask(&[1, 2], Want::Fit(&[(1, 15), (2, 14)])),
-        Step::Ask(&[2, 3], Want::Fit(&[(2, 15), (3, 14)])),
+        Step::Ask(&[2, THIRD], Want::Fit(&[(2, 15), (THIRD, 14)])),
         // One that is put again under its key stands first.
         Step::Fit(&[1, 2], &[(1, 14), (2, 15)]),
-        Step::Fit(&[3], &[(3, 15)]),
-        Step::Ask(&[2, 3], NOTHING),
+        Step::Fit(&[THIRD], &[(THIRD, 15)]),
+        Step::Ask(&[2, THIRD], NOTHING),
         Step::Ask(&[1, 2], Want::Fit(&[(1, 14), (2, 15)])),
+        // The one that was used last lacks the station that is asked about, and the other one has it.
+        Step::Fit(&[1, THIRD], &[(1, 15), (THIRD, 14)]),
+        Step::Ask(&[1, 2], Want::Fit(&[(1, 14), (2, 15)])),
+        Step::Ask(&[2], Want::Fit(&[(2, 15)])),
+        Step::Ask(&[1, THIRD], Want::Fit(&[(1, 15), (THIRD, 14)])),
+        Step::Ask(ALL, NOTHING),
     ];
     assert_eq!(rt; first_wrong(rt.alloc(), &[14, 15], 2, TWO)?, None);
     Ok(())

@@ -4,5 +4,5 @@ use Rattle.std.specs.List.{list_all}
 use Rattle.pack_defs.specs.Lists.{is_in}
 use Rattle.batch_cache.proofs.signed_set.SignedSet.has_each.Given as goal
 
-abbrev pub invariant-loop-station : goal.invariant-loop-station
-invariant-loop-station l = list_all (is_in l.self) (drop l.station-index l.stations) ≡ list_all (is_in l.self) l.stations
+abbrev pub invariant-loop-place : goal.invariant-loop-place
+invariant-loop-place l = list_all (is_in l.self) (drop l.place l.stations) ≡ list_all (is_in l.self) l.stations
