@@ -21,7 +21,12 @@ pub mod PromiseLemmas
 pub mod ReadAgain
 pub mod ReadingLemmas
 pub mod RecordLemmas
+pub mod ResumeCutLemmas
+pub mod ResumeEndLemmas
+pub mod ResumeLemmas
+pub mod RunEndLemmas
 pub mod RunLemmas
+pub mod RunPromiseLemmas
 pub mod SaysLemmas
 pub mod SeekLemmas
 pub mod StartLemmas

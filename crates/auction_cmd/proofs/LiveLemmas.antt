@@ -23,12 +23,13 @@ use Rattle.auction_core.specs.Backed.{IsBacked, undecided_of}
 use Rattle.auction_cmd.specs.declared.inputs.Inputs.{Inputs}
 use Rattle.auction_cmd.specs.declared.refusal.Input.TheVariants.{Owners as OwnersFile}
 use Rattle.auction_cmd.specs.Ends.{RunEnds, VerifyEnds}
-use Rattle.auction_cmd.specs.Ends.RunEnds.{RunStopped, RunStarved, Unfit, StartOpen, Delivered}
+use Rattle.auction_cmd.specs.Ends.Concludes.{Unfit, StartOpen, Delivered}
+use Rattle.auction_cmd.specs.Ends.RunEnds.{RunStopped, RunStarved, Concluded}
 use Rattle.auction_cmd.specs.Ends.VerifyEnds.{VerifyStopped, VerifyStarved, NotLoaded, NotSound, Sound}
 use Rattle.auction_cmd.specs.Inputs.{bytes_within, file_limit, file_of, inputs_of, live_inputs, owners_read, with_said}
 use Rattle.auction_cmd.specs.LivePromises.{AreLive, FollowValues, GoesByOwnLines, IsLive}
 use Rattle.auction_cmd.specs.Outside.{Outside}
-use Rattle.auction_cmd.specs.Records.{outcome, run_order}
+use Rattle.auction_cmd.specs.Records.{outcome}
 use Rattle.auction_cmd.specs.Words.{InputNames, RunNames, VerifyNames}
 use Rattle.auction_cmd.proofs.ReadingLemmas.{accepted-ascend, accepted-valued, accepted-values, said-ok, then-ok, valued-values}
 
@@ -145,12 +146,12 @@ module _ (before after : Outside) (status : ℕ) (found : Option Record) where
   gone : {X : Type 0} → IsSome found → found ≡ None → X
   gone some none = absurd (not-there found some none)
 
-  pub run-live : (files : List StoredFile) (names : RunNames) (owners : List ℕ) → RunEnds names before after status found → before.files ≡ Some files → names.inputs.owners ≡ Some owners → IsSome found → IsLive files names.inputs owners found
-  run-live files names owners (RunStopped s none) told named some = gone some none
-  run-live files names owners (RunStarved s) told named some = gone some s.found_is
-  run-live files names owners (Unfit inputs rec are of six is said same) told named some = live-record files names.inputs owners run_order inputs rec found (are files told) named of.backed is
-  run-live files names owners (StartOpen inputs rec are of seven is said same) told named some = live-record files names.inputs owners run_order inputs rec found (are files told) named of.backed is
-  run-live files names owners (Delivered inputs rec are of can held is d) told named some = live-record files names.inputs owners run_order inputs rec found (are files told) named of.backed is
+  pub run-live : (files : List StoredFile) (order : Order) (names : RunNames) (owners : List ℕ) → RunEnds order names before after status found → before.files ≡ Some files → names.inputs.owners ≡ Some owners → IsSome found → IsLive files names.inputs owners found
+  run-live files order names owners (RunStopped s none) told named some = gone some none
+  run-live files order names owners (RunStarved s) told named some = gone some s.found_is
+  run-live files order names owners (Concluded inputs rec are (Unfit of six is said same)) told named some = live-record files names.inputs owners order inputs rec found (are files told) named of.backed is
+  run-live files order names owners (Concluded inputs rec are (StartOpen of seven is said same)) told named some = live-record files names.inputs owners order inputs rec found (are files told) named of.backed is
+  run-live files order names owners (Concluded inputs rec are (Delivered of can held is d)) told named some = live-record files names.inputs owners order inputs rec found (are files told) named of.backed is
 
   pub verify-live : (files : List StoredFile) (names : VerifyNames) (owners : List ℕ) → VerifyEnds names before after status found → before.files ≡ Some files → names.inputs.owners ≡ Some owners → IsSome found → IsLive files names.inputs owners found
   verify-live files names owners (VerifyStopped s none) told named some = gone some none
@@ -171,12 +172,12 @@ module _ (before after : Outside) (status : ℕ) (found : Option Record) where
   nothing : found ≡ None → Unsaid found
   nothing none = subst Unsaid (sym none) tt
 
-  pub run-unsaid : (files : List StoredFile) (names : RunNames) → RunEnds names before after status found → before.files ≡ Some files → names.inputs.owners ≡ None → Unsaid found
-  run-unsaid files names (RunStopped s none) told unnamed = nothing none
-  run-unsaid files names (RunStarved s) told unnamed = nothing s.found_is
-  run-unsaid files names (Unfit inputs rec are of six is said same) told unnamed = unsaid-of files names.inputs run_order inputs rec (are files told) unnamed of.backed is
-  run-unsaid files names (StartOpen inputs rec are of seven is said same) told unnamed = unsaid-of files names.inputs run_order inputs rec (are files told) unnamed of.backed is
-  run-unsaid files names (Delivered inputs rec are of can held is d) told unnamed = unsaid-of files names.inputs run_order inputs rec (are files told) unnamed of.backed is
+  pub run-unsaid : (files : List StoredFile) (order : Order) (names : RunNames) → RunEnds order names before after status found → before.files ≡ Some files → names.inputs.owners ≡ None → Unsaid found
+  run-unsaid files order names (RunStopped s none) told unnamed = nothing none
+  run-unsaid files order names (RunStarved s) told unnamed = nothing s.found_is
+  run-unsaid files order names (Concluded inputs rec are (Unfit of six is said same)) told unnamed = unsaid-of files names.inputs order inputs rec (are files told) unnamed of.backed is
+  run-unsaid files order names (Concluded inputs rec are (StartOpen of seven is said same)) told unnamed = unsaid-of files names.inputs order inputs rec (are files told) unnamed of.backed is
+  run-unsaid files order names (Concluded inputs rec are (Delivered of can held is d)) told unnamed = unsaid-of files names.inputs order inputs rec (are files told) unnamed of.backed is
 
   pub verify-unsaid : (files : List StoredFile) (names : VerifyNames) → VerifyEnds names before after status found → before.files ≡ Some files → names.inputs.owners ≡ None → Unsaid found
   verify-unsaid files names (VerifyStopped s none) told unnamed = nothing none

@@ -8,10 +8,14 @@ use Rattle.std.proofs.lemmas.List.Sums.{sum_by-append, sum_by-cons}
 use Rattle.std.proofs.lemmas.Slice.Eq.{bytes_eq-Decides}
 use Rattle.auction_core.proofs.Finds.{find_cases}
 use Rattle.pack_defs.proofs.Members.{Contains-here, Contains-there, list_any-from}
-use Rattle.auction_cmd.specs.Words.{ImportNames, MakeNames, RunNames, imported_names, is_repeated_among, is_repeated_in, made_names, names_given, output_names, owners_given, repeated_import, repeated_made, repeated_output}
+use Rattle.auction_cmd.specs.Words.{ImportNames, MakeNames, ResumeNames, RunNames, imported_names, is_repeated_among, is_repeated_in, made_names, names_given, output_names, owners_given, repeated_import, repeated_made, repeated_output, repeated_resume, resumed_names}
 use Rattle.auction_cmd.specs.Ends.{output_texts, pair_of_texts}
 use Rattle.auction_cmd.specs.Made.{texts_under}
 use Rattle.auction_cmd.proofs.DeliveryLemmas.{AreApart}
+
+-- the three texts that are stored under these names have names of their own, whatever they are
+abbrev pub HaveOwnNames : RunNames → Type 0
+HaveOwnNames names = (result channels transcript : List ℕ) → AreApart (output_texts names result channels transcript)
 
 -- what a search doesn't find doesn't pass
 pub not-found : (p : List ℕ → Bool) (xs : List (List ℕ)) (x : List ℕ) → find p xs ≡ None → Contains xs x → p x ≡ true → ⊥
@@ -79,6 +83,28 @@ own-made names domain_file row_file scenario_file once =
       (
         All-cons (λ name. r ≢ name) s [] behind (All-nil (λ name. r ≢ name)),
         (All-nil (λ name. s ≢ name), tt),
+      ),
+    )
+
+-- ---- the files of `resume`
+
+pub own-resumed : (names : ResumeNames) → repeated_resume names ≡ None → HaveOwnNames names.run_files
+unfolding repeated_resume
+own-resumed names once result channels transcript =
+    let given = resumed_names names in
+    let twice : List ℕ → Bool = is_repeated_among given in
+    let files = names.run_files in
+    let a = files.result in
+    let b = files.channels in
+    let c = files.transcript in
+    let read = files.inputs.domains ∷ files.inputs.rows ∷ files.inputs.scenario ∷ names.prefix ∷ [] in
+    let first : a ≢ b = λ same. not-found twice (output_names files) a once (Contains-here a (b ∷ c ∷ [])) (twice-among given [] [] (c ∷ read) a b refl same) in
+    let last : a ≢ c = λ same. not-found twice (output_names files) a once (Contains-here a (b ∷ c ∷ [])) (twice-among given [] (b ∷ []) read a c refl same) in
+    let behind : b ≢ c = λ same. not-found twice (output_names files) b once (Contains-there a b (b ∷ c ∷ []) (Contains-here b (c ∷ []))) (twice-among given (a ∷ []) [] read b c refl same) in (
+      All-cons (λ name. a ≢ name) b (c ∷ []) first (All-cons (λ name. a ≢ name) c [] last (All-nil (λ name. a ≢ name))),
+      (
+        All-cons (λ name. b ≢ name) c [] behind (All-nil (λ name. b ≢ name)),
+        (All-nil (λ name. c ≢ name), tt),
       ),
     )
 

@@ -1,7 +1,7 @@
 -- What the words ask for, from the command that they are.
 use Rattle.std.proofs.Common.{◌≡◌, ◌∙◌, ℕ, List, Option, Some, None, sym, ap}
-use Rattle.auction_cmd.specs.Plan.{no_command, repeats, runs, checks, verifies, seeks, batches, makes, exports, imports, command_plan, export_plan, import_plan, make_plan, run_plan, seek_plan}
-use Rattle.auction_cmd.specs.Words.{Command, run, check, verify, seek, batch, make, export, import, BatchNames, ExportNames, ImportNames, InputNames, MakeNames, RunNames, SeekNames, VerifyNames, repeated_export, repeated_import, repeated_made, repeated_output, repeated_seek}
+use Rattle.auction_cmd.specs.Plan.{no_command, repeats, runs, checks, verifies, resumes, seeks, batches, makes, exports, imports, command_plan, export_plan, import_plan, make_plan, resume_plan, run_plan, seek_plan}
+use Rattle.auction_cmd.specs.Words.{Command, run, check, verify, resume, seek, batch, make, export, import, BatchNames, ExportNames, ImportNames, InputNames, MakeNames, ResumeNames, RunNames, SeekNames, VerifyNames, repeated_export, repeated_import, repeated_made, repeated_output, repeated_resume, repeated_seek}
 
 pub plan-none : (command : Option Command) → command ≡ None → command_plan command ≡ no_command
 plan-none command is = ap command_plan is
@@ -17,6 +17,12 @@ plan-runs command names is once = ap command_plan is ∙ ap (run_plan names) (sy
 
 pub plan-verifies : (command : Option Command) (names : VerifyNames) → command ≡ Some (verify names) → command_plan command ≡ verifies names
 plan-verifies command names is = ap command_plan is
+
+pub plan-resumed_twice : (command : Option Command) (names : ResumeNames) (name : List ℕ) → command ≡ Some (resume names) → Some name ≡ repeated_resume names → command_plan command ≡ repeats name
+plan-resumed_twice command names name is twice = ap command_plan is ∙ ap (resume_plan names) (sym twice)
+
+pub plan-resumes : (command : Option Command) (names : ResumeNames) → command ≡ Some (resume names) → None ≡ repeated_resume names → command_plan command ≡ resumes names
+plan-resumes command names is once = ap command_plan is ∙ ap (resume_plan names) (sym once)
 
 pub plan-sought_twice : (command : Option Command) (names : SeekNames) (name : List ℕ) → command ≡ Some (seek names) → Some name ≡ repeated_seek names → command_plan command ≡ repeats name
 plan-sought_twice command names name is twice = ap command_plan is ∙ ap (seek_plan names) (sym twice)

@@ -1,5 +1,5 @@
 -- What may be relied on of the program follows from how it ends, whatever the words ask for.
-use Rattle.std.proofs.Common.{◌≡◌, ◌∙◌, ℕ, Bool, true, false, List, [], refl, sym, ap, subst, Option, None}
+use Rattle.std.proofs.Common.{◌≡◌, ◌∙◌, ℕ, Bool, true, false, inl, inr, List, [], refl, sym, ap, subst, Option, None}
 use Rattle.std.specs.Prelude.{IsFalse, IsTrue}
 use Rattle.std.proofs.lemmas.Bool.{false≢true, true≢false}
 use Rattle.auction_core.specs.declared.record.Record.{Record}
@@ -8,15 +8,24 @@ use Rattle.auction_cmd.specs.BatchEnds.BatchEnds.{BatchStarved}
 use Rattle.auction_cmd.specs.Ends.{Ends, IsStarved}
 use Rattle.auction_cmd.specs.Ends.Ends.{Starved, Usage, Repeated, Ran, Checked, Verified, Sought, Made, Exported, Imported}
 use Rattle.auction_cmd.specs.Outside.{Outside}
-use Rattle.auction_cmd.specs.Plan.{Plan, batches}
-use Rattle.auction_cmd.specs.Program.{ProgramEnds, ProgramPromises, is_batch}
-use Rattle.auction_cmd.specs.Program.ProgramEnds.{Single, Batched}
-use Rattle.auction_cmd.specs.Words.{BatchNames}
+use Rattle.auction_cmd.specs.Plan.{Plan, batches, resumes}
+use Rattle.auction_cmd.specs.Program.{ProgramEnds, ProgramPromises, is_batch, is_resumption}
+use Rattle.auction_cmd.specs.Program.ProgramEnds.{Single, Resumed, Batched}
+use Rattle.auction_cmd.specs.ResumeEnds.{ResumeEnds}
+use Rattle.auction_cmd.specs.ResumePromises.{ResumePromises}
+use Rattle.auction_cmd.specs.ResumeEnds.ResumeEnds.{ResumeStarved}
+use Rattle.auction_cmd.specs.Words.{BatchNames, ResumeNames, repeated_resume}
 use Rattle.auction_cmd.proofs.BatchLemmas.{batch-promises}
+use Rattle.auction_cmd.proofs.OutputNames.{own-resumed}
 use Rattle.auction_cmd.proofs.PromiseLemmas.{promises-of}
+use Rattle.auction_cmd.proofs.ResumeLemmas.{resume-promises}
+use Rattle.auction_cmd.proofs.RunLemmas.{IsOnce}
 
 same-batches : (a b : BatchNames) → batches a ≡ batches b → a ≡ b
 same-batches a b e = cc
+
+same-resumes : (a b : ResumeNames) → resumes a ≡ resumes b → a ≡ b
+same-resumes a b e = cc
 
 module _ (plan : Plan) (before after : Outside) (status : ℕ) (found below : Option Record) where
   -- where no batch was carried out, memory ran out before the command was known
@@ -45,16 +54,63 @@ module _ (plan : Plan) (before after : Outside) (status : ℕ) (found below : Op
   no-found is (Exported own is_own single end alone) = absurd (false≢true (sym (ap is_batch is_own) ∙ is))
   no-found is (Imported own is_own valued single end alone) = absurd (false≢true (sym (ap is_batch is_own) ∙ is))
 
+  -- where no auction went on either, memory ran out before the command was known
+  starved-resume : (names : ResumeNames) → Ends plan before after status found below → plan ≡ resumes names → ResumeEnds names before after status found × IsOnce names.run_files found
+  starved-resume names (Starved s still alone) is = (ResumeStarved s, inl s.found_is)
+  starved-resume names (Usage text is_none two absent said files still alone) is = cc
+  starved-resume names (Repeated name is_name five absent said files still alone) is = cc
+  starved-resume names (Ran own is_own once end alone) is = cc
+  starved-resume names (Checked own is_own end alone) is = cc
+  starved-resume names (Verified own is_own end alone) is = cc
+  starved-resume names (Sought own is_own single end) is = cc
+  starved-resume names (Made own is_own single end alone) is = cc
+  starved-resume names (Exported own is_own single end alone) is = cc
+  starved-resume names (Imported own is_own valued single end alone) is = cc
+
+  -- `seek` alone has a second record
+  alone-of : IsTrue (is_resumption plan) → Ends plan before after status found below → below ≡ None
+  alone-of is (Starved s still alone) = alone
+  alone-of is (Usage text is_none two absent said files still alone) = alone
+  alone-of is (Repeated name is_name five absent said files still alone) = alone
+  alone-of is (Ran own is_own once end alone) = alone
+  alone-of is (Checked own is_own end alone) = alone
+  alone-of is (Verified own is_own end alone) = alone
+  alone-of is (Sought own is_own single end) = absurd (false≢true (sym (ap is_resumption is_own) ∙ is))
+  alone-of is (Made own is_own single end alone) = alone
+  alone-of is (Exported own is_own single end alone) = alone
+  alone-of is (Imported own is_own valued single end alone) = alone
+
+  -- a plan is one thing
+  resumes-other : {X : Type 0} (names : ResumeNames) (other : BatchNames) → plan ≡ resumes names → plan ≡ batches other → X
+  resumes-other names other is_own is = cc
+
+  of-resume : (names : ResumeNames) → ResumeEnds names before after status found × IsOnce names.run_files found → ResumePromises names before after status found
+  of-resume names both = resume-promises names before after status found both.0 both.1
+
   pub program-promises : (batch : List Record) → ProgramEnds plan before after status found below batch → ProgramPromises plan before after status found below batch
   program-promises batch (Single end none) = record {
-    single = λ other. promises-of plan before after status found below end;
+    single = λ other apart. promises-of plan before after status found below end;
     no_batch = λ other. none;
+    resume_promises = λ names is. of-resume names (starved-resume names end is);
+    no_below = λ is. alone-of is end;
     batch_promises = λ names is. batch-promises names before after status batch (starved-batch names batch end none is);
     no_others = λ is. no-found is end;
   }
+  program-promises batch (Resumed own is_own once end alone none) = record {
+    single = λ other apart. absurd (true≢false (sym (ap is_resumption is_own) ∙ apart));
+    no_batch = λ other. none;
+    resume_promises = λ names is.
+        let same : own ≡ names = same-resumes own names (sym is_own ∙ is) in
+        of-resume names (subst (λ z. ResumeEnds z before after status found) same end, inr (own-resumed names (subst (λ z. repeated_resume z ≡ None) same once)));
+    no_below = λ is. alone;
+    batch_promises = λ names is. resumes-other own names is_own is;
+    no_others = λ is. absurd (false≢true (sym (ap is_batch is_own) ∙ is));
+  }
   program-promises batch (Batched own is_own end none alone) = record {
-    single = λ other. absurd (true≢false (sym (ap is_batch is_own) ∙ other));
+    single = λ other apart. absurd (true≢false (sym (ap is_batch is_own) ∙ other));
     no_batch = λ other. absurd (true≢false (sym (ap is_batch is_own) ∙ other));
+    resume_promises = λ names is. resumes-other names own is is_own;
+    no_below = λ is. alone;
     batch_promises = λ names is. batch-promises names before after status batch (subst (λ z. BatchEnds z before after status batch) (same-batches own names (sym is_own ∙ is)) end);
     no_others = λ is. (none, alone);
   }

@@ -6,6 +6,7 @@ use Rattle.pack_defs.specs.Lists.{is_in}
 use Rattle.outside_io.specs.Faults.{HasRisen}
 use Rattle.outside_io.specs.Files.{StoredFile}
 use Rattle.auction_core.specs.declared.record.Record.{Record}
+use Rattle.auction_cmd.specs.CheckPromises.{CheckPromises, ToldCheck}
 use Rattle.auction_cmd.specs.Ends.{CheckEnds, Ends, ExportEnds, ImportEnds, MakeEnds, RunEnds, SeekEnds, VerifyEnds}
 use Rattle.auction_cmd.specs.Ends.CheckEnds.{CheckStarved}
 use Rattle.auction_cmd.specs.Ends.Ends.{Starved, Usage, Repeated, Ran, Checked, Verified, Sought, Made, Exported, Imported}
@@ -17,21 +18,24 @@ use Rattle.auction_cmd.specs.Ends.VerifyEnds.{VerifyStarved}
 use Rattle.auction_cmd.specs.ImportPromises.{ImportPromises}
 use Rattle.auction_cmd.specs.MakePromises.{MakePromises}
 use Rattle.auction_cmd.specs.Outside.{Outside, IsSaid}
-use Rattle.auction_cmd.specs.Plan.{Plan, no_command, repeats, runs, checks, verifies, seeks, batches, makes, exports, imports}
+use Rattle.auction_cmd.specs.Plan.{Plan, no_command, repeats, runs, checks, verifies, resumes, seeks, batches, makes, exports, imports}
 use Rattle.auction_cmd.specs.Promises.{IsSomeRecord, Promises, asks_nothing, asks_step, carries_out, inputs_read, records_first, seeks_top, verifies_first}
+use Rattle.auction_cmd.specs.Records.{run_order}
 use Rattle.auction_cmd.specs.Says.{memory_line, twice_line}
 use Rattle.auction_cmd.specs.VerifyPromises.{VerifyPromises}
 use Rattle.auction_cmd.specs.Words.{ExportNames, ImportNames, InputNames, MakeNames, RunNames, SeekNames, VerifyNames, repeated_import, repeated_made, repeated_output, seek_inputs}
 use Rattle.auction_cmd.proofs.CheckLemmas.{check-complete, check-counted, check-cut, check-files, check-memory, check-none, check-reading, check-statuses, check-surely, check-unread, check-unwritten}
 use Rattle.auction_cmd.proofs.ExportLemmas.{export-memory, export-none, export-promises, export-statuses, export-unread, export-unwritten}
-use Rattle.auction_cmd.proofs.LiveLemmas.{run-live, run-unsaid, verify-live, verify-unsaid}
+use Rattle.auction_cmd.proofs.LiveLemmas.{run-unsaid, verify-live, verify-unsaid}
 use Rattle.auction_cmd.proofs.ImportLemmas.{IsOnce as IsOnceImported, import-backed, import-kept, import-memory, import-promises, import-statuses, import-unread, import-unrecorded, import-unwritten}
 use Rattle.auction_cmd.proofs.Halts.{Reading, missing-one, read-there, refused-cause, stops-at, unread-line}
 use Rattle.auction_cmd.proofs.MakeEndLemmas.{Reached, reached}
 use Rattle.auction_cmd.proofs.MakeEndLemmas.Reached.{Nothing}
 use Rattle.auction_cmd.proofs.MakeLemmas.{make-backed, make-memory, make-promises}
-use Rattle.auction_cmd.proofs.RunLemmas.{absent, run-backed, run-decided, run-done, run-ended, run-others, run-part, run-recorded, run-statuses, run-stored, run-summed, run-surely, run-unrecorded, run-untouched, run-unwritten, IsOnce}
-use Rattle.auction_cmd.proofs.StartLemmas.{run-complete, run-memory, run-nobody, run-open, run-opened, run-reading, run-refuted, run-unfit, run-unfits, run-unread}
+use Rattle.auction_cmd.proofs.OutputNames.{own-names}
+use Rattle.auction_cmd.proofs.RunLemmas.{absent, run-backed, run-ended, run-statuses, run-unrecorded, run-untouched, run-unwritten, IsOnce}
+use Rattle.auction_cmd.proofs.RunPromiseLemmas.{run-promises}
+use Rattle.auction_cmd.proofs.StartLemmas.{run-memory, run-reading, run-unread}
 use Rattle.auction_cmd.proofs.SeekLemmas.{seek-backed, seek-ended, seek-memory, seek-promises, seek-reading, seek-statuses, seek-unread, seek-unrecorded, seek-untouched, seek-unwritten}
 use Rattle.auction_cmd.proofs.Statuses.{apart-lists, not-in, off, one-of, within}
 use Rattle.auction_cmd.proofs.VerifyCases.{verify-backed, verify-memory, verify-none}
@@ -68,11 +72,11 @@ same-name a b e = cc
 module _ (plan : Plan) (before after : Outside) (status : ℕ) (found below : Option Record) where
   -- ---- the command that a plan is
 
-  ran : (names : RunNames) → Ends plan before after status found below → plan ≡ runs names → RunEnds names before after status found
+  ran : (names : RunNames) → Ends plan before after status found below → plan ≡ runs names → RunEnds run_order names before after status found
   ran names (Starved s still alone) is = RunStarved s
   ran names (Usage text is_none two none said files still alone) is = cc
   ran names (Repeated name is_name five none said files still alone) is = cc
-  ran names (Ran own is_own once end alone) is = subst (λ z. RunEnds z before after status found) (same-runs own names (sym is_own ∙ is)) end
+  ran names (Ran own is_own once end alone) is = subst (λ z. RunEnds run_order z before after status found) (same-runs own names (sym is_own ∙ is)) end
   ran names (Checked own is_own end alone) is = cc
   ran names (Verified own is_own end alone) is = cc
   ran names (Sought own is_own single end) is = cc
@@ -84,7 +88,7 @@ module _ (plan : Plan) (before after : Outside) (status : ℕ) (found below : Op
   once names (Starved s still alone) is = inl s.found_is
   once names (Usage text is_none two none said files still alone) is = inl none
   once names (Repeated name is_name five none said files still alone) is = inl none
-  once names (Ran own is_own apart end alone) is = inr (subst (λ z. repeated_output z ≡ None) (same-runs own names (sym is_own ∙ is)) apart)
+  once names (Ran own is_own apart end alone) is = inr (λ result channels transcript. own-names names result channels transcript (subst (λ z. repeated_output z ≡ None) (same-runs own names (sym is_own ∙ is)) apart))
   once names (Checked own is_own end alone) is = cc
   once names (Verified own is_own end alone) is = cc
   once names (Sought own is_own single end) is = cc
@@ -219,7 +223,7 @@ module _ (plan : Plan) (before after : Outside) (status : ℕ) (found below : Op
   all-statuses (Starved s still alone) = one-of all status 8 s.status_is refl
   all-statuses (Usage text is two none said files still alone) = one-of all status 2 two refl
   all-statuses (Repeated name is five none said files still alone) = one-of all status 5 five refl
-  all-statuses (Ran names is apart end alone) = within (0 ∷ 1 ∷ 3 ∷ 4 ∷ 5 ∷ 6 ∷ 7 ∷ 8 ∷ []) all status refl (run-statuses names before after status found end)
+  all-statuses (Ran names is apart end alone) = within (0 ∷ 1 ∷ 3 ∷ 4 ∷ 5 ∷ 6 ∷ 7 ∷ 8 ∷ []) all status refl (run-statuses run_order names before after status found end)
   all-statuses (Checked names is end alone) = within (0 ∷ 3 ∷ 4 ∷ 5 ∷ 8 ∷ []) all status refl (check-statuses names before after status found end)
   all-statuses (Verified names is end alone) = let v = of-verify names end in within (0 ∷ 1 ∷ 3 ∷ 4 ∷ 5 ∷ 8 ∷ 9 ∷ []) all status refl v.statuses
   all-statuses (Sought names is single end) = within (0 ∷ 1 ∷ 3 ∷ 4 ∷ 5 ∷ 6 ∷ 7 ∷ 8 ∷ []) all status refl (seek-statuses names before after status found below end)
@@ -244,7 +248,7 @@ module _ (plan : Plan) (before after : Outside) (status : ℕ) (found below : Op
   only-no_plan (Starved s still alone) two = let eight = s.status_is in absurd (omega arith)
   only-no_plan (Usage text is is_two none said files still alone) two = is
   only-no_plan (Repeated name is five none said files still alone) two = absurd (omega arith)
-  only-no_plan (Ran names is apart end alone) two = absurd (off (0 ∷ 1 ∷ 3 ∷ 4 ∷ 5 ∷ 6 ∷ 7 ∷ 8 ∷ []) status 2 (run-statuses names before after status found end) two refl)
+  only-no_plan (Ran names is apart end alone) two = absurd (off (0 ∷ 1 ∷ 3 ∷ 4 ∷ 5 ∷ 6 ∷ 7 ∷ 8 ∷ []) status 2 (run-statuses run_order names before after status found end) two refl)
   only-no_plan (Checked names is end alone) two = absurd (off (0 ∷ 3 ∷ 4 ∷ 5 ∷ 8 ∷ []) status 2 (check-statuses names before after status found end) two refl)
   only-no_plan (Verified names is end alone) two = let v = of-verify names end in absurd (off (0 ∷ 1 ∷ 3 ∷ 4 ∷ 5 ∷ 8 ∷ 9 ∷ []) status 2 v.statuses two refl)
   only-no_plan (Sought names is single end) two = absurd (off (0 ∷ 1 ∷ 3 ∷ 4 ∷ 5 ∷ 6 ∷ 7 ∷ 8 ∷ []) status 2 (seek-statuses names before after status found below end) two refl)
@@ -256,7 +260,7 @@ module _ (plan : Plan) (before after : Outside) (status : ℕ) (found below : Op
   only-verifies (Starved s still alone) nine = let eight = s.status_is in absurd (omega arith)
   only-verifies (Usage text is two none said files still alone) nine = absurd (omega arith)
   only-verifies (Repeated name is five none said files still alone) nine = absurd (omega arith)
-  only-verifies (Ran names is apart end alone) nine = absurd (off (0 ∷ 1 ∷ 3 ∷ 4 ∷ 5 ∷ 6 ∷ 7 ∷ 8 ∷ []) status 9 (run-statuses names before after status found end) nine refl)
+  only-verifies (Ran names is apart end alone) nine = absurd (off (0 ∷ 1 ∷ 3 ∷ 4 ∷ 5 ∷ 6 ∷ 7 ∷ 8 ∷ []) status 9 (run-statuses run_order names before after status found end) nine refl)
   only-verifies (Checked names is end alone) nine = absurd (off (0 ∷ 3 ∷ 4 ∷ 5 ∷ 8 ∷ []) status 9 (check-statuses names before after status found end) nine refl)
   only-verifies (Verified names is end alone) nine = ap verifies_first is
   only-verifies (Sought names is single end) nine = absurd (off (0 ∷ 1 ∷ 3 ∷ 4 ∷ 5 ∷ 6 ∷ 7 ∷ 8 ∷ []) status 9 (seek-statuses names before after status found below end) nine refl)
@@ -268,7 +272,7 @@ module _ (plan : Plan) (before after : Outside) (status : ℕ) (found below : Op
   only-steps (Starved s still alone) ten = let eight = s.status_is in absurd (omega arith)
   only-steps (Usage text is two none said files still alone) ten = absurd (omega arith)
   only-steps (Repeated name is five none said files still alone) ten = absurd (omega arith)
-  only-steps (Ran names is apart end alone) ten = absurd (off (0 ∷ 1 ∷ 3 ∷ 4 ∷ 5 ∷ 6 ∷ 7 ∷ 8 ∷ []) status 10 (run-statuses names before after status found end) ten refl)
+  only-steps (Ran names is apart end alone) ten = absurd (off (0 ∷ 1 ∷ 3 ∷ 4 ∷ 5 ∷ 6 ∷ 7 ∷ 8 ∷ []) status 10 (run-statuses run_order names before after status found end) ten refl)
   only-steps (Checked names is end alone) ten = absurd (off (0 ∷ 3 ∷ 4 ∷ 5 ∷ 8 ∷ []) status 10 (check-statuses names before after status found end) ten refl)
   only-steps (Verified names is end alone) ten = let v = of-verify names end in absurd (off (0 ∷ 1 ∷ 3 ∷ 4 ∷ 5 ∷ 8 ∷ 9 ∷ []) status 10 v.statuses ten refl)
   only-steps (Sought names is single end) ten = absurd (off (0 ∷ 1 ∷ 3 ∷ 4 ∷ 5 ∷ 6 ∷ 7 ∷ 8 ∷ []) status 10 (seek-statuses names before after status found below end) ten refl)
@@ -294,7 +298,7 @@ module _ (plan : Plan) (before after : Outside) (status : ℕ) (found below : Op
   all-unrecorded (Starved s still alone) h = s.found_is
   all-unrecorded (Usage text is two none said files still alone) h = none
   all-unrecorded (Repeated name is five none said files still alone) h = none
-  all-unrecorded (Ran names is apart end alone) h = run-unrecorded names before after status found end h
+  all-unrecorded (Ran names is apart end alone) h = run-unrecorded run_order names before after status found end h
   all-unrecorded (Checked names is end alone) h = check-none names before after status found end
   all-unrecorded (Verified names is end alone) h = verify-none names before after status found end h
   all-unrecorded (Sought names is single end) h = seek-unrecorded names before after status found below end h
@@ -306,7 +310,7 @@ module _ (plan : Plan) (before after : Outside) (status : ℕ) (found below : Op
   all-backed (Starved s still alone) = absent found s.found_is
   all-backed (Usage text is two none said files still alone) = absent found none
   all-backed (Repeated name is five none said files still alone) = absent found none
-  all-backed (Ran names is apart end alone) = run-backed names before after status found end
+  all-backed (Ran names is apart end alone) = run-backed run_order names before after status found end
   all-backed (Checked names is end alone) = absent found (check-none names before after status found end)
   all-backed (Verified names is end alone) = verify-backed names before after status found end
   all-backed (Sought names is single end) = seek-backed names before after status found below end
@@ -318,7 +322,7 @@ module _ (plan : Plan) (before after : Outside) (status : ℕ) (found below : Op
   all-unread (Starved s still alone) three = let eight = s.status_is in absurd (omega arith)
   all-unread (Usage text is two none said files still alone) three = absurd (omega arith)
   all-unread (Repeated name is five none said files still alone) three = absurd (omega arith)
-  all-unread (Ran names is apart end alone) three = run-unread names before after status found end three
+  all-unread (Ran names is apart end alone) three = run-unread run_order names before after status found end three
   all-unread (Checked names is end alone) three = check-unread names before after status found end three
   all-unread (Verified names is end alone) three = let v = of-verify names end in v.unread three
   all-unread (Sought names is single end) three = seek-unread names before after status found below end three
@@ -330,7 +334,7 @@ module _ (plan : Plan) (before after : Outside) (status : ℕ) (found below : Op
   all-unwritten (Starved s still alone) four = let eight = s.status_is in absurd (omega arith)
   all-unwritten (Usage text is two none said files still alone) four = absurd (omega arith)
   all-unwritten (Repeated name is five none said files still alone) four = absurd (omega arith)
-  all-unwritten (Ran names is apart end alone) four = run-unwritten names before after status found end four
+  all-unwritten (Ran names is apart end alone) four = run-unwritten run_order names before after status found end four
   all-unwritten (Checked names is end alone) four = check-unwritten names before after status found end four
   all-unwritten (Verified names is end alone) four = let v = of-verify names end in inr (v.unwritten four)
   all-unwritten (Sought names is single end) four = seek-unwritten names before after status found below end four
@@ -342,7 +346,7 @@ module _ (plan : Plan) (before after : Outside) (status : ℕ) (found below : Op
   all-untouched (Starved s still alone) first none = s.files
   all-untouched (Usage text is two absent said files still alone) first none = files
   all-untouched (Repeated name is five absent said files still alone) first none = files
-  all-untouched (Ran names is apart end alone) first none = run-untouched names before after status found end none
+  all-untouched (Ran names is apart end alone) first none = run-untouched run_order names before after status found end none
   all-untouched (Checked names is end alone) first none = check-files names before after status found end
   all-untouched (Verified names is end alone) first none = let v = of-verify names end in v.untouched
   all-untouched (Sought names is single end) first none = seek-untouched names before after status found below end none
@@ -354,7 +358,7 @@ module _ (plan : Plan) (before after : Outside) (status : ℕ) (found below : Op
   all-ended (Starved s still alone) h = s.files
   all-ended (Usage text is two absent said files still alone) h = files
   all-ended (Repeated name is five absent said files still alone) h = files
-  all-ended (Ran names is apart end alone) h = run-ended names before after status found end h
+  all-ended (Ran names is apart end alone) h = run-ended run_order names before after status found end h
   all-ended (Checked names is end alone) h = check-files names before after status found end
   all-ended (Verified names is end alone) h = let v = of-verify names end in v.untouched
   all-ended (Sought names is single end) h = seek-ended names before after status found below end h
@@ -366,7 +370,7 @@ module _ (plan : Plan) (before after : Outside) (status : ℕ) (found below : Op
   all-memory (Starved s still alone) eight = s.line
   all-memory (Usage text is two none said files still alone) eight = absurd (omega arith)
   all-memory (Repeated name is five none said files still alone) eight = absurd (omega arith)
-  all-memory (Ran names is apart end alone) eight = run-memory names before after status found end eight
+  all-memory (Ran names is apart end alone) eight = run-memory run_order names before after status found end eight
   all-memory (Checked names is end alone) eight = check-memory names before after status found end eight
   all-memory (Verified names is end alone) eight = verify-memory names before after status found end eight
   all-memory (Sought names is single end) eight = seek-memory names before after status found below end eight
@@ -406,11 +410,12 @@ read-by no_command names before after status found below end is = cc
 read-by (repeats name) names before after status found below end is = cc
 read-by (runs own) names before after status found below end is =
     let same : own.inputs ≡ names = cc in
-    subst (λ z. Reading z before after status) same (run-reading own before after status found (ran (runs own) before after status found below own end refl))
+    subst (λ z. Reading z before after status) same (run-reading run_order own before after status found (ran (runs own) before after status found below own end refl))
 read-by (checks own) names before after status found below end is =
     let same : own ≡ names = cc in
     subst (λ z. Reading z before after status) same (check-reading own before after status found (checked (checks own) before after status found below own end refl))
 read-by (verifies own) names before after status found below end is = cc
+read-by (resumes own) names before after status found below end is = cc
 read-by (seeks own) names before after status found below end is =
     let same : seek_inputs own ≡ names = cc in
     subst (λ z. Reading z before after status) same (seek-reading own before after status found below (sought (seeks own) before after status found below own end refl))
@@ -426,16 +431,33 @@ unsaid-by no_command names before after status found below files end told is non
 unsaid-by (repeats name) names before after status found below files end told is none = cc
 unsaid-by (runs own) names before after status found below files end told is none =
     let same : own.inputs ≡ names = cc in
-    run-unsaid before after status found files own (ran (runs own) before after status found below own end refl) told (ap (λ (n : InputNames). n.owners) same ∙ none)
+    run-unsaid before after status found files run_order own (ran (runs own) before after status found below own end refl) told (ap (λ (n : InputNames). n.owners) same ∙ none)
 unsaid-by (checks own) names before after status found below files end told is none = cc
 unsaid-by (verifies own) names before after status found below files end told is none =
     let same : own.inputs ≡ names = cc in
     verify-unsaid before after status found files own (verified (verifies own) before after status found below own end refl) told (ap (λ (n : InputNames). n.owners) same ∙ none)
+unsaid-by (resumes own) names before after status found below files end told is none = cc
 unsaid-by (seeks own) names before after status found below files end told is none = cc
 unsaid-by (batches own) names before after status found below files end told is none = cc
 unsaid-by (makes own) names before after status found below files end told is none = cc
 unsaid-by (exports own) names before after status found below files end told is none = cc
 unsaid-by (imports own) names before after status found below files end told is none = cc
+
+-- what may be relied on of `check`
+told-check : (files : List StoredFile) (names : InputNames) (before after : Outside) (status : ℕ) (found : Option Record) → CheckEnds names before after status found → before.files ≡ Some files → ToldCheck files names before after status
+told-check files names before after status found end told = record {
+  counted = λ zero. check-counted names before after status found files end told zero;
+  cut = λ four. check-cut names before after status found files end told four;
+  surely_counted = λ room. check-surely names before after status found files end told room;
+  counts = λ inputs held. check-complete names before after status found files inputs end told held;
+}
+
+check-promises : (names : InputNames) (before after : Outside) (status : ℕ) (found : Option Record) → CheckEnds names before after status found → CheckPromises names before after status found
+check-promises names before after status found end = record {
+  told = λ files told. told-check files names before after status found end told;
+  no_record = check-none names before after status found end;
+  never = not-in (0 ∷ 3 ∷ 4 ∷ 5 ∷ 8 ∷ []) (1 ∷ 6 ∷ 7 ∷ 9 ∷ 10 ∷ []) status refl (check-statuses names before after status found end);
+}
 
 -- what may be relied on
 pub promises-of : (plan : Plan) (before after : Outside) (status : ℕ) (found below : Option Record) → Ends plan before after status found below → Promises plan before after status found below
@@ -444,39 +466,20 @@ promises-of plan before after status found below end = record {
   usage = no-plan plan before after status found below end;
   usage_only = only-no_plan plan before after status found below end;
   twice = λ name. named-twice plan before after status found below name end;
-  done = λ files names told is h. run-done names before after status found files (ran plan before after status found below names end is) (once plan before after status found below names end is) told h;
-  decided = λ files names told is zero. run-decided names before after status found files (ran plan before after status found below names end is) (once plan before after status found below names end is) told zero;
-  counted = λ files names told is zero. check-counted names before after status found files (checked plan before after status found below names end is) told zero;
   backed = all-backed plan before after status found below end;
-  recorded = λ names is h. run-recorded names before after status found (ran plan before after status found below names end is) h;
-  refuted_recorded = λ names is six. run-refuted names before after status found (ran plan before after status found below names end is) six;
-  open_recorded = λ names is seven. run-opened names before after status found (ran plan before after status found below names end is) seven;
-  summed = λ names is h. run-summed names before after status found (ran plan before after status found below names end is) h;
   unread_says = λ names is three. unread-line names before after status (read-by plan names before after status found below end is) three;
   unrecorded = all-unrecorded plan before after status found below end;
-  no_record = λ names is. check-none names before after status found (checked plan before after status found below names end is);
   refused = λ files names told is five. refused-cause names before after status files (read-by plan names before after status found below end is) told five;
   refuses = λ files names why told is held. stops-at names before after status files why (read-by plan names before after status found below end is) told held;
   asked_nothing = no-folder plan before after status found below end;
   unread = all-unread plan before after status found below end;
   surely_read = λ files names told is steady there. read-there names before after status files (read-by plan names before after status found below end is) told steady there;
   missing = λ files names input told is steady absent. missing-one names before after status files input (read-by plan names before after status found below end is) told steady absent;
-  unfit = λ files names told is six. run-unfit names before after status found files (ran plan before after status found below names end is) told six;
-  unfits = λ files names inputs told is held unfit. run-unfits names before after status found files inputs (ran plan before after status found below names end is) told held unfit;
-  left_open = λ files names told is seven. run-open names before after status found files (ran plan before after status found below names end is) told seven;
-  nobody = λ files names inputs told is held none. run-nobody names before after status found files inputs (ran plan before after status found below names end is) told held none;
-  run_only = λ names is. not-in (0 ∷ 3 ∷ 4 ∷ 5 ∷ 8 ∷ []) (1 ∷ 6 ∷ 7 ∷ 9 ∷ 10 ∷ []) status refl (check-statuses names before after status found (checked plan before after status found below names end is));
   unwritten = all-unwritten plan before after status found below end;
-  stored = λ files names told is four. run-stored names before after status found files (ran plan before after status found below names end is) (once plan before after status found below names end is) told four;
-  part_stored = λ files names told is eight some. run-part names before after status found files (ran plan before after status found below names end is) (once plan before after status found below names end is) told eight some;
-  cut = λ files names told is four. check-cut names before after status found files (checked plan before after status found below names end is) told four;
-  surely_written = λ files names told is steady room. run-surely names before after status found files (ran plan before after status found below names end is) told steady room;
-  surely_counted = λ files names told is room. check-surely names before after status found files (checked plan before after status found below names end is) told room;
-  others = λ files names told is. run-others names before after status found files (ran plan before after status found below names end is) (once plan before after status found below names end is) told;
   untouched = all-untouched plan before after status found below end;
   unfit_untouched = all-ended plan before after status found below end;
-  complete = λ files names inputs told is held fit. run-complete names before after status found files inputs (ran plan before after status found below names end is) told held fit;
-  counts = λ files names inputs told is held. check-complete names before after status found files inputs (checked plan before after status found below names end is) told held;
+  run = λ names is. run-promises run_order names before after status found (ran plan before after status found below names end is) (once plan before after status found below names end is);
+  check = λ names is. check-promises names before after status found (checked plan before after status found below names end is);
   verify = λ names is. verify-promises names before after status found (verified plan before after status found below names end is);
   seek = λ names is. seek-promises names before after status found below (sought plan before after status found below names end is);
   no_other = no-other plan before after status found below end;
@@ -484,7 +487,6 @@ promises-of plan before after status found below end = record {
   export = λ names is. export-promises names before after status found (exported plan before after status found below names end is);
   import = λ names is. imported plan before after status found below names end is;
   unsaid = λ files names told is none. unsaid-by plan names before after status found below files end told is none;
-  live = λ files names owners told is named some. run-live before after status found files names owners (ran plan before after status found below names end is) told named some;
   verified_live = λ files names owners told is named some. verify-live before after status found files names owners (verified plan before after status found below names end is) told named some;
   verify_only = only-verifies plan before after status found below end;
   proofs_only = only-steps plan before after status found below end;

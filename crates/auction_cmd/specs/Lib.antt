@@ -2,6 +2,7 @@ pub mod Batch
 pub mod BatchEnds
 pub mod BatchPromises
 pub mod BatchRuns
+pub mod CheckPromises
 pub mod Counts
 pub mod Delivery
 pub mod Ends
@@ -19,6 +20,10 @@ pub mod Program
 pub mod Promises
 pub mod Records
 pub mod Refusals
+pub mod ResumeEnds
+pub mod ResumePromises
+pub mod Resumption
+pub mod RunPromises
 pub mod Says
 pub mod Seek
 pub mod SeekPromises

@@ -1,6 +1,6 @@
 -- What the words of the command line have the program do.
 use Rattle.std.specs.Prelude.{ℕ, List, Option, Some, None}
-use Rattle.auction_cmd.specs.Words.{Command, run, check, verify, seek, batch, make, export, import, BatchNames, InputNames, RunNames, VerifyNames, SeekNames, MakeNames, ExportNames, ImportNames, command_of, repeated_export, repeated_import, repeated_made, repeated_output, repeated_seek}
+use Rattle.auction_cmd.specs.Words.{Command, run, check, verify, resume, seek, batch, make, export, import, BatchNames, InputNames, RunNames, VerifyNames, ResumeNames, SeekNames, MakeNames, ExportNames, ImportNames, command_of, repeated_export, repeated_import, repeated_made, repeated_output, repeated_resume, repeated_seek}
 
 -- nothing, where they are no command; to refuse an output name that is given twice; or a command
 pub data Plan : Type 0 where
@@ -9,6 +9,7 @@ pub data Plan : Type 0 where
   runs : RunNames → Plan
   checks : InputNames → Plan
   verifies : VerifyNames → Plan
+  resumes : ResumeNames → Plan
   seeks : SeekNames → Plan
   batches : BatchNames → Plan
   makes : MakeNames → Plan
@@ -19,6 +20,11 @@ pub data Plan : Type 0 where
 abbrev pub run_plan : RunNames → Option (List ℕ) → Plan
 run_plan names (Some name) = repeats name
 run_plan names None = runs names
+
+-- an auction to go on with, unless an output name is given twice
+abbrev pub resume_plan : ResumeNames → Option (List ℕ) → Plan
+resume_plan names (Some name) = repeats name
+resume_plan names None = resumes names
 
 -- a search for the least top channel, unless the name of the file to store is given twice
 abbrev pub seek_plan : SeekNames → Option (List ℕ) → Plan
@@ -45,6 +51,7 @@ command_plan None = no_command
 command_plan (Some (run names)) = run_plan names (repeated_output names)
 command_plan (Some (check names)) = checks names
 command_plan (Some (verify names)) = verifies names
+command_plan (Some (resume names)) = resume_plan names (repeated_resume names)
 command_plan (Some (seek names)) = seek_plan names (repeated_seek names)
 command_plan (Some (batch names)) = batches names
 command_plan (Some (make names)) = make_plan names (repeated_made names)

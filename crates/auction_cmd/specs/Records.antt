@@ -63,22 +63,32 @@ abbrev pub IsRecordOf : Inputs → Record → Type 0
 IsRecordOf inputs rec = IsRecordIn run_order inputs rec
 
 -- the record is that of an auction that ended at its start, whose start set doesn't fit
-pub record IsRefutedRecordOf (inputs : Inputs) (rec : Record) : Type 0 where
-  pub backed : IsBacked inputs.scenario inputs.book run_order rec
+pub record IsRefutedRecordIn (order : Order) (inputs : Inputs) (rec : Record) : Type 0 where
+  pub backed : IsBacked inputs.scenario inputs.book order rec
   pub ending : rec.ending ≡ StartRefuted
   pub starts : StartUnfit inputs
 
+abbrev pub IsRefutedRecordOf : Inputs → Record → Type 0
+IsRefutedRecordOf inputs rec = IsRefutedRecordIn run_order inputs rec
+
 -- the record is that of an auction that ended at its start, with a receipt of every worker that its whole budget was spent
 -- on the start set
-pub record IsOpenRecordOf (inputs : Inputs) (rec : Record) : Type 0 where
-  pub backed : IsBacked inputs.scenario inputs.book run_order rec
+pub record IsOpenRecordIn (order : Order) (inputs : Inputs) (rec : Record) : Type 0 where
+  pub backed : IsBacked inputs.scenario inputs.book order rec
   pub ending : rec.ending ≡ StartUndecided
   pub receipts : List Receipt
   pub shown : rec.start ≡ Undecided receipts
   pub spent : AreReceipts inputs.book (start_task inputs.scenario 1) inputs.scenario.workers receipts
 
--- the record is that of the auction of these inputs, which ended so
+abbrev pub IsOpenRecordOf : Inputs → Record → Type 0
+IsOpenRecordOf inputs rec = IsOpenRecordIn run_order inputs rec
+
+-- the record is that of the auction of these inputs in this order, which ended so
+abbrev pub IsEndedRecordIn : Order → Inputs → Record → Ending → Type 0
+IsEndedRecordIn order inputs rec Done = IsRecordIn order inputs rec
+IsEndedRecordIn order inputs rec StartRefuted = IsRefutedRecordIn order inputs rec
+IsEndedRecordIn order inputs rec StartUndecided = IsOpenRecordIn order inputs rec
+
+-- that of a run
 abbrev pub IsRecordBy : Inputs → Record → Ending → Type 0
-IsRecordBy inputs rec Done = IsRecordOf inputs rec
-IsRecordBy inputs rec StartRefuted = IsRefutedRecordOf inputs rec
-IsRecordBy inputs rec StartUndecided = IsOpenRecordOf inputs rec
+IsRecordBy inputs rec ending = IsEndedRecordIn run_order inputs rec ending

@@ -11,12 +11,13 @@ use Rattle.auction_cmd.specs.declared.batch_words.BatchArgs.{BatchArgs}
 use Rattle.auction_cmd.specs.declared.make_words.MakeArgs.{MakeArgs}
 use Rattle.auction_cmd.specs.declared.proof_words.ExportArgs.{ExportArgs}
 use Rattle.auction_cmd.specs.declared.proof_words.ImportArgs.{ImportArgs}
+use Rattle.auction_cmd.specs.declared.resume_words.ResumeArgs.{ResumeArgs}
 use Rattle.auction_cmd.specs.declared.seek_words.SeekArgs.{SeekArgs}
 use Rattle.auction_cmd.specs.declared.words.InputArgs.{InputArgs}
 use Rattle.auction_cmd.specs.declared.words.RunArgs.{RunArgs}
 use Rattle.auction_cmd.specs.declared.words.VerifyArgs.{VerifyArgs}
 use Rattle.auction_cmd.specs.declared.words.Order.{Order}
-use Rattle.auction_cmd.specs.declared.words.Order.TheVariants.{Run, Check, Verify, Seek, Batch, Make, Export, Import}
+use Rattle.auction_cmd.specs.declared.words.Order.TheVariants.{Run, Check, Verify, Resume, Seek, Batch, Make, Export, Import}
 use Rattle.auction_cmd.specs.declared.words.WordsFault.{WordsFault}
 use Rattle.auction_cmd.specs.declared.words.WordsFault.TheVariants.{NoMemory, Refused}
 
@@ -38,6 +39,11 @@ pub record RunNames : Type 0 where
 pub record VerifyNames : Type 0 where
   pub inputs : InputNames
   pub transcript : List ℕ
+
+-- the names of the files of `resume`: those of a run, and the beginning of a transcript that it goes on from
+pub record ResumeNames : Type 0 where
+  pub run_files : RunNames
+  pub prefix : List ℕ
 
 -- the names of the files of `seek`
 pub record SeekNames : Type 0 where
@@ -78,6 +84,7 @@ pub data Command : Type 0 where
   run : RunNames → Command
   check : InputNames → Command
   verify : VerifyNames → Command
+  resume : ResumeNames → Command
   seek : SeekNames → Command
   batch : BatchNames → Command
   make : MakeNames → Command
@@ -130,6 +137,9 @@ verify_app = with_required (new_app (codes "verify")) shown_ids
 abbrev pub verify_live_app : App
 verify_live_app = with_required (new_app (codes "verify-live")) (live_ids ++ codes "TRANSCRIPT" ∷ [])
 
+abbrev pub resume_app : App
+resume_app = with_required (new_app (codes "resume")) (input_ids ++ codes "PREFIX" ∷ output_ids)
+
 abbrev pub seek_app : App
 seek_app = with_required (new_app (codes "seek")) (input_ids ++ codes "CHANNELS" ∷ [])
 
@@ -179,9 +189,13 @@ reading_app = with_subcommand (with_subcommand (with_subcommand bare_app run_app
 abbrev pub live_reading_app : App
 live_reading_app = with_subcommand (with_subcommand reading_app live_app.top) verify_live_app.top
 
+-- and with the one that goes on with an auction
+abbrev pub resuming_app : App
+resuming_app = with_subcommand live_reading_app resume_app.top
+
 -- and with the one that seeks the least top channel
 abbrev pub seeking_app : App
-seeking_app = with_subcommand live_reading_app seek_app.top
+seeking_app = with_subcommand resuming_app seek_app.top
 
 -- and with the one that runs many auctions
 abbrev pub batching_app : App
@@ -226,6 +240,13 @@ shown_by_names rows inputs = with_value rows (codes "TRANSCRIPT") (λ transcript
 -- the names of the files of `verify`, where each is there
 abbrev pub verify_names : List Row → Option VerifyNames
 verify_names rows = option_and_then (shown_by_names rows) (input_names rows)
+
+-- the names of the files of `resume`, where each is there
+abbrev pub resume_names : List Row → Option ResumeNames
+resume_names rows =
+    option_and_then (λ run_files.
+    with_value rows (codes "PREFIX") (λ prefix. Some (record { run_files = run_files; prefix = prefix })))
+    (option_and_then (run_names rows) (input_names rows))
 
 -- the names of the files of `seek`, where each is there
 abbrev pub seek_names : List Row → Option SeekNames
@@ -291,11 +312,12 @@ named_command found =
     else (if bytes_eq found.0 (codes "verify") then option_map verify (verify_names found.1)
     else (if bytes_eq found.0 (codes "live") then option_map run (option_and_then (run_names found.1) (live_names found.1))
     else (if bytes_eq found.0 (codes "verify-live") then option_map verify (option_and_then (shown_by_names found.1) (live_names found.1))
+    else (if bytes_eq found.0 (codes "resume") then option_map resume (resume_names found.1)
     else (if bytes_eq found.0 (codes "seek") then option_map seek (seek_names found.1)
     else (if bytes_eq found.0 (codes "batch") then option_map batch (batch_names found.1)
     else (if bytes_eq found.0 (codes "make") then option_map make (make_names found.1)
     else (if bytes_eq found.0 (codes "export") then option_map export (export_names found.1)
-    else (if bytes_eq found.0 (codes "import") then option_map import (import_names found.1) else None)))))))))
+    else (if bytes_eq found.0 (codes "import") then option_map import (import_names found.1) else None))))))))))
 
 -- The command that the words are, the first of which is the program's name; none where `clap` has a fault for them, or an
 -- argument has no value.
@@ -359,6 +381,19 @@ imported_names names = shown_names names.shown ++ names.proof ∷ names.result �
 unfoldable pub repeated_import : ImportNames → Option (List ℕ)
 repeated_import names = find (is_repeated_among (imported_names names)) (names.result ∷ names.transcript ∷ [])
 
+-- the names of the files of `resume`: those that are stored, and those that are read
+abbrev pub resumed_names : ResumeNames → List (List ℕ)
+resumed_names names = names.run_files.result ∷ names.run_files.channels ∷ names.run_files.transcript
+    ∷ names.run_files.inputs.domains ∷ names.run_files.inputs.rows ∷ names.run_files.inputs.scenario ∷ names.prefix ∷ []
+
+-- the first name of a file that `resume` stores which is given more than once
+unfoldable pub repeated_resume : ResumeNames → Option (List ℕ)
+repeated_resume names = find (is_repeated_among (resumed_names names)) (output_names names.run_files)
+
+-- the files that it reads: those of the inputs, and the beginning of a transcript of their auction
+abbrev pub begun_names : ResumeNames → VerifyNames
+begun_names names = record { inputs = names.run_files.inputs; transcript = names.prefix }
+
 -- the names of the files of `seek`, in the order of its arguments
 abbrev pub sought_names : SeekNames → List (List ℕ)
 sought_names names = names.domains ∷ names.rows ∷ names.scenario ∷ names.channels ∷ []
@@ -392,6 +427,9 @@ names_seen args = record {
 abbrev pub verify_seen : VerifyArgs → VerifyNames
 verify_seen args = record { inputs = inputs_seen args.inputs; transcript = args.transcript.now }
 
+abbrev pub resume_seen : ResumeArgs → ResumeNames
+resume_seen args = record { run_files = names_seen args.run_files; prefix = args.prefix.now }
+
 abbrev pub make_seen : MakeArgs → MakeNames
 make_seen args = record { seed = args.seed; size = args.size; outputs = inputs_seen args.outputs }
 
@@ -422,6 +460,7 @@ abbrev pub order_seen : Order → Command
 order_seen (Run args) = run (names_seen args)
 order_seen (Check args) = check (inputs_seen args)
 order_seen (Verify args) = verify (verify_seen args)
+order_seen (Resume args) = resume (resume_seen args)
 order_seen (Seek args) = seek (seek_seen args)
 order_seen (Batch args) = batch (batch_seen args)
 order_seen (Make args) = make (make_seen args)

@@ -15,6 +15,7 @@ use crate::export::export;
 use crate::finish::Finish;
 use crate::import::import;
 use crate::make::make;
+use crate::resume::resume;
 use crate::run::run;
 use crate::says::say;
 use crate::seek::seek;
@@ -64,6 +65,10 @@ fn carry_out<F: Folder, K: Sink, G: Gate + Sync, W: Threads + Wait + Sync>(
         },
         Ok(Order::Check(files)) => check(alloc, &files, folder, out),
         Ok(Order::Verify(files)) => verify(alloc, &files, folder, out),
+        Ok(Order::Resume(files)) => match files.given_twice() {
+            Some(name) => refuse_twice(out, name),
+            None => resume(rt, alloc, &files, folder, out, gate),
+        },
         Ok(Order::Seek(files)) => match files.given_twice() {
             Some(name) => refuse_twice(out, name),
             None => seek(rt, alloc, &files, folder, out, gate),
@@ -101,6 +106,9 @@ fn carry_out<F: Folder, K: Sink, G: Gate + Sync, W: Threads + Wait + Sync>(
 /// - `live DOMAINS ROWS SCENARIO OWNERS RESULT CHANNELS TRANSCRIPT` does what `run` does, but the owners say round by round, in
 ///   the file OWNERS, which station stays; the stations' values are read and checked, and not used.
 /// - `verify-live DOMAINS ROWS SCENARIO OWNERS TRANSCRIPT` does what `verify` does with the transcript of such a live auction.
+/// - `resume DOMAINS ROWS SCENARIO PREFIX RESULT CHANNELS TRANSCRIPT` reads the three inputs and the beginning of a transcript,
+///   cut anywhere, checks each step that is there whole of it, goes on with the auction behind them, and stores and writes what
+///   `run` does. What was shown stays as it stands.
 /// - `seek DOMAINS ROWS SCENARIO CHANNELS` seeks the least top channel, from 14 to the scenario's own, up to which the stations
 ///   fit that start on air, by auctions of these stations alone, stores a channel up to it for each of them and writes it.
 /// - `batch DOMAINS ROWS LIST` reads the constraint files and a list of at most 256 lines, each a scenario and a file for its

@@ -1,6 +1,6 @@
 //! The command `import`: a step that was left open is settled by a proof from outside.
 
-ghost use Rattle.std.specs.Prelude.{◌≡◌, ◌≢◌, ◌≤◌, [], IfOk, None, Ok, Err};
+ghost use Rattle.std.specs.Prelude.{◌≡◌, [], IfOk, None};
 ghost use Rattle.pack_defs.specs.Scenario.{IsWithinLimits};
 ghost use Rattle.auction_core.specs.Backed.{undecided_of};
 ghost use Rattle.auction_core.specs.Setup.{IsOfAuction};
@@ -13,20 +13,20 @@ ghost use Rattle.auction_cmd.specs.Faults.{IsCounted};
 ghost use Rattle.auction_cmd.specs.Outside.{outside};
 ghost use Rattle.auction_cmd.specs.Records.{IsRecordIn, result_of, summary_in};
 ghost use Rattle.auction_cmd.specs.Settling.{open_fault};
-ghost use Rattle.auction_cmd.specs.Transcripts.{ExplainsLog, IsFileRead, IsSettling};
+ghost use Rattle.auction_cmd.specs.Transcripts.{ExplainsLog, IsSettling};
 ghost use Rattle.auction_cmd.specs.Words.{import_seen};
 
 use crate::explain::{say_memory, starve};
 use crate::finish::Finish;
-use crate::inputs::{FILE_LIMIT, Inputs};
+use crate::inputs::Inputs;
 use crate::proof_words::ImportArgs;
 use crate::run::{done_status, store};
 use crate::settling::{open_fault, say_log, say_step};
-use crate::shown::{ShownAuction, say_unloaded, shown_by};
+use crate::shown::{ShownAuction, file_bytes, say_unloaded, shown_by};
 use crate::verify::result_text;
 use auction_core::record::Record;
 use open_tests::settle::{SettleErr, settle_by_text};
-use outside_io::folder::{Folder, LoadErr};
+use outside_io::folder::Folder;
 use outside_io::sink::Sink;
 use result_text::counts::summary;
 use std::alloc::{AllocError as NoMemory, Global};
@@ -39,19 +39,6 @@ struct Texts {
     result: Vec<u8>,
     transcript: Vec<u8>,
     summary: Vec<u8>,
-}
-
-// The bytes of the file of this name.
-fn file_bytes<F: Folder>(alloc: Global, folder: &mut F, name: &str) -> Result<Vec<u8>, LoadErr>
-    ensures read { IsFileRead (F.files folder.old) (F.steady folder.old) (F.faults folder.old) (F.faults folder.new) name.now result }
-    ensures files { F.files folder.new ≡ F.files folder.old }
-    ensures steady { F.steady folder.new ≡ F.steady folder.old }
-    ensures counted { F.faults folder.old ≤ F.faults folder.new }
-    ensures uncounted { result ≢ Err LoadErr.Failed → F.faults folder.new ≡ F.faults folder.old }
-{
-    let mut bytes = Vec::new(alloc);
-    folder.load(name, FILE_LIMIT, &mut bytes)?;
-    Ok(bytes)
 }
 
 // The record, its undecided step of this number settled by the log of this text. It touches nothing outside.

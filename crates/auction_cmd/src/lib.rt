@@ -1,4 +1,11 @@
-//! The auction from files to result.
+//! The program's commands, over any folder, any sink and any gate: an auction from files to result.
+//!
+//! It may call every crate below. `auction_cli`, which is the program, and the crates of trials call it; no other knows of it.
+//!
+//! Read `words` and `auction` first: which command the words are, and who carries it out. Then `run`, with `inputs`, `sources` and
+//! `constraints`, which read, and `conclude`, which stores and writes. The others are like it: `check`; `verify`, with `shown`;
+//! `resume`; `seek`, with `tops`; `batch`, with `batch_inputs` and `batch_run`; `make`; `export` and `import`, with `settling`. How a
+//! command ends is in `finish`, and what it says in `says`, `explain`, `refusal` and `fault`.
 #![tactic(auto)]
 
 pub mod auction;
@@ -18,6 +25,8 @@ mod make;
 pub mod make_words;
 pub mod proof_words;
 pub mod refusal;
+mod resume;
+pub mod resume_words;
 mod run;
 mod says;
 mod seek;

@@ -1,6 +1,6 @@
 //! The command `run`: the auction from files to result.
 
-ghost use Rattle.std.specs.Prelude.{◌≡◌, [], IfErr, IfOk, OnOk, None};
+ghost use Rattle.std.specs.Prelude.{◌≡◌, ◌⊎◌, [], IfErr, IfOk, OnOk, None};
 ghost use Rattle.std.specs.List.{list_any};
 ghost use Rattle.pack_defs.specs.Scenario.{IsWithinLimits};
 ghost use Rattle.auction_core.specs.Backed.{is_undecided, undecided_of};
@@ -8,10 +8,10 @@ ghost use Rattle.auction_core.specs.Setup.{IsOfAuction};
 ghost use Rattle.result_text.specs.ChannelsText.{channels_text};
 ghost use Rattle.transcript_text.specs.Spelling.{transcript_text};
 ghost use Rattle.auction_cmd.specs.Delivery.{Delivers, IsNotStored, IsStored, named};
-ghost use Rattle.auction_cmd.specs.Ends.{RunEnds, output_texts};
+ghost use Rattle.auction_cmd.specs.Ends.{Concludes, IsStarved, RunEnds, output_texts};
 ghost use Rattle.auction_cmd.specs.Faults.{IsCounted};
 ghost use Rattle.auction_cmd.specs.Outside.{outside};
-ghost use Rattle.auction_cmd.specs.Records.{IsRecordBy, IsRecordOf, done_status, result_of, run_order, summary_of};
+ghost use Rattle.auction_cmd.specs.Records.{IsEndedRecordIn, IsRecordBy, IsRecordIn, done_status, result_of, run_order, summary_in};
 ghost use Rattle.auction_cmd.specs.Words.{names_seen};
 
 use crate::explain::{explain, say_memory, starve};
@@ -82,14 +82,14 @@ pub fn done_status(rec: &Record) -> u8
     0
 }
 
-// The texts of this record, which is that of the inputs. It touches nothing outside.
+// The texts of this record, which is one of the inputs' auction. It touches nothing outside.
 fn texts_of(alloc: Global, inputs: &Inputs, rec: &Record) -> Result<Texts, NoMemory>
     requires limits { IsWithinLimits inputs.now.scenario }
-    requires of { IsRecordOf inputs.now rec.now }
-    ensures result { IfOk result (λ texts. texts.result.items ≡ result_of run_order inputs.now (undecided_of rec.now.steps)) }
+    requires of { IsRecordIn rec.now.order inputs.now rec.now }
+    ensures result { IfOk result (λ texts. texts.result.items ≡ result_of rec.now.order inputs.now (undecided_of rec.now.steps)) }
     ensures channels { IfOk result (λ texts. texts.channels.items ≡ channels_text rec.now.map) }
     ensures transcript { IfOk result (λ texts. texts.transcript.items ≡ transcript_text inputs.now.scenario inputs.now.book rec.now) }
-    ensures summary { IfOk result (λ texts. texts.summary.items ≡ summary_of inputs.now (undecided_of rec.now.steps)) }
+    ensures summary { IfOk result (λ texts. texts.summary.items ≡ summary_in rec.now.order inputs.now (undecided_of rec.now.steps)) }
 {
     let result = result_csv(alloc, rec, &inputs.book)?;
     let channels = channels_csv(alloc, rec)?;
@@ -168,6 +168,54 @@ fn deliver<F: Folder, K: Sink>(
     }
 }
 
+/// Concludes the auction of which this is the record: stores the result, the channels and the transcript, and writes the summary.
+/// Where the start set doesn't fit, or its test was left open, a line says so, and nothing is stored.
+pub fn conclude<F: Folder, K: Sink>(
+    alloc: Global,
+    inputs: &Inputs,
+    rec: Record,
+    names: &RunArgs<'_>,
+    folder: &mut F,
+    out: &mut K,
+) -> Finish
+    requires limits { IsWithinLimits inputs.now.scenario }
+    requires of { IsEndedRecordIn rec.order inputs.now rec rec.ending }
+    ensures ends { IsStarved
+        (outside (F.files folder.old) (F.faults folder.old) (F.steady folder.old) (K.held out.old) (K.faults out.old) (K.sure out.old))
+        (outside (F.files folder.new) (F.faults folder.new) (F.steady folder.new) (K.held out.new) (K.faults out.new) (K.sure out.new))
+        result.status result.result
+        ⊎ Concludes rec.order (names_seen names.now) inputs.now rec
+        (outside (F.files folder.old) (F.faults folder.old) (F.steady folder.old) (K.held out.old) (K.faults out.old) (K.sure out.old))
+        (outside (F.files folder.new) (F.faults folder.new) (F.steady folder.new) (K.held out.new) (K.faults out.new) (K.sure out.new))
+        result.status result.result }
+    ensures no_other { result.below ≡ None }
+    ensures no_batch { result.batch ≡ [] }
+    ensures counted { IsCounted
+        (outside (F.files folder.old) (F.faults folder.old) (F.steady folder.old) (K.held out.old) (K.faults out.old) (K.sure out.old))
+        (outside (F.files folder.new) (F.faults folder.new) (F.steady folder.new) (K.held out.new) (K.faults out.new) (K.sure out.new))
+        result.status }
+{
+    match rec.ending {
+        Ending::Done => {}
+        Ending::StartRefuted => {
+            say(out, &["the start set does not fit\n"]);
+            return Finish::with_record(6, rec);
+        }
+        Ending::StartUndecided => {
+            say(out, &["the start set is undecided\n"]);
+            return Finish::with_record(7, rec);
+        }
+    }
+    let Ok(texts) = texts_of(alloc, inputs, &rec) else {
+        return starve(out);
+    };
+    is_named(&inputs.scenario, &inputs.book);
+    is_held(&rec);
+    let done = done_status(&rec);
+    let status = deliver(folder, out, names, &texts, done);
+    Finish::with_record(status, rec)
+}
+
 /// Reads the inputs, carries the auction out, stores the result, the channels and the transcript, and writes the summary. The
 /// solvers of all the scenario's workers try each query at once, each in a thread of its own, and, by turns, one after another
 /// on this thread. Where the start set doesn't fit, or no worker decides whether it does, there is no auction, and nothing is
@@ -180,7 +228,7 @@ pub fn run<F: Folder, K: Sink, G: Gate + Sync, W: Threads + Wait + Sync>(
     out: &mut K,
     gate: &G,
 ) -> Finish
-    ensures ends { RunEnds (names_seen files.now)
+    ensures ends { RunEnds run_order (names_seen files.now)
         (outside (F.files folder.old) (F.faults folder.old) (F.steady folder.old) (K.held out.old) (K.faults out.old) (K.sure out.old))
         (outside (F.files folder.new) (F.faults folder.new) (F.steady folder.new) (K.held out.new) (K.faults out.new) (K.sure out.new))
         result.status result.result }
@@ -198,23 +246,5 @@ pub fn run<F: Folder, K: Sink, G: Gate + Sync, W: Threads + Wait + Sync>(
     let Ok(record) = auction_of(rt, alloc, &inputs, gate) else {
         return starve(out);
     };
-    match record.ending {
-        Ending::Done => {}
-        Ending::StartRefuted => {
-            say(out, &["the start set does not fit\n"]);
-            return Finish::with_record(6, record);
-        }
-        Ending::StartUndecided => {
-            say(out, &["the start set is undecided\n"]);
-            return Finish::with_record(7, record);
-        }
-    }
-    let Ok(texts) = texts_of(alloc, &inputs, &record) else {
-        return starve(out);
-    };
-    is_named(&inputs.scenario, &inputs.book);
-    is_held(&record);
-    let done = done_status(&record);
-    let status = deliver(folder, out, files, &texts, done);
-    Finish::with_record(status, record)
+    conclude(alloc, &inputs, record, files, folder, out)
 }

@@ -8,7 +8,7 @@ ghost use Rattle.transcript_text.specs.Pieces.{HasRead};
 ghost use Rattle.auction_cmd.specs.Ends.{IsShown, VerifyEnds};
 ghost use Rattle.auction_cmd.specs.Faults.{IsCounted};
 ghost use Rattle.auction_cmd.specs.Outside.{outside};
-ghost use Rattle.auction_cmd.specs.Transcripts.{ExplainsDenied, ExplainsLoad, IsTextRead, IsVerdict, not_read};
+ghost use Rattle.auction_cmd.specs.Transcripts.{ExplainsDenied, ExplainsLoad, IsFileRead, IsTextRead, IsVerdict, not_read};
 ghost use Rattle.auction_cmd.specs.Verified.{record_by, verified};
 ghost use Rattle.auction_cmd.specs.Words.{verify_seen};
 
@@ -70,6 +70,23 @@ fn read_text<F: Folder>(
     }
 }
 
+/// The bytes of the file of this name.
+pub(crate) fn file_bytes<F: Folder>(
+    alloc: Global,
+    folder: &mut F,
+    name: &str,
+) -> Result<Vec<u8>, LoadErr>
+    ensures read { IsFileRead (F.files folder.old) (F.steady folder.old) (F.faults folder.old) (F.faults folder.new) name.now result }
+    ensures files { F.files folder.new ≡ F.files folder.old }
+    ensures steady { F.steady folder.new ≡ F.steady folder.old }
+    ensures counted { F.faults folder.old ≤ F.faults folder.new }
+    ensures uncounted { result ≢ Err LoadErr.Failed → F.faults folder.new ≡ F.faults folder.old }
+{
+    let mut bytes = Vec::new(alloc);
+    folder.load(name, FILE_LIMIT, &mut bytes)?;
+    Ok(bytes)
+}
+
 /// Says why the file of this name was not loaded. It gives the status, and takes no memory.
 pub fn say_unloaded<K: Sink>(out: &mut K, name: &str, why: LoadErr) -> u8
     ensures { ExplainsLoad name.now why (K.held out.old) (K.held out.new) (K.faults out.old) (K.faults out.new) result }
@@ -106,8 +123,8 @@ fn record_from(alloc: Global, inputs: &Inputs, transcript: Transcript) -> Result
     }
 }
 
-// Why there is no record of a text that was not read so.
-fn not_read(why: TextErr) -> Denied
+/// Why there is no record of a text that was not read so.
+pub(crate) fn not_read(why: TextErr) -> Denied
     ensures { result ≡ not_read why }
 {
     match why {
@@ -129,8 +146,8 @@ fn record_of(alloc: Global, inputs: &Inputs, read: TranscriptReader) -> Result<R
     }
 }
 
-// Says why there is no record of the transcript of this name. It gives the status.
-fn say_denied<K: Sink>(out: &mut K, name: &str, why: Denied) -> u8
+/// Says why there is no record of the transcript of this name. It gives the status.
+pub(crate) fn say_denied<K: Sink>(out: &mut K, name: &str, why: Denied) -> u8
     ensures { ExplainsDenied name.now why (K.held out.old) (K.held out.new) (K.faults out.old) (K.faults out.new) result }
 {
     match why {

@@ -5,7 +5,7 @@ ghost use Rattle.std.specs.Str.{bytes_eq};
 ghost use Rattle.clap.specs.Words.{app_of, first_of, found_of, kind_of, new_app, rows_of, rule_of, subcommand_rows_of};
 ghost use Rattle.clap.specs.declared.builder.command.Command.TheViews.{out-Command};
 ghost use Rattle.auction_cmd.specs.Refusals.{name_of};
-ghost use Rattle.auction_cmd.specs.Words.{IsRefused, bare_app, batching_app, check_app, command_of, constraint_ids, input_ids, input_names, inputs_seen, is_repeated_in, live_app, live_ids, live_names, live_reading_app, named_command, names_seen, order_seen, program_app, reading_app, repeated_output, required_rule, run_app, run_names, seeking_app, shown_by_names, shown_ids, verify_app, verify_live_app, verify_names, verify_seen, with_required};
+ghost use Rattle.auction_cmd.specs.Words.{IsRefused, bare_app, batching_app, check_app, command_of, constraint_ids, input_ids, input_names, inputs_seen, is_repeated_in, live_app, live_ids, live_names, live_reading_app, named_command, names_seen, order_seen, program_app, reading_app, repeated_output, required_rule, resuming_app, run_app, run_names, seeking_app, shown_by_names, shown_ids, verify_app, verify_live_app, verify_names, verify_seen, with_required};
 
 use crate::batch_words::{BatchArgs, batch_args, batch_command};
 use crate::make_words::{MakeArgs, make_args, make_command};
@@ -13,6 +13,7 @@ use crate::proof_words::{
     ExportArgs, ImportArgs, export_args, export_command, import_args, import_command,
 };
 use crate::refusal::Input;
+use crate::resume_words::{ResumeArgs, resume_args, resume_command};
 use crate::seek_words::{SeekArgs, seek_args, seek_command};
 use clap::error::ErrorKind;
 use clap::{Arg, ArgMatches, Command, Error};
@@ -62,6 +63,8 @@ pub enum Order<'a> {
     Check(InputArgs<'a>),
     /// Verify a transcript, of an auction by the stations' values or of a live one.
     Verify(VerifyArgs<'a>),
+    /// Go on with an auction from the beginning of its transcript.
+    Resume(ResumeArgs<'a>),
     /// Seek the least top channel.
     Seek(SeekArgs<'a>),
     /// Run the auctions of many scenarios.
@@ -214,7 +217,7 @@ fn live_input_command<'a>(
 }
 
 // The name of the file for the result of a run.
-fn result_name<'a>(alloc: Global) -> Arg<'a>
+pub(crate) fn result_name<'a>(alloc: Global) -> Arg<'a>
     ensures rule { rule_of result ≡ required_rule (codes "RESULT") }
     ensures local { result.global ≡ false }
 {
@@ -223,7 +226,7 @@ fn result_name<'a>(alloc: Global) -> Arg<'a>
 }
 
 // The name of the file for its channels.
-fn channels_name<'a>(alloc: Global) -> Arg<'a>
+pub(crate) fn channels_name<'a>(alloc: Global) -> Arg<'a>
     ensures rule { rule_of result ≡ required_rule (codes "CHANNELS") }
     ensures local { result.global ≡ false }
 {
@@ -232,7 +235,7 @@ fn channels_name<'a>(alloc: Global) -> Arg<'a>
 }
 
 // The name of the file for its transcript.
-fn transcript_name<'a>(alloc: Global) -> Arg<'a>
+pub(crate) fn transcript_name<'a>(alloc: Global) -> Arg<'a>
     ensures rule { rule_of result ≡ required_rule (codes "TRANSCRIPT") }
     ensures local { result.global ≡ false }
 {
@@ -340,12 +343,20 @@ fn live_reading_program<'a>(alloc: Global) -> Result<Command<'a>, AllocError>
         .subcommand(verify_live_command(alloc)?)
 }
 
+// The same with the one that goes on with an auction.
+fn resuming_program<'a>(alloc: Global) -> Result<Command<'a>, AllocError>
+    ensures app { IfOk result (λ c. app_of c ≡ resuming_app) }
+    ensures local { IfOk result (λ c. (out-Command c).has_globals ≡ false) }
+{
+    live_reading_program(alloc)?.subcommand(resume_command(alloc)?)
+}
+
 // The same with the one that seeks the least top channel.
 fn seeking_program<'a>(alloc: Global) -> Result<Command<'a>, AllocError>
     ensures app { IfOk result (λ c. app_of c ≡ seeking_app) }
     ensures local { IfOk result (λ c. (out-Command c).has_globals ≡ false) }
 {
-    live_reading_program(alloc)?.subcommand(seek_command(alloc)?)
+    resuming_program(alloc)?.subcommand(seek_command(alloc)?)
 }
 
 // The same with the one that runs many auctions.
@@ -397,7 +408,7 @@ fn live_args<'a>(matches: &ArgMatches<'a>) -> Option<InputArgs<'a>>
     })
 }
 
-fn run_args<'a>(matches: &ArgMatches<'a>, inputs: InputArgs<'a>) -> Option<RunArgs<'a>>
+pub(crate) fn run_args<'a>(matches: &ArgMatches<'a>, inputs: InputArgs<'a>) -> Option<RunArgs<'a>>
     ensures { option_map names_seen result ≡ run_names (rows_of (found_of matches.now)) (inputs_seen inputs.entry) }
 {
     let result = value_of(matches, "RESULT")?;
@@ -439,6 +450,8 @@ fn order_of<'a>(matches: &ArgMatches<'a>) -> Option<Order<'a>>
         Some(Order::Run(run_args(inner, live_args(inner)?)?))
     } else if name == "verify-live" {
         Some(Order::Verify(shown_args(inner, live_args(inner)?)?))
+    } else if name == "resume" {
+        Some(Order::Resume(resume_args(inner)?))
     } else if name == "seek" {
         Some(Order::Seek(seek_args(inner)?))
     } else if name == "batch" {
@@ -474,8 +487,8 @@ fn fault_from(alloc: Global, error: &Error) -> WordsFault
 
 /// The command that the words are, of which the first is the program's name: `run DOMAINS ROWS SCENARIO RESULT CHANNELS
 /// TRANSCRIPT`, `check DOMAINS ROWS SCENARIO`, `verify DOMAINS ROWS SCENARIO TRANSCRIPT`, `live DOMAINS ROWS SCENARIO OWNERS
-/// RESULT CHANNELS TRANSCRIPT`, `verify-live DOMAINS ROWS SCENARIO OWNERS TRANSCRIPT`, `seek DOMAINS ROWS SCENARIO
-/// CHANNELS`, `batch DOMAINS ROWS LIST`, `make SEED SIZE DOMAINS ROWS SCENARIO`, `export DOMAINS ROWS SCENARIO TRANSCRIPT
+/// RESULT CHANNELS TRANSCRIPT`, `verify-live DOMAINS ROWS SCENARIO OWNERS TRANSCRIPT`, `resume DOMAINS ROWS SCENARIO
+/// PREFIX RESULT CHANNELS TRANSCRIPT`, `seek DOMAINS ROWS SCENARIO CHANNELS`, `batch DOMAINS ROWS LIST`, `make SEED SIZE DOMAINS ROWS SCENARIO`, `export DOMAINS ROWS SCENARIO TRANSCRIPT
 /// STEP CNF` or `import DOMAINS ROWS SCENARIO TRANSCRIPT STEP LRAT RESULT NEWTRANSCRIPT`. A name that begins with `-` stands
 /// after `--`, but for a lone `-`. SEED is a number up to 2^64 - 1, SIZE one from 1 to 4,096, STEP one from 1 to
 /// 4,294,967,295; a plus may stand before each, and zeros. Help and the version are no command: their texts come with

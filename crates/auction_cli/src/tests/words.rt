@@ -2,6 +2,7 @@
 
 use auction_cmd::make_words::MakeArgs;
 use auction_cmd::proof_words::{ExportArgs, ImportArgs};
+use auction_cmd::resume_words::ResumeArgs;
 use auction_cmd::words::{InputArgs, Order, RunArgs, VerifyArgs, WordsFault, read_words};
 use std::alloc::{AllocError as NoMemory, Global};
 use std::test::Fail;
@@ -61,6 +62,7 @@ fn order_text(alloc: Global, order: Order<'_>) -> Result<String, NoMemory> {
             let inputs = inputs_text(alloc, "verify", files.inputs)?;
             joined(alloc, &inputs, &[files.transcript])
         }
+        Order::Resume(files) => resume_text(alloc, files),
         Order::Seek(files) => {
             let names = [files.domains, files.rows, files.scenario, files.channels];
             joined(alloc, "order seek", &names)
@@ -78,6 +80,19 @@ fn order_text(alloc: Global, order: Order<'_>) -> Result<String, NoMemory> {
         Order::Export(files) => export_text(alloc, files),
         Order::Import(files) => import_text(alloc, files),
     }
+}
+
+// The order to go on with an auction.
+fn resume_text(alloc: Global, files: ResumeArgs<'_>) -> Result<String, NoMemory> {
+    let run_files = files.run_files;
+    let inputs = inputs_text(alloc, "resume", run_files.inputs)?;
+    let names = [
+        files.prefix,
+        run_files.result,
+        run_files.channels,
+        run_files.transcript,
+    ];
+    joined(alloc, &inputs, &names)
 }
 
 // The order to store a formula; its step stands behind the names.
@@ -218,6 +233,11 @@ fn a_wrong_count_of_names_is_refused(rt: HostRuntime) -> Result<(), Fail> {
             "repack,verify-live,d,r,s,t",
             "error: the following required arguments were not provided:\n  <TRANSCRIPT>\n\n",
         ),
+        ("repack,resume,d,r,s,p,o,c,t,more", more),
+        (
+            "repack,resume,d,r,s,p,o,c",
+            "error: the following required arguments were not provided:\n  <TRANSCRIPT>\n\n",
+        ),
         ("repack,seek,d,r,s,c,more", more),
         (
             "repack,seek,d,r,s",
@@ -306,6 +326,9 @@ fn help_is_told(rt: HostRuntime) -> Result<(), Fail> {
     let verify_live = "Checks a live auction's transcript ";
     let five_read =
         "\nUsage: repack verify-live <DOMAINS> <ROWS> <SCENARIO> <OWNERS> <TRANSCRIPT>\n";
+    let resume = "Goes on with an auction ";
+    let seven_resumed =
+        "\nUsage: repack resume <DOMAINS> <ROWS> <SCENARIO> <PREFIX> <RESULT> <CHANNELS> <TRANSCRIPT>\n";
     let seek = "Seeks the least top channel ";
     let four = "\nUsage: repack seek <DOMAINS> <ROWS> <SCENARIO> <CHANNELS>\n";
     let batch = "Runs the auctions of many scenarios and ";
@@ -327,6 +350,7 @@ fn help_is_told(rt: HostRuntime) -> Result<(), Fail> {
         ("repack,make,--help", make, five),
         ("repack,live,--help", live, seven),
         ("repack,help,verify-live", verify_live, five_read),
+        ("repack,resume,--help", resume, seven_resumed),
         ("repack,seek,--help", seek, four),
         ("repack,help,batch", batch, listed),
         ("repack,export,--help", export, six_read),
@@ -378,6 +402,7 @@ fn each_name_stands_in_its_place(rt: HostRuntime) -> Result<(), Fail> {
             "order live verify,d,r,s,w,t",
         ),
         ("repack,verify,d,r,s,t", "order verify,d,r,s,t"),
+        ("repack,resume,d,r,s,p,o,c,t", "order resume,d,r,s,p,o,c,t"),
         ("repack,seek,d,r,s,c", "order seek,d,r,s,c"),
         ("repack,seek,,-,--,-s,seek", "order seek,,-,-s,seek"),
         ("repack,batch,d,-,batch", "order batch,d,-,batch"),

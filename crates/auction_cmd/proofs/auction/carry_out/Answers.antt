@@ -1,10 +1,10 @@
 -- The plan that the words are, and how it ends.
 use Rattle.std.proofs.Common.{map, refl, string_bytes, sym}
 use Rattle.auction_cmd.specs.Ends.Ends.{Usage, Repeated, Ran, Checked, Verified, Sought, Made, Exported, Imported}
-use Rattle.auction_cmd.specs.Program.ProgramEnds.{Single, Batched}
-use Rattle.auction_cmd.specs.Words.{batch_seen, export_seen, import_seen, inputs_seen, make_seen, names_seen, seek_seen, verify_seen}
+use Rattle.auction_cmd.specs.Program.ProgramEnds.{Single, Resumed, Batched}
+use Rattle.auction_cmd.specs.Words.{batch_seen, export_seen, import_seen, inputs_seen, make_seen, names_seen, resume_seen, seek_seen, verify_seen}
 use Rattle.auction_cmd.proofs.NumberLemmas.{command-sized, import-valued}
-use Rattle.auction_cmd.proofs.PlanLemmas.{plan-none, plan-batches, plan-checks, plan-exported_twice, plan-exports, plan-imported_twice, plan-imports, plan-made_twice, plan-makes, plan-repeats, plan-runs, plan-seeks, plan-sought_twice, plan-verifies}
+use Rattle.auction_cmd.proofs.PlanLemmas.{plan-none, plan-batches, plan-checks, plan-exported_twice, plan-exports, plan-imported_twice, plan-imports, plan-made_twice, plan-makes, plan-repeats, plan-resumed_twice, plan-resumes, plan-runs, plan-seeks, plan-sought_twice, plan-verifies}
 use Rattle.auction_cmd.proofs.auction.carry_out.Goals as goal
 
 pub returns-in-Some-clause-ends : goal.returns-in-Some-clause-ends
@@ -42,16 +42,30 @@ pub returns-in-Some-given_twice-clause-ends : goal.returns-in-Some-given_twice-c
 returns-in-Some-given_twice-clause-ends g c =
     Single
     (Repeated c.in-Some-given_twice.name.now
-    (plan-sought_twice _ (seek_seen c.in-Ok-Seek.files) c.in-Some-given_twice.name.now (rw c.in-Ok-Seek.field-0-is at c.in-Ok-Seek.ensures.order) c.in-Some-given_twice.ensures)
+    (plan-resumed_twice _ (resume_seen c.in-Ok-Resume.files) c.in-Some-given_twice.name.now (rw c.in-Ok-Resume.field-0-is at c.in-Ok-Resume.ensures.order) c.in-Some-given_twice.ensures)
     c.refuse_twice-in-Some-given_twice.ensures.status c.refuse_twice-in-Some-given_twice.ensures.none c.refuse_twice-in-Some-given_twice.ensures.says refl refl c.refuse_twice-in-Some-given_twice.ensures.no_other)
     c.refuse_twice-in-Some-given_twice.ensures.no_batch
 
 pub returns-in-None-given_twice-clause-ends : goal.returns-in-None-given_twice-clause-ends
 returns-in-None-given_twice-clause-ends g c =
+    Resumed (resume_seen c.in-Ok-Resume.files)
+    (plan-resumes _ (resume_seen c.in-Ok-Resume.files) (rw c.in-Ok-Resume.field-0-is at c.in-Ok-Resume.ensures.order) c.in-None-given_twice.ensures)
+    (sym c.in-None-given_twice.ensures) c.resume.ensures.ends c.resume.ensures.no_other c.resume.ensures.no_batch
+
+pub returns-in-Some-given_twice-2-clause-ends : goal.returns-in-Some-given_twice-2-clause-ends
+returns-in-Some-given_twice-2-clause-ends g c =
+    Single
+    (Repeated c.in-Some-given_twice-2.name.now
+    (plan-sought_twice _ (seek_seen c.in-Ok-Seek.files) c.in-Some-given_twice-2.name.now (rw c.in-Ok-Seek.field-0-is at c.in-Ok-Seek.ensures.order) c.in-Some-given_twice-2.ensures)
+    c.refuse_twice-in-Some-given_twice-2.ensures.status c.refuse_twice-in-Some-given_twice-2.ensures.none c.refuse_twice-in-Some-given_twice-2.ensures.says refl refl c.refuse_twice-in-Some-given_twice-2.ensures.no_other)
+    c.refuse_twice-in-Some-given_twice-2.ensures.no_batch
+
+pub returns-in-None-given_twice-2-clause-ends : goal.returns-in-None-given_twice-2-clause-ends
+returns-in-None-given_twice-2-clause-ends g c =
     Single
     (Sought (seek_seen c.in-Ok-Seek.files)
-    (plan-seeks _ (seek_seen c.in-Ok-Seek.files) (rw c.in-Ok-Seek.field-0-is at c.in-Ok-Seek.ensures.order) c.in-None-given_twice.ensures)
-    (sym c.in-None-given_twice.ensures) c.seek.ensures.ends)
+    (plan-seeks _ (seek_seen c.in-Ok-Seek.files) (rw c.in-Ok-Seek.field-0-is at c.in-Ok-Seek.ensures.order) c.in-None-given_twice-2.ensures)
+    (sym c.in-None-given_twice-2.ensures) c.seek.ensures.ends)
     c.seek.ensures.no_batch
 
 pub make-requires-clause-some : goal.make-requires-clause-some
@@ -64,53 +78,53 @@ make-requires-clause-most g c κs within =
     let sized = command-sized (map string_bytes c.args.words.now) (make_seen c.in-Ok-Make.files) (rw c.in-Ok-Make.field-0-is at c.in-Ok-Make.ensures.order) in
     sized.1
 
-pub returns-in-Some-given_twice-2-clause-ends : goal.returns-in-Some-given_twice-2-clause-ends
-returns-in-Some-given_twice-2-clause-ends g c =
-    Single
-    (Repeated c.in-Some-given_twice-2.name.now
-    (plan-made_twice _ (make_seen c.in-Ok-Make.files) c.in-Some-given_twice-2.name.now (rw c.in-Ok-Make.field-0-is at c.in-Ok-Make.ensures.order) c.in-Some-given_twice-2.ensures)
-    c.refuse_twice-in-Some-given_twice-2.ensures.status c.refuse_twice-in-Some-given_twice-2.ensures.none c.refuse_twice-in-Some-given_twice-2.ensures.says refl refl c.refuse_twice-in-Some-given_twice-2.ensures.no_other)
-    c.refuse_twice-in-Some-given_twice-2.ensures.no_batch
-
-pub returns-in-None-given_twice-2-clause-ends : goal.returns-in-None-given_twice-2-clause-ends
-returns-in-None-given_twice-2-clause-ends g c =
-    Single
-    (Made (make_seen c.in-Ok-Make.files)
-    (plan-makes _ (make_seen c.in-Ok-Make.files) (rw c.in-Ok-Make.field-0-is at c.in-Ok-Make.ensures.order) c.in-None-given_twice-2.ensures)
-    (sym c.in-None-given_twice-2.ensures) c.make.ensures.ends c.make.ensures.no_other)
-    c.make.ensures.no_batch
-
 pub returns-in-Some-given_twice-3-clause-ends : goal.returns-in-Some-given_twice-3-clause-ends
 returns-in-Some-given_twice-3-clause-ends g c =
     Single
     (Repeated c.in-Some-given_twice-3.name.now
-    (plan-exported_twice _ (export_seen c.in-Ok-Export.files) c.in-Some-given_twice-3.name.now (rw c.in-Ok-Export.field-0-is at c.in-Ok-Export.ensures.order) c.in-Some-given_twice-3.ensures)
+    (plan-made_twice _ (make_seen c.in-Ok-Make.files) c.in-Some-given_twice-3.name.now (rw c.in-Ok-Make.field-0-is at c.in-Ok-Make.ensures.order) c.in-Some-given_twice-3.ensures)
     c.refuse_twice-in-Some-given_twice-3.ensures.status c.refuse_twice-in-Some-given_twice-3.ensures.none c.refuse_twice-in-Some-given_twice-3.ensures.says refl refl c.refuse_twice-in-Some-given_twice-3.ensures.no_other)
     c.refuse_twice-in-Some-given_twice-3.ensures.no_batch
 
 pub returns-in-None-given_twice-3-clause-ends : goal.returns-in-None-given_twice-3-clause-ends
 returns-in-None-given_twice-3-clause-ends g c =
     Single
-    (Exported (export_seen c.in-Ok-Export.files)
-    (plan-exports _ (export_seen c.in-Ok-Export.files) (rw c.in-Ok-Export.field-0-is at c.in-Ok-Export.ensures.order) c.in-None-given_twice-3.ensures)
-    (sym c.in-None-given_twice-3.ensures) c.export.ensures.ends c.export.ensures.no_other)
-    c.export.ensures.no_batch
+    (Made (make_seen c.in-Ok-Make.files)
+    (plan-makes _ (make_seen c.in-Ok-Make.files) (rw c.in-Ok-Make.field-0-is at c.in-Ok-Make.ensures.order) c.in-None-given_twice-3.ensures)
+    (sym c.in-None-given_twice-3.ensures) c.make.ensures.ends c.make.ensures.no_other)
+    c.make.ensures.no_batch
 
 pub returns-in-Some-given_twice-4-clause-ends : goal.returns-in-Some-given_twice-4-clause-ends
 returns-in-Some-given_twice-4-clause-ends g c =
     Single
     (Repeated c.in-Some-given_twice-4.name.now
-    (plan-imported_twice _ (import_seen c.in-Ok-Import.files) c.in-Some-given_twice-4.name.now (rw c.in-Ok-Import.field-0-is at c.in-Ok-Import.ensures.order) c.in-Some-given_twice-4.ensures)
+    (plan-exported_twice _ (export_seen c.in-Ok-Export.files) c.in-Some-given_twice-4.name.now (rw c.in-Ok-Export.field-0-is at c.in-Ok-Export.ensures.order) c.in-Some-given_twice-4.ensures)
     c.refuse_twice-in-Some-given_twice-4.ensures.status c.refuse_twice-in-Some-given_twice-4.ensures.none c.refuse_twice-in-Some-given_twice-4.ensures.says refl refl c.refuse_twice-in-Some-given_twice-4.ensures.no_other)
     c.refuse_twice-in-Some-given_twice-4.ensures.no_batch
 
 pub returns-in-None-given_twice-4-clause-ends : goal.returns-in-None-given_twice-4-clause-ends
 returns-in-None-given_twice-4-clause-ends g c =
     Single
+    (Exported (export_seen c.in-Ok-Export.files)
+    (plan-exports _ (export_seen c.in-Ok-Export.files) (rw c.in-Ok-Export.field-0-is at c.in-Ok-Export.ensures.order) c.in-None-given_twice-4.ensures)
+    (sym c.in-None-given_twice-4.ensures) c.export.ensures.ends c.export.ensures.no_other)
+    c.export.ensures.no_batch
+
+pub returns-in-Some-given_twice-5-clause-ends : goal.returns-in-Some-given_twice-5-clause-ends
+returns-in-Some-given_twice-5-clause-ends g c =
+    Single
+    (Repeated c.in-Some-given_twice-5.name.now
+    (plan-imported_twice _ (import_seen c.in-Ok-Import.files) c.in-Some-given_twice-5.name.now (rw c.in-Ok-Import.field-0-is at c.in-Ok-Import.ensures.order) c.in-Some-given_twice-5.ensures)
+    c.refuse_twice-in-Some-given_twice-5.ensures.status c.refuse_twice-in-Some-given_twice-5.ensures.none c.refuse_twice-in-Some-given_twice-5.ensures.says refl refl c.refuse_twice-in-Some-given_twice-5.ensures.no_other)
+    c.refuse_twice-in-Some-given_twice-5.ensures.no_batch
+
+pub returns-in-None-given_twice-5-clause-ends : goal.returns-in-None-given_twice-5-clause-ends
+returns-in-None-given_twice-5-clause-ends g c =
+    Single
     (Imported (import_seen c.in-Ok-Import.files)
-    (plan-imports _ (import_seen c.in-Ok-Import.files) (rw c.in-Ok-Import.field-0-is at c.in-Ok-Import.ensures.order) c.in-None-given_twice-4.ensures)
+    (plan-imports _ (import_seen c.in-Ok-Import.files) (rw c.in-Ok-Import.field-0-is at c.in-Ok-Import.ensures.order) c.in-None-given_twice-5.ensures)
     (import-valued (map string_bytes c.args.words.now) (import_seen c.in-Ok-Import.files) (rw c.in-Ok-Import.field-0-is at c.in-Ok-Import.ensures.order))
-    (sym c.in-None-given_twice-4.ensures) c.import.ensures.ends c.import.ensures.no_other)
+    (sym c.in-None-given_twice-5.ensures) c.import.ensures.ends c.import.ensures.no_other)
     c.import.ensures.no_batch
 
 pub returns-in-Ok-Batch-clause-ends : goal.returns-in-Ok-Batch-clause-ends

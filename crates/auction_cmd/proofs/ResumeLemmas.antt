@@ -1,0 +1,429 @@
+-- What may be relied on of `resume` follows from how it ends, case by case: where its auction goes on, by what holds of a run.
+use Rattle.std.proofs.Common.{◌≡◌, ◌≢◌, ◌⊎◌, ◌<◌, ◌≤◌, ◌∙◌, ◌++◌, ℕ, true, false, inl, inr, List, [], ◌∷◌, length, refl, sym, ap, subst, arith, Option, Some, None}
+use Rattle.std.specs.Prelude.{Ok, Err, IsSome, IsTrue, MatchOption, MatchResult, Result, is_some, ⊤}
+use Rattle.std.proofs.lemmas.Bool.{true≢false}
+use Rattle.pack_defs.specs.Lists.{is_in}
+use Rattle.pack_defs.specs.declared.order.Order.{Order}
+use Rattle.outside_io.specs.Faults.{HasRisen}
+use Rattle.outside_io.specs.Files.{StoredFile, bytes_of}
+use Rattle.auction_core.specs.declared.prefix.Prefix.{Prefix}
+use Rattle.auction_core.specs.declared.record.Ending.TheVariants.{StartRefuted, StartUndecided}
+use Rattle.auction_core.specs.declared.record.Record.{Record}
+use Rattle.auction_core.specs.NotShown.{order_kept}
+use Rattle.auction_cmd.specs.declared.fault.TranscriptFault.{TranscriptFault}
+use Rattle.auction_cmd.specs.declared.inputs.Inputs.{Inputs}
+use Rattle.auction_cmd.specs.declared.inputs.Stop.TheVariants.{CannotRead, Refused}
+use Rattle.auction_cmd.specs.declared.refusal.Input.{Input}
+use Rattle.auction_cmd.specs.declared.refusal.Refusal.{Refusal}
+use Rattle.transcript_text.specs.Spelling.{transcript_text}
+use Rattle.auction_cmd.specs.Delivery.{AllOthersStand, AreStored, named}
+use Rattle.auction_cmd.specs.Ends.{AreHeld, Concludes, IsTextHeld, RunEnds, auction_texts}
+use Rattle.auction_cmd.specs.Ends.Concludes.{Unfit, StartOpen, Delivered}
+use Rattle.auction_cmd.specs.Ends.IsNotLoaded.{Unloaded, LongText}
+use Rattle.auction_cmd.specs.Ends.RunEnds.{Concluded}
+use Rattle.auction_cmd.specs.Ends.VerifyEnds.{VerifyStopped, VerifyStarved, NotLoaded}
+use Rattle.auction_cmd.specs.Inputs.{file_limit, inputs_of}
+use Rattle.auction_cmd.specs.Outside.{Outside, IsSaid}
+use Rattle.auction_cmd.specs.Promises.{IsSomeRecord}
+use Rattle.auction_cmd.specs.Records.{IsRecordIn, StartFits, StartUnfit}
+use Rattle.auction_cmd.specs.Refusals.{line_of, name_of}
+use Rattle.auction_cmd.specs.ResumeEnds.{ResumeEnds}
+use Rattle.auction_cmd.specs.ResumeEnds.ResumeEnds.{ResumeStopped, ResumeStarved, PrefixNotLoaded, NotBegun, WentOn}
+use Rattle.auction_cmd.specs.ResumePromises.{IsResumed, ResumePromises}
+use Rattle.auction_cmd.specs.Resumption.{GoesOnFrom, begun}
+use Rattle.auction_cmd.specs.Says.{long_line, memory_line, unread_line}
+use Rattle.auction_cmd.specs.Verified.{CanBeNamed, fault_line, verified}
+use Rattle.auction_cmd.specs.VerifyPromises.{AreAllThere, IsGiven, IsOr}
+use Rattle.auction_cmd.specs.Words.{ResumeNames, RunNames, begun_names, output_names}
+use Rattle.auction_cmd.proofs.Halts.{halted-held, not-both, same-inputs, stopped-memory, stopped-statuses}
+use Rattle.auction_cmd.proofs.DeliveryLemmas.{for-told}
+use Rattle.auction_cmd.proofs.ResumeCutLemmas.{cut-begun, verified-fits, whole-again}
+use Rattle.auction_cmd.proofs.ResumeEndLemmas.{no-verdict}
+use Rattle.auction_cmd.proofs.RunLemmas.{absent, run-backed, run-done, run-ended, run-others, run-untouched, run-unwritten, IsOnce}
+use Rattle.auction_cmd.proofs.RunPromiseLemmas.{run-promises}
+use Rattle.auction_cmd.proofs.StartLemmas.{at-end, run-complete, run-memory, run-unfits}
+use Rattle.auction_cmd.proofs.Statuses.{apart-lists, off, one-of, within}
+use Rattle.auction_cmd.proofs.VerifyEndLemmas.{is-given, no-text, not-long, same-text, unloaded-statuses}
+use Rattle.auction_cmd.proofs.VerifyReadings.{all-halted as text-halted, all-missing as text-missing, all-missing_transcript as text-missing_transcript, all-refuses_input as text-refuses_input, all-refuses_long as text-refuses_long, all-surely_read as text-surely_read, all-unread as text-unread, all-unread_says as text-unread_says}
+
+-- ---- two readings of one beginning
+
+-- two things that are given are one
+same-begun : (files : List StoredFile) (names : ResumeNames) (own inputs : Inputs) (t text : List ℕ) → IsGiven files (begun_names names) own t → IsGiven files (begun_names names) inputs text → begun own t ≡ begun inputs text
+same-begun files names own inputs t text a b =
+    let one : own ≡ inputs = same-inputs own inputs (sym a.accepted ∙ b.accepted) in
+    let other : t ≡ text = same-text t text (sym a.told ∙ b.told) in
+    ap (λ (i : Inputs). begun i t) one ∙ ap (λ z. begun inputs z) other
+
+-- what is gone on from isn't at fault
+not-both-begun : {X : Type 0} (kept : Prefix) (fault : TranscriptFault) (r : Result Prefix TranscriptFault) → r ≡ Ok kept → r ≡ Err fault → X
+not-both-begun kept fault r ok err = cc (sym ok ∙ err)
+
+some-same : (a b : Record) → Some a ≡ Some b → a ≡ b
+some-same a b e = cc
+
+-- what stands under the name of the transcript
+last-held : (order : Order) (old new : List StoredFile) (names : RunNames) (inputs : Inputs) (rec : Record) → AreStored old new (auction_texts order names inputs rec) → bytes_of new names.transcript ≡ Some (transcript_text inputs.scenario inputs.book rec)
+last-held order old new names inputs rec st = st.hold 2 (named [] []) (omega arith)
+
+module _ (names : ResumeNames) (before after : Outside) (status : ℕ) (found : Option Record) where
+  -- ---- an auction that went on
+
+  -- what was read, and how the auction concluded
+  record IsWent : Type 0 where
+    pub inputs : Inputs
+    pub text : List ℕ
+    pub kept : Prefix
+    pub rec : Record
+    pub held : AreHeld names.run_files.inputs before inputs
+    pub named : CanBeNamed inputs
+    pub told : IsTextHeld (begun_names names) before text
+    pub sound : begun inputs text ≡ Ok kept
+    pub goes : GoesOnFrom kept rec
+    pub concludes : Concludes (order_kept kept) names.run_files inputs rec before after status found
+
+  -- it ended as a run does
+  as-run : (w : IsWent) → RunEnds (order_kept w.kept) names.run_files before after status found
+  as-run w = Concluded w.inputs w.rec w.held w.concludes
+
+  concluded-statuses : (order : Order) (inputs : Inputs) (rec : Record) → Concludes order names.run_files inputs rec before after status found → IsTrue (is_in (0 ∷ 1 ∷ 4 ∷ 6 ∷ 7 ∷ 8 ∷ []) status)
+  concluded-statuses order inputs rec (Unfit of six kept said same) = one-of (0 ∷ 1 ∷ 4 ∷ 6 ∷ 7 ∷ 8 ∷ []) status 6 six refl
+  concluded-statuses order inputs rec (StartOpen of seven kept said same) = one-of (0 ∷ 1 ∷ 4 ∷ 6 ∷ 7 ∷ 8 ∷ []) status 7 seven refl
+  concluded-statuses order inputs rec (Delivered of can held kept d) =
+      within (0 ∷ 1 ∷ 4 ∷ 8 ∷ []) (0 ∷ 1 ∷ 4 ∷ 6 ∷ 7 ∷ 8 ∷ []) status refl (at-end order names.run_files before after status found inputs rec d)
+
+  concluded-found : (order : Order) (inputs : Inputs) (rec : Record) → Concludes order names.run_files inputs rec before after status found → found ≡ Some rec
+  concluded-found order inputs rec (Unfit of six kept said same) = kept
+  concluded-found order inputs rec (StartOpen of seven kept said same) = kept
+  concluded-found order inputs rec (Delivered of can held kept d) = kept
+
+  went-statuses : (w : IsWent) → IsTrue (is_in (0 ∷ 1 ∷ 4 ∷ 6 ∷ 7 ∷ 8 ∷ []) status)
+  went-statuses w = concluded-statuses (order_kept w.kept) w.inputs w.rec w.concludes
+
+  went-found : (w : IsWent) → found ≡ Some w.rec
+  went-found w = concluded-found (order_kept w.kept) w.inputs w.rec w.concludes
+
+  went-given : (files : List StoredFile) (w : IsWent) → before.files ≡ Some files → IsGiven files (begun_names names) w.inputs w.text
+  went-given files w told = is-given files (begun_names names) before w.inputs w.text told w.held w.told
+
+  -- ---- how far it came
+
+  -- it stopped before; the beginning is at fault; or the auction went on
+  data Way : Type 0 where
+    Short : IsTrue (is_in (3 ∷ 5 ∷ 8 ∷ []) status) → found ≡ None → after.files ≡ before.files → Way
+    Denied : status ≡ 9 → found ≡ None → after.files ≡ before.files → Way
+    On : IsWent → Way
+
+  way : ResumeEnds names before after status found → Way
+  way (ResumeStopped s none) = Short (stopped-statuses names.run_files.inputs before after status s) none s.files
+  way (ResumeStarved s) = Short (one-of (3 ∷ 5 ∷ 8 ∷ []) status 8 s.status_is refl) s.found_is s.files
+  way (PrefixNotLoaded inputs are n none same) = Short (within (3 ∷ 5 ∷ []) (3 ∷ 5 ∷ 8 ∷ []) status refl (unloaded-statuses names.prefix before after status n)) none same
+  way (NotBegun inputs text fault are can held is nine none said same) = Denied nine none same
+  way (WentOn inputs text kept rec are can held is goes c) =
+      On (record { inputs = inputs; text = text; kept = kept; rec = rec; held = are; named = can; told = held; sound = is; goes = goes; concludes = c })
+
+  no-record : {X : Type 0} → found ≡ None → IsSome found → X
+  no-record none some = absurd (true≢false (sym some ∙ ap is_some none))
+
+  -- where there is a record the auction went on, and so it did at these statuses
+  by-record : ResumeEnds names before after status found → IsSome found → IsWent
+  by-record end some = go (way end)
+    where
+      go : Way → IsWent
+      go (Short s none same) = no-record none some
+      go (Denied nine none same) = no-record none some
+      go (On w) = w
+
+  went : ResumeEnds names before after status found → IsTrue (is_in (0 ∷ 1 ∷ 4 ∷ 6 ∷ 7 ∷ []) status) → IsWent
+  went end h = go (way end)
+    where
+      go : Way → IsWent
+      go (Short s none same) = absurd (apart-lists (0 ∷ 1 ∷ 4 ∷ 6 ∷ 7 ∷ []) (3 ∷ 5 ∷ 8 ∷ []) status refl h s)
+      go (Denied nine none same) = absurd (off (0 ∷ 1 ∷ 4 ∷ 6 ∷ 7 ∷ []) status 9 h nine refl)
+      go (On w) = w
+
+  at-one : (n : ℕ) → ResumeEnds names before after status found → status ≡ n → IsTrue (is_in (0 ∷ 1 ∷ 4 ∷ 6 ∷ 7 ∷ []) n) → IsWent
+  at-one n end is h = went end (one-of (0 ∷ 1 ∷ 4 ∷ 6 ∷ 7 ∷ []) status n is h)
+
+  all-statuses : ResumeEnds names before after status found → IsTrue (is_in (0 ∷ 1 ∷ 3 ∷ 4 ∷ 5 ∷ 6 ∷ 7 ∷ 8 ∷ 9 ∷ []) status)
+  all-statuses end = go (way end)
+    where
+      go : Way → IsTrue (is_in (0 ∷ 1 ∷ 3 ∷ 4 ∷ 5 ∷ 6 ∷ 7 ∷ 8 ∷ 9 ∷ []) status)
+      go (Short s none same) = within (3 ∷ 5 ∷ 8 ∷ []) (0 ∷ 1 ∷ 3 ∷ 4 ∷ 5 ∷ 6 ∷ 7 ∷ 8 ∷ 9 ∷ []) status refl s
+      go (Denied nine none same) = one-of (0 ∷ 1 ∷ 3 ∷ 4 ∷ 5 ∷ 6 ∷ 7 ∷ 8 ∷ 9 ∷ []) status 9 nine refl
+      go (On w) = within (0 ∷ 1 ∷ 4 ∷ 6 ∷ 7 ∷ 8 ∷ []) (0 ∷ 1 ∷ 3 ∷ 4 ∷ 5 ∷ 6 ∷ 7 ∷ 8 ∷ 9 ∷ []) status refl (went-statuses w)
+
+  -- ---- the record
+
+  all-recorded : ResumeEnds names before after status found → IsTrue (is_in (0 ∷ 1 ∷ 4 ∷ 6 ∷ 7 ∷ []) status) → IsSome found
+  all-recorded end h = subst IsSome (sym (went-found (went end h))) refl
+
+  all-backed : ResumeEnds names before after status found → MatchOption found ⊤ IsSomeRecord
+  all-backed end = go (way end)
+    where
+      go : Way → MatchOption found ⊤ IsSomeRecord
+      go (Short s none same) = absent found none
+      go (Denied nine none same) = absent found none
+      go (On w) = run-backed (order_kept w.kept) names.run_files before after status found (as-run w)
+
+  all-unrecorded : ResumeEnds names before after status found → IsTrue (is_in (3 ∷ 5 ∷ 9 ∷ []) status) → found ≡ None
+  all-unrecorded end h = go (way end)
+    where
+      go : Way → found ≡ None
+      go (Short s none same) = none
+      go (Denied nine none same) = none
+      go (On w) = absurd (apart-lists (3 ∷ 5 ∷ 9 ∷ []) (0 ∷ 1 ∷ 4 ∷ 6 ∷ 7 ∷ 8 ∷ []) status refl h (went-statuses w))
+
+  -- ---- an auction that ended at its start
+
+  unstarted : (order : Order) (inputs : Inputs) (text : List ℕ) (kept : Prefix) (rec : Record) → begun inputs text ≡ Ok kept → GoesOnFrom kept rec → Concludes order names.run_files inputs rec before after status found →
+      IsTrue (is_in (6 ∷ 7 ∷ []) status) → kept.start ≡ None
+  unstarted order inputs text kept rec is goes (Unfit of six some said same) h = no-verdict inputs text kept rec order StartRefuted is goes of.backed of.ending (λ e. cc)
+  unstarted order inputs text kept rec is goes (StartOpen of seven some said same) h = no-verdict inputs text kept rec order StartUndecided is goes of.backed of.ending (λ e. cc)
+  unstarted order inputs text kept rec is goes (Delivered of can held some d) h =
+      absurd (apart-lists (6 ∷ 7 ∷ []) (0 ∷ 1 ∷ 4 ∷ 8 ∷ []) status refl h (at-end order names.run_files before after status found inputs rec d))
+
+  went-unstarted : (w : IsWent) → IsTrue (is_in (6 ∷ 7 ∷ []) status) → w.kept.start ≡ None
+  went-unstarted w h = unstarted (order_kept w.kept) w.inputs w.text w.kept w.rec w.sound w.goes w.concludes h
+
+  -- so it was resumed
+  as-resumed : IsOnce names.run_files found → IsWent → IsResumed names before after status found
+  as-resumed once w = record {
+    inputs = w.inputs;
+    accepted = w.held;
+    text = w.text;
+    held = w.told;
+    kept = w.kept;
+    sound = w.sound;
+    rec = w.rec;
+    recorded = went-found w;
+    goes_on = w.goes;
+    as_run = run-promises (order_kept w.kept) names.run_files before after status found (as-run w) once;
+    unstarted = went-unstarted w;
+  }
+
+  -- ---- a beginning that is given
+
+  -- it stopped for want of memory or by a fault of the outside; the beginning is at fault; or the auction went on
+  data GivenWay (inputs : Inputs) (text : List ℕ) : Type 0 where
+    Failed : ((n : ℕ) → IsOr n before status) → GivenWay inputs text
+    AtFault : (fault : TranscriptFault) → begun inputs text ≡ Err fault → status ≡ 9 → GivenWay inputs text
+    GoneOn : IsWent → GivenWay inputs text
+
+  given-way : (files : List StoredFile) (inputs : Inputs) (text : List ℕ) → ResumeEnds names before after status found → before.files ≡ Some files → IsGiven files (begun_names names) inputs text → GivenWay inputs text
+  given-way files inputs text (ResumeStopped s none) told g = Failed (λ n. halted-held names.run_files.inputs before after status n files inputs s told g.accepted)
+  given-way files inputs text (ResumeStarved s) told g = Failed (λ n. inr (inl s.status_is))
+  given-way files inputs text (PrefixNotLoaded own are (Unloaded three rises gone said) none same) told g = Failed (λ n. inr (inr (three, λ steady. no-text text (bytes_of files names.prefix) (gone files told steady) g.told)))
+  given-way files inputs text (PrefixNotLoaded own are (LongText five long said) none same) told g =
+      let (bytes, is, more) = long files told in
+      absurd (not-long files (begun_names names) inputs text bytes g is more)
+  given-way files inputs text (NotBegun own t fault are can held is nine none said same) told g =
+      AtFault fault (sym (same-begun files names own inputs t text (is-given files (begun_names names) before own t told are held) g) ∙ is) nine
+  given-way files inputs text (WentOn own t kept rec are can held is goes c) told g =
+      GoneOn (record { inputs = own; text = t; kept = kept; rec = rec; held = are; named = can; told = held; sound = is; goes = goes; concludes = c })
+
+  -- what went on is what is given
+  went-same : (files : List StoredFile) (inputs : Inputs) (text : List ℕ) (w : IsWent) → before.files ≡ Some files → IsGiven files (begun_names names) inputs text → begun w.inputs w.text ≡ begun inputs text
+  went-same files inputs text w told g = same-begun files names w.inputs inputs w.text text (went-given files w told) g
+
+  all-unfits : (files : List StoredFile) (inputs : Inputs) (text : List ℕ) (kept : Prefix) → ResumeEnds names before after status found → before.files ≡ Some files → IsGiven files (begun_names names) inputs text → begun inputs text ≡ Ok kept → StartUnfit inputs →
+      IsOr 6 before status ⊎ (status ≡ 7)
+  all-unfits files inputs text kept end told g ok unfit = go (given-way files inputs text end told g)
+    where
+      go : GivenWay inputs text → IsOr 6 before status ⊎ (status ≡ 7)
+      go (Failed f) = inl (f 6)
+      go (AtFault fault err nine) = not-both-begun kept fault (begun inputs text) ok err
+      go (GoneOn w) = run-unfits (order_kept w.kept) names.run_files before after status found files inputs (as-run w) told g.accepted unfit
+
+  all-refuses : (files : List StoredFile) (inputs : Inputs) (text : List ℕ) (fault : TranscriptFault) → ResumeEnds names before after status found → before.files ≡ Some files → IsGiven files (begun_names names) inputs text → begun inputs text ≡ Err fault →
+      IsOr 9 before status
+  all-refuses files inputs text fault end told g err = go (given-way files inputs text end told g)
+    where
+      go : GivenWay inputs text → IsOr 9 before status
+      go (Failed f) = f 9
+      go (AtFault own is nine) = inl nine
+      go (GoneOn w) = not-both-begun w.kept fault (begun w.inputs w.text) w.sound (went-same files inputs text w told g ∙ err)
+
+  all-complete : (files : List StoredFile) (inputs : Inputs) (text : List ℕ) (kept : Prefix) → ResumeEnds names before after status found → before.files ≡ Some files → IsGiven files (begun_names names) inputs text → begun inputs text ≡ Ok kept → StartFits inputs →
+      IsOr 0 before status ⊎ IsTrue (is_in (1 ∷ 4 ∷ 7 ∷ []) status)
+  all-complete files inputs text kept end told g ok fit = go (given-way files inputs text end told g)
+    where
+      go : GivenWay inputs text → IsOr 0 before status ⊎ IsTrue (is_in (1 ∷ 4 ∷ 7 ∷ []) status)
+      go (Failed f) = inl (f 0)
+      go (AtFault fault err nine) = not-both-begun kept fault (begun inputs text) ok err
+      go (GoneOn w) = run-complete (order_kept w.kept) names.run_files before after status found files inputs (as-run w) told g.accepted fit
+
+  -- what any sound transcript begins with
+  all-any_cut : (files : List StoredFile) (inputs : Inputs) (text behind : List ℕ) (rec : Record) → ResumeEnds names before after status found → before.files ≡ Some files → IsGiven files (begun_names names) inputs text → verified inputs (text ++ behind) ≡ Ok rec →
+      IsOr 0 before status ⊎ IsTrue (is_in (1 ∷ 4 ∷ 7 ∷ []) status)
+  all-any_cut files inputs text behind rec end told g e = go (given-way files inputs text end told g)
+    where
+      cut : (kept : Prefix) × (begun inputs text ≡ Ok kept)
+      cut = cut-begun inputs text behind rec e
+
+      go : GivenWay inputs text → IsOr 0 before status ⊎ IsTrue (is_in (1 ∷ 4 ∷ 7 ∷ []) status)
+      go (Failed f) = inl (f 0)
+      go (AtFault fault err nine) = not-both-begun cut.0 fault (begun inputs text) cut.1 err
+      go (GoneOn w) =
+          let one : w.inputs ≡ inputs = same-inputs w.inputs inputs (sym (w.held files told) ∙ g.accepted) in
+          let fit : StartFits inputs = verified-fits files names.run_files.inputs inputs (text ++ behind) rec g.accepted (subst CanBeNamed one w.named) e in
+          run-complete (order_kept w.kept) names.run_files before after status found files inputs (as-run w) told g.accepted fit
+
+  -- a whole sound transcript
+  all-whole : (files : List StoredFile) (inputs : Inputs) (text : List ℕ) (rec : Record) → ResumeEnds names before after status found → IsOnce names.run_files found → before.files ≡ Some files → IsGiven files (begun_names names) inputs text → verified inputs text ≡ Ok rec →
+      IsTrue (is_in (0 ∷ 1 ∷ []) status) → (found ≡ Some rec) × MatchOption after.files ⊥ (λ new. bytes_of new names.run_files.transcript ≡ Some text)
+  all-whole files inputs text rec end once told g e h =
+      let w = went end (within (0 ∷ 1 ∷ []) (0 ∷ 1 ∷ 4 ∷ 6 ∷ 7 ∷ []) status refl h) in
+      let d = run-done (order_kept w.kept) names.run_files before after status found files (as-run w) once told h in
+      let one : inputs ≡ d.inputs = same-inputs inputs d.inputs (sym g.accepted ∙ d.accepted) in
+      let goes : GoesOnFrom w.kept d.rec = subst (λ r. GoesOnFrom w.kept r) (some-same w.rec d.rec (sym (went-found w) ∙ d.recorded)) w.goes in
+      let can : CanBeNamed d.inputs = subst CanBeNamed (same-inputs w.inputs d.inputs (sym (w.held files told) ∙ d.accepted)) w.named in
+      let ok : begun inputs text ≡ Ok w.kept = sym (went-same files inputs text w told g) ∙ w.sound in
+      let again = whole-again files names.run_files.inputs d.inputs text rec w.kept d.rec d.accepted can
+      (subst (λ (i : Inputs). verified i text ≡ Ok rec) one e)
+      (subst (λ (i : Inputs). begun i text ≡ Ok w.kept) one ok) goes
+      (subst (λ o. IsRecordIn o d.inputs d.rec) (sym goes.order) d.auction) in (
+        d.recorded ∙ ap Some again.0,
+        for-told after.files (λ new. AreStored files new (auction_texts (order_kept w.kept) names.run_files d.inputs d.rec)) (λ new. bytes_of new names.run_files.transcript ≡ Some text)
+            (λ new st. last-held (order_kept w.kept) files new names.run_files d.inputs d.rec st ∙ ap Some again.1) d.stored,
+      )
+
+  all-refused : (files : List StoredFile) → ResumeEnds names before after status found → before.files ≡ Some files → status ≡ 9 →
+      (inputs : Inputs) × (text : List ℕ) × IsGiven files (begun_names names) inputs text × (fault : TranscriptFault) × (begun inputs text ≡ Err fault) × IsSaid before after (fault_line names.prefix fault)
+  all-refused files (ResumeStopped s none) told nine = absurd (off (3 ∷ 5 ∷ 8 ∷ []) status 9 (stopped-statuses names.run_files.inputs before after status s) nine refl)
+  all-refused files (ResumeStarved s) told nine = let eight = s.status_is in absurd (omega arith)
+  all-refused files (PrefixNotLoaded inputs are n none same) told nine = absurd (off (3 ∷ 5 ∷ []) status 9 (unloaded-statuses names.prefix before after status n) nine refl)
+  all-refused files (NotBegun inputs text fault are can held is is_nine none said same) told nine = (inputs, text, is-given files (begun_names names) before inputs text told are held, fault, is, said)
+  all-refused files (WentOn inputs text kept rec are can held is goes c) told nine = absurd (off (0 ∷ 1 ∷ 4 ∷ 6 ∷ 7 ∷ 8 ∷ []) status 9 (concluded-statuses (order_kept kept) inputs rec c) nine refl)
+
+  -- ---- what was not read
+
+  concluded-off : {X : Type 0} (order : Order) (inputs : Inputs) (rec : Record) (n : ℕ) → Concludes order names.run_files inputs rec before after status found → status ≡ n → is_in (0 ∷ 1 ∷ 4 ∷ 6 ∷ 7 ∷ 8 ∷ []) n ≡ false → X
+  concluded-off order inputs rec n c is out = absurd (off (0 ∷ 1 ∷ 4 ∷ 6 ∷ 7 ∷ 8 ∷ []) status n (concluded-statuses order inputs rec c) is out)
+
+  all-halted : (files : List StoredFile) → ResumeEnds names before after status found → before.files ≡ Some files → status ≡ 5 →
+      ((why : Refusal) × (inputs_of files names.run_files.inputs ≡ Err (Refused why)) × IsSaid before after (line_of names.run_files.inputs why))
+      ⊎ ((inputs : Inputs) × (inputs_of files names.run_files.inputs ≡ Ok inputs) × (bytes : List ℕ) × (bytes_of files names.prefix ≡ Some bytes)
+      × (file_limit < length bytes) × IsSaid before after (long_line names.prefix))
+  all-halted files (ResumeStopped s none) told five = text-halted (begun_names names) before after status found files (VerifyStopped s none) told five
+  all-halted files (ResumeStarved s) told five = text-halted (begun_names names) before after status found files (VerifyStarved s) told five
+  all-halted files (PrefixNotLoaded inputs are n none same) told five = text-halted (begun_names names) before after status found files (NotLoaded inputs are n none same) told five
+  all-halted files (NotBegun inputs text fault are can held is nine none said same) told five = absurd (omega arith)
+  all-halted files (WentOn inputs text kept rec are can held is goes c) told five = concluded-off (order_kept kept) inputs rec 5 c five refl
+
+  all-refuses_input : (files : List StoredFile) (why : Refusal) → ResumeEnds names before after status found → before.files ≡ Some files → inputs_of files names.run_files.inputs ≡ Err (Refused why) → IsOr 5 before status
+  all-refuses_input files why (ResumeStopped s none) told err = text-refuses_input (begun_names names) before after status found files why (VerifyStopped s none) told err
+  all-refuses_input files why (ResumeStarved s) told err = inr (inl s.status_is)
+  all-refuses_input files why (PrefixNotLoaded inputs are n none same) told err = absurd (not-both inputs (Refused why) (sym (are files told) ∙ err))
+  all-refuses_input files why (NotBegun inputs text fault are can held is nine none said same) told err = absurd (not-both inputs (Refused why) (sym (are files told) ∙ err))
+  all-refuses_input files why (WentOn inputs text kept rec are can held is goes c) told err = absurd (not-both inputs (Refused why) (sym (are files told) ∙ err))
+
+  all-refuses_long : (files : List StoredFile) (inputs : Inputs) (bytes : List ℕ) → ResumeEnds names before after status found → before.files ≡ Some files → inputs_of files names.run_files.inputs ≡ Ok inputs → bytes_of files names.prefix ≡ Some bytes →
+      file_limit < length bytes → IsOr 5 before status
+  all-refuses_long files inputs bytes (ResumeStopped s none) told ok is more = text-refuses_long (begun_names names) before after status found files inputs bytes (VerifyStopped s none) told ok is more
+  all-refuses_long files inputs bytes (ResumeStarved s) told ok is more = inr (inl s.status_is)
+  all-refuses_long files inputs bytes (PrefixNotLoaded own are n none same) told ok is more = text-refuses_long (begun_names names) before after status found files inputs bytes (NotLoaded own are n none same) told ok is more
+  all-refuses_long files inputs bytes (NotBegun own t fault are can held err nine none said same) told ok is more =
+      absurd (not-long files (begun_names names) own t bytes (is-given files (begun_names names) before own t told are held) is more)
+  all-refuses_long files inputs bytes (WentOn own t kept rec are can held sound goes c) told ok is more =
+      absurd (not-long files (begun_names names) own t bytes (is-given files (begun_names names) before own t told are held) is more)
+
+  all-unread : ResumeEnds names before after status found → status ≡ 3 → HasRisen before.faults after.faults
+  all-unread (ResumeStopped s none) three = text-unread (begun_names names) before after status found (VerifyStopped s none) three
+  all-unread (ResumeStarved s) three = text-unread (begun_names names) before after status found (VerifyStarved s) three
+  all-unread (PrefixNotLoaded inputs are n none same) three = text-unread (begun_names names) before after status found (NotLoaded inputs are n none same) three
+  all-unread (NotBegun inputs text fault are can held is nine none said same) three = absurd (omega arith)
+  all-unread (WentOn inputs text kept rec are can held is goes c) three = concluded-off (order_kept kept) inputs rec 3 c three refl
+
+  all-unread_says : ResumeEnds names before after status found → status ≡ 3 →
+      ((input : Input) × IsSaid before after (unread_line (name_of names.run_files.inputs input))) ⊎ IsSaid before after (unread_line names.prefix)
+  all-unread_says (ResumeStopped s none) three = text-unread_says (begun_names names) before after status found (VerifyStopped s none) three
+  all-unread_says (ResumeStarved s) three = text-unread_says (begun_names names) before after status found (VerifyStarved s) three
+  all-unread_says (PrefixNotLoaded inputs are n none same) three = text-unread_says (begun_names names) before after status found (NotLoaded inputs are n none same) three
+  all-unread_says (NotBegun inputs text fault are can held is nine none said same) three = absurd (omega arith)
+  all-unread_says (WentOn inputs text kept rec are can held is goes c) three = concluded-off (order_kept kept) inputs rec 3 c three refl
+
+  all-surely_read : (files : List StoredFile) → ResumeEnds names before after status found → before.files ≡ Some files → before.steady ≡ true → AreAllThere files (begun_names names) → status ≢ 3
+  all-surely_read files (ResumeStopped s none) told steady there = text-surely_read (begun_names names) before after status found files (VerifyStopped s none) told steady there
+  all-surely_read files (ResumeStarved s) told steady there = text-surely_read (begun_names names) before after status found files (VerifyStarved s) told steady there
+  all-surely_read files (PrefixNotLoaded inputs are n none same) told steady there = text-surely_read (begun_names names) before after status found files (NotLoaded inputs are n none same) told steady there
+  all-surely_read files (NotBegun inputs text fault are can held is nine none said same) told steady there = λ three. omega arith
+  all-surely_read files (WentOn inputs text kept rec are can held is goes c) told steady there = λ three. concluded-off (order_kept kept) inputs rec 3 c three refl
+
+  all-missing : (files : List StoredFile) (input : Input) → ResumeEnds names before after status found → before.files ≡ Some files → before.steady ≡ true → inputs_of files names.run_files.inputs ≡ Err (CannotRead input) →
+      (status ≡ 8) ⊎ ((status ≡ 3) × IsSaid before after (unread_line (name_of names.run_files.inputs input)))
+  all-missing files input (ResumeStopped s none) told steady err = text-missing (begun_names names) before after status found files input (VerifyStopped s none) told steady err
+  all-missing files input (ResumeStarved s) told steady err = inl s.status_is
+  all-missing files input (PrefixNotLoaded inputs are n none same) told steady err = absurd (not-both inputs (CannotRead input) (sym (are files told) ∙ err))
+  all-missing files input (NotBegun inputs text fault are can held is nine none said same) told steady err = absurd (not-both inputs (CannotRead input) (sym (are files told) ∙ err))
+  all-missing files input (WentOn inputs text kept rec are can held is goes c) told steady err = absurd (not-both inputs (CannotRead input) (sym (are files told) ∙ err))
+
+  all-missing_prefix : (files : List StoredFile) (inputs : Inputs) → ResumeEnds names before after status found → before.files ≡ Some files → before.steady ≡ true → inputs_of files names.run_files.inputs ≡ Ok inputs →
+      bytes_of files names.prefix ≡ None → (status ≡ 8) ⊎ ((status ≡ 3) × IsSaid before after (unread_line names.prefix))
+  all-missing_prefix files inputs (ResumeStopped s none) told steady ok gone = text-missing_transcript (begun_names names) before after status found files inputs (VerifyStopped s none) told steady ok gone
+  all-missing_prefix files inputs (ResumeStarved s) told steady ok gone = inl s.status_is
+  all-missing_prefix files inputs (PrefixNotLoaded own are n none same) told steady ok gone = text-missing_transcript (begun_names names) before after status found files inputs (NotLoaded own are n none same) told steady ok gone
+  all-missing_prefix files inputs (NotBegun own t fault are can held is nine none said same) told steady ok gone = absurd (no-text t (bytes_of files names.prefix) gone (held files told).0)
+  all-missing_prefix files inputs (WentOn own t kept rec are can held is goes c) told steady ok gone = absurd (no-text t (bytes_of files names.prefix) gone (held files told).0)
+
+  -- ---- what was not written, and what stands
+
+  all-unwritten : ResumeEnds names before after status found → status ≡ 4 → HasRisen before.faults after.faults ⊎ HasRisen before.cuts after.cuts
+  all-unwritten end four = let w = at-one 4 end four refl in run-unwritten (order_kept w.kept) names.run_files before after status found (as-run w) four
+
+  stand : (files : List StoredFile) → before.files ≡ Some files → after.files ≡ before.files → MatchOption after.files ⊥ (λ new. AllOthersStand files new (output_names names.run_files))
+  stand files told same = rw (same ∙ told) (λ other ne. refl)
+
+  all-others : (files : List StoredFile) → ResumeEnds names before after status found → IsOnce names.run_files found → before.files ≡ Some files → MatchOption after.files ⊥ (λ new. AllOthersStand files new (output_names names.run_files))
+  all-others files end once told = go (way end)
+    where
+      go : Way → MatchOption after.files ⊥ (λ new. AllOthersStand files new (output_names names.run_files))
+      go (Short s none same) = stand files told same
+      go (Denied nine none same) = stand files told same
+      go (On w) = run-others (order_kept w.kept) names.run_files before after status found files (as-run w) once told
+
+  all-untouched : ResumeEnds names before after status found → found ≡ None → after.files ≡ before.files
+  all-untouched end none = go (way end)
+    where
+      go : Way → after.files ≡ before.files
+      go (Short s gone same) = same
+      go (Denied nine gone same) = same
+      go (On w) = run-untouched (order_kept w.kept) names.run_files before after status found (as-run w) none
+
+  all-ended : ResumeEnds names before after status found → IsTrue (is_in (6 ∷ 7 ∷ []) status) → after.files ≡ before.files
+  all-ended end h = let w = went end (within (6 ∷ 7 ∷ []) (0 ∷ 1 ∷ 4 ∷ 6 ∷ 7 ∷ []) status refl h) in run-ended (order_kept w.kept) names.run_files before after status found (as-run w) h
+
+  all-memory : ResumeEnds names before after status found → status ≡ 8 → IsSaid before after memory_line
+  all-memory (ResumeStopped s none) eight = stopped-memory names.run_files.inputs before after status s eight
+  all-memory (ResumeStarved s) eight = s.line
+  all-memory (PrefixNotLoaded inputs are n none same) eight = absurd (off (3 ∷ 5 ∷ []) status 8 (unloaded-statuses names.prefix before after status n) eight refl)
+  all-memory (NotBegun inputs text fault are can held is nine none said same) eight = absurd (omega arith)
+  all-memory (WentOn inputs text kept rec are can held is goes c) eight = run-memory (order_kept kept) names.run_files before after status found (Concluded inputs rec are c) eight
+
+pub resume-promises : (names : ResumeNames) (before after : Outside) (status : ℕ) (found : Option Record) → ResumeEnds names before after status found → IsOnce names.run_files found → ResumePromises names before after status found
+resume-promises names before after status found end once = record {
+  statuses = all-statuses names before after status found end;
+  resumed = λ some. as-resumed names before after status found once (by-record names before after status found end some);
+  recorded = λ h. all-recorded names before after status found end h;
+  backed = all-backed names before after status found end;
+  unrecorded = λ h. all-unrecorded names before after status found end h;
+  unfits = λ files inputs text kept told g ok unfit. all-unfits names before after status found files inputs text kept end told g ok unfit;
+  refused = λ files told nine. all-refused names before after status found files end told nine;
+  refuses = λ files inputs text fault told g err. all-refuses names before after status found files inputs text fault end told g err;
+  complete = λ files inputs text kept told g ok fit. all-complete names before after status found files inputs text kept end told g ok fit;
+  any_cut = λ files inputs text behind rec told g e. all-any_cut names before after status found files inputs text behind rec end told g e;
+  whole = λ files inputs text rec told g e h. all-whole names before after status found files inputs text rec end once told g e h;
+  halted = λ files told five. all-halted names before after status found files end told five;
+  refuses_input = λ files why told err. all-refuses_input names before after status found files why end told err;
+  refuses_long = λ files inputs bytes told ok is more. all-refuses_long names before after status found files inputs bytes end told ok is more;
+  unread = λ three. all-unread names before after status found end three;
+  unread_says = λ three. all-unread_says names before after status found end three;
+  surely_read = λ files told steady there. all-surely_read names before after status found files end told steady there;
+  missing = λ files input told steady err. all-missing names before after status found files input end told steady err;
+  missing_prefix = λ files inputs told steady ok gone. all-missing_prefix names before after status found files inputs end told steady ok gone;
+  unwritten = λ four. all-unwritten names before after status found end four;
+  others = λ files told. all-others names before after status found files end once told;
+  untouched = λ none. all-untouched names before after status found end none;
+  unfit_untouched = λ h. all-ended names before after status found end h;
+  memory = λ eight. all-memory names before after status found end eight;
+}

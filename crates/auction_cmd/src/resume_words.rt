@@ -1,0 +1,89 @@
+//! The words of `resume`: the files of a run, and the beginning of a transcript that it goes on from.
+
+ghost use Rattle.std.specs.Prelude.{◌≡◌, IfOk, codes, false, option_map};
+ghost use Rattle.clap.specs.Words.{app_of, found_of, rows_of, rule_of};
+ghost use Rattle.clap.specs.declared.builder.command.Command.TheViews.{out-Command};
+ghost use Rattle.auction_cmd.specs.Words.{is_repeated_among, repeated_resume, required_rule, resume_app, resume_names, resume_seen, resumed_names};
+
+use crate::words::{
+    RunArgs, channels_name, input_args, input_command, required, result_name, run_args, times_in,
+    transcript_name, value_of,
+};
+use clap::{Arg, ArgMatches, Command};
+use std::alloc::{AllocError, Global};
+
+/// The arguments of `resume`, as they are given.
+#[derive(Clone, Copy, Debug, PartialEq, Eq)]
+pub struct ResumeArgs<'a> {
+    /// The input files, and those for the three texts.
+    pub run_files: RunArgs<'a>,
+    /// The file of the beginning of a transcript.
+    pub prefix: &'a str,
+}
+
+impl<'a> ResumeArgs<'a> {
+    /// The first name of a file to store, in the order of the arguments, that equals another name given. Names are compared
+    /// byte by byte, so `a` and `./a` differ. Two names of files to read may be equal.
+    #[tactic(auto, unfolding(crate::specs::Words::repeated_resume))]
+    pub fn given_twice(&self) -> Option<&'a str>
+        ensures { option_map (λ name. name.now) result ≡ repeated_resume (resume_seen self.now) }
+    {
+        let files = self.run_files;
+        if self.is_repeated(files.result) {
+            Some(files.result)
+        } else if self.is_repeated(files.channels) {
+            Some(files.channels)
+        } else if self.is_repeated(files.transcript) {
+            Some(files.transcript)
+        } else {
+            None
+        }
+    }
+
+    // Whether this name is given more than once.
+    fn is_repeated(&self, name: &str) -> bool
+        ensures { result ≡ is_repeated_among (resumed_names (resume_seen self.now)) name.now }
+    {
+        let files = self.run_files;
+        let inputs = files.inputs;
+        let given = [
+            files.result,
+            files.channels,
+            files.transcript,
+            inputs.domains,
+            inputs.rows,
+            inputs.scenario,
+            self.prefix,
+        ];
+        times_in(&given, name) > 1
+    }
+}
+
+// The name of the file of a transcript's beginning.
+fn prefix_name<'a>(alloc: Global) -> Arg<'a>
+    ensures rule { rule_of result ≡ required_rule (codes "PREFIX") }
+    ensures local { result.global ≡ false }
+{
+    let help = "The beginning of a transcript of these inputs, cut anywhere";
+    required(alloc, "PREFIX", help)
+}
+
+pub(crate) fn resume_command<'a>(alloc: Global) -> Result<Command<'a>, AllocError>
+    ensures app { IfOk result (λ c. app_of c ≡ resume_app) }
+    ensures local { IfOk result (λ c. (out-Command c).has_globals ≡ false) }
+{
+    let about = "Goes on with an auction from the beginning of its transcript";
+    input_command(alloc, "resume", about)?
+        .arg(prefix_name(alloc))?
+        .arg(result_name(alloc))?
+        .arg(channels_name(alloc))?
+        .arg(transcript_name(alloc))
+}
+
+pub(crate) fn resume_args<'a>(matches: &ArgMatches<'a>) -> Option<ResumeArgs<'a>>
+    ensures { option_map resume_seen result ≡ resume_names (rows_of (found_of matches.now)) }
+{
+    let run_files = run_args(matches, input_args(matches)?)?;
+    let prefix = value_of(matches, "PREFIX")?;
+    Some(ResumeArgs { run_files, prefix })
+}
