@@ -5,27 +5,31 @@ where they are no command, and an output name that is given twice is told exactl
 that the status is one that the command may end with, that what is printed is a line of that status with the right file's
 name, that nothing is stored where nothing may be, and that what is printed and stored at status 0 and 1 agrees with itself.
 Whether a file is rightly refused, or a result is the clock rule's, isn't looked at; but the list of a batch is read here, as it
-is described, so that it is refused exactly where it has to be.
+is described, so that it is refused exactly where it has to be. Of a beginning it is looked at what is whole of it, where it is
+taken: what is stored has to begin with that.
 """
 import itertools
 import json
 import os
 import re
 
+from beginnings import Kept
+
 # The statuses that each command may end with, but for 2, which is of the words, and 8: there is memory enough.
 STATUSES = {
     "run": {0, 1, 3, 4, 5, 6, 7}, "live": {0, 1, 3, 4, 5, 6, 7}, "check": {0, 3, 5}, "verify": {0, 1, 3, 5, 9},
-    "verify-live": {0, 1, 3, 5, 9}, "seek": {0, 1, 3, 4, 5, 6, 7}, "make": {0, 1, 4, 5}, "batch": {0, 1, 3, 4, 5, 11},
+    "verify-live": {0, 1, 3, 5, 9}, "resume": {0, 1, 3, 4, 5, 6, 7, 9}, "seek": {0, 1, 3, 4, 5, 6, 7}, "make": {0, 1, 4, 5},
+    "batch": {0, 1, 3, 4, 5, 11},
 }
 # The inputs of each command, in the order of their names, and how many outputs stand behind them; of `make` behind two numbers.
 # Those of a batch stand in its list.
 AUCTION = ("domains", "rows", "scenario")
 INPUTS = {
     "run": AUCTION, "live": (*AUCTION, "owners"), "check": AUCTION, "verify": (*AUCTION, "transcript"),
-    "verify-live": (*AUCTION, "owners", "transcript"), "seek": AUCTION, "make": (),
+    "verify-live": (*AUCTION, "owners", "transcript"), "resume": (*AUCTION, "prefix"), "seek": AUCTION, "make": (),
     "batch": ("domains", "rows", "list"),
 }
-OUTPUTS = {"run": 3, "live": 3, "check": 0, "verify": 0, "verify-live": 0, "seek": 1, "make": 3, "batch": 0}
+OUTPUTS = {"run": 3, "live": 3, "check": 0, "verify": 0, "verify-live": 0, "resume": 3, "seek": 1, "make": 3, "batch": 0}
 LONGEST = 255
 SIZES = range(1, 4097)
 ROW = rb"line (?P<line>[1-9]\d*): "
@@ -37,6 +41,7 @@ LINES = {
     "scenario": rb"not JSON|(missing|wrong kind|out of limit) [a-z]+( at [1-9]\d*)?|repeated station \d+|decrements exceed the opening|no cdcl worker",
     "owners": ROW + rb"(not three fields|bad number|round out of range|unknown station|bad word|repeated)",
     "transcript": rb"version|" + ROW + rb"bad line|truncated|step \d+: (order|not valid)",
+    "prefix": rb"version|" + ROW + rb"bad line|step \d+: (order|not valid)",
 }
 SUMMARY = re.compile(rb"stations (\d+)\non-air (\d+)\nfrozen (\d+)\nundecided (\d+)\ntotal (\d+)\n")
 TOPS = re.compile(rb"top (\d+)\n(undecided (\d+)\n)?")
@@ -45,6 +50,8 @@ RESULT = re.compile(rb"facility,outcome,round,price\n(\d+,(start,0,0|exit,[1-9]\
 CHANNELS = re.compile(rb"facility,channel\n(\d+,[1-5]\d\n)*")
 # A field of a line of a list: in quotes, which its line's end closes too, and what follows them, up to the field's end.
 FIELD = re.compile(rb'(?:"((?:[^"]|"")*)(?:"|\Z))?([^,\r]*)(,|\r|\Z)')
+# The end of a line that names a step.
+UNSHOWN = re.compile(rb": step (\d+): (order|not valid)\n\Z")
 MARK = b"\xef\xbb\xbf"
 MOST_LISTED = 256
 
@@ -113,7 +120,7 @@ def told(order, status, before):
     if status == 7:
         return [(b"the start set is undecided", None)]
     kinds = INPUTS[order.name]
-    some = [i for i, kind in enumerate(kinds) if (kind == "transcript") == (status == 9)]
+    some = [i for i, kind in enumerate(kinds) if (kind in ("transcript", "prefix")) == (status == 9)]
     return [(re.escape(names[i]) + b": (" + LINES[kinds[i]] + b")", order.inputs[i]) for i in some]
 
 
@@ -177,11 +184,34 @@ def look_at_end(order, status, printed, after):
     need((status == 1) == (numbers[3] > 0), "the status isn't that of the undecided tests")
     if order.name == "make":
         need(numbers[0] == order.size, "another number of stations")
-    if order.name in ("run", "live"):
+    if order.name in ("run", "live", "resume"):
         result, channels, transcript = (after[name] for name in order.outputs)
         need(look_at_result(result) == numbers, "the summary isn't that of RESULT")
         need(CHANNELS.fullmatch(channels) and channels.count(b"\n") == numbers[1] + 1, "CHANNELS isn't of those on air")
-        need(transcript.startswith(b"transcript 2\n") and transcript.endswith(b"\n"), "no transcript")
+        first = rb"transcript [12]\n" if order.name == "resume" else b"transcript 2\n"
+        need(re.match(first, transcript) and transcript.endswith(b"\n"), "no transcript")
+
+
+def look_at_beginning(order, status, printed, before, after):
+    """What `resume` stores of what is whole of its beginning, and says of it; nothing where a line of it is refused, or it wasn't
+    come to."""
+    unshown = UNSHOWN.search(printed) if status == 9 else None
+    if unshown is None and status not in (0, 1, 6, 7):
+        return
+    need(order.inputs[3] in before, "the beginning isn't there")
+    text = before[order.inputs[3]]
+    kept = Kept(text)
+    whole = text[: kept.size]
+    started = whole.count(b"\n") > 1
+    if unshown:
+        most = len(kept.steps) + (kept.ended and unshown[2] == b"order")
+        need(started and int(unshown[1]) <= most, "a step that isn't kept")
+    elif status in (6, 7):
+        need(not started, "the start is kept, and was shown")
+    else:
+        transcript = after[order.outputs[2]]
+        need(transcript.startswith(whole or b"transcript 2\n"), "TRANSCRIPT doesn't begin with what is kept")
+        need(not kept.ended or transcript == whole, "TRANSCRIPT isn't the whole one that was kept")
 
 
 def records(line):
@@ -336,3 +366,5 @@ def look_at(case, status, printed, said, after):
     if status in (0, 1):
         need(all(name in case.files for name in order.inputs), "an input isn't there")
         look_at_end(order, status, printed, after)
+    if order.name == "resume":
+        look_at_beginning(order, status, printed, case.files, after)

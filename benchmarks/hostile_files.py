@@ -3,7 +3,8 @@
 A set holds the texts of an auction's three input files, of a transcript of it, and of what its owners say who follow their
 values. Most transcripts are those that the program writes; some are written here, with steps that few auctions have. A draw of a
 stream makes one or more of a set's texts hostile, or all the words that go with them. The files of a batch are drawn from the
-sets: the constraint files of one, scenarios that are variants of its own or another's, and a list.
+sets: the constraint files of one, scenarios that are variants of its own or another's, and a list. The beginning that an auction
+goes on from is mostly a set's transcript, cut anywhere, and its scenario may be a variant of that set's.
 """
 import json
 import re
@@ -407,6 +408,24 @@ def varied(draw, text):
         else:
             told.update(version=2, rate=draw.choice((100, 300, 1000)), floor=draw.choice((50, 1000)))
     return json.dumps(told).encode()
+
+
+def make_beginning(draw, files, sound):
+    """Makes the transcript a beginning, in place: mostly it is cut anywhere, now and then empty, one of another set, no transcript at
+    all, whole, or whole with some bytes behind it. The scenario is now and then a variant, or has other workers alone."""
+    kind, text = draw.randrange(24), files[TRANSCRIPT]
+    if kind == 0:
+        text = draw.choice((b"", draw.randbytes(draw.randrange(200))))
+    elif kind < 3:
+        text = draw.choice(sound)[TRANSCRIPT]
+    elif kind == 3:
+        text += bytes_of(draw)
+    files[TRANSCRIPT] = text if kind in (3, 4) else cut(draw, text, b"")
+    change, scenario = draw.randrange(6), files[INPUTS[2]]
+    if change == 0:
+        files[INPUTS[2]] = varied(draw, scenario)
+    elif change == 1:
+        files[INPUTS[2]] = json.dumps({**json.loads(scenario), "workers": draw.choice(WORKERS)}).encode()
 
 
 def field(draw, name):
