@@ -9,7 +9,7 @@ use Rattle.clap.specs.Walk.{is_empty}
 use Rattle.clap.specs.ValueTests.{is_unsigned_in}
 use Rattle.clap.specs.declared.builder.value_parser.ValueParser.TheVariants.{Unsigned}
 use Rattle.clap.proofs.ValueTestLemmas.{Accepts-accepts, accepts-Accepts}
-use Rattle.auction_cmd.specs.Words.{Command, run, check, verify, resume, seek, batch, make, export, import, ExportNames, ImportNames, InputNames, MakeNames, VerifyNames, batch_names, command_of, export_names, import_names, input_names, live_names, make_names, named_command, number_within, program_app, resume_names, run_names, seed_limit, seek_names, shown_by_names, size_limit, step_limit, step_named, verify_names, with_value}
+use Rattle.auction_cmd.specs.Words.{Command, run, check, verify, resume, seek, batch, make, export, import, ExportNames, ImportNames, InputNames, MakeNames, ResumeNames, RunNames, VerifyNames, batch_names, command_of, export_names, import_names, input_names, live_names, make_names, named_command, number_within, program_app, resume_names, run_names, seed_limit, seek_names, shown_by_names, size_limit, step_limit, step_named, verify_names, with_value}
 
 number-in : (least most : ℕ) (text : List ℕ) → IsUnsignedIn least most text → number_within least most text ≡ Some (digits_value 10 (without_leading_plus text))
 number-in least most text h =
@@ -72,12 +72,12 @@ within-bounds : (most : ℕ) (text : Option Text) (n : ℕ) → option_and_then 
 within-bounds most (Some text) n is = number-bounds 1 most n text is
 within-bounds most None n is = cc
 
--- the size that a command asks for, or its step, is in its bounds, and no step is settled of a live auction
+-- The size that a command asks for, or its step, is in its bounds; no step is settled of a live auction, and none is gone on with.
 abbrev IsBounded : Command → Type 0
 IsBounded (run names) = ⊤
 IsBounded (check names) = ⊤
 IsBounded (verify names) = ⊤
-IsBounded (resume names) = ⊤
+IsBounded (resume names) = names.run_files.inputs.owners ≡ None
 IsBounded (seek names) = ⊤
 IsBounded (batch names) = ⊤
 IsBounded (make names) = (1 ≤ names.size) × (names.size ≤ size_limit)
@@ -125,6 +125,18 @@ shown-valued rows =
     then-all _ _ (input_names rows) (λ inputs inputs_are.
     then-all _ _ (first_of (codes "TRANSCRIPT") rows) (λ transcript transcript_is. subst (λ o. MatchOption o ⊤ (λ (names : InputNames). names.owners ≡ None)) inputs_are (input-valued rows)))
 
+ran-valued : (rows : List Row) → MatchOption (option_and_then (run_names rows) (input_names rows)) ⊤ (λ names. names.inputs.owners ≡ None)
+ran-valued rows =
+    then-all _ _ (input_names rows) (λ inputs inputs_are.
+    then-all _ _ (first_of (codes "RESULT") rows) (λ result result_is.
+    then-all _ _ (first_of (codes "CHANNELS") rows) (λ channels channels_is.
+    then-all _ _ (first_of (codes "TRANSCRIPT") rows) (λ transcript transcript_is. subst (λ o. MatchOption o ⊤ (λ (names : InputNames). names.owners ≡ None)) inputs_are (input-valued rows)))))
+
+resume-bounded : (rows : List Row) → MatchOption (resume_names rows) ⊤ (λ names. IsBounded (resume names))
+resume-bounded rows =
+    then-all _ _ (option_and_then (run_names rows) (input_names rows)) (λ run_files files_are.
+    then-all _ _ (first_of (codes "PREFIX") rows) (λ prefix prefix_is. subst (λ o. MatchOption o ⊤ (λ (names : RunNames). names.inputs.owners ≡ None)) files_are (ran-valued rows)))
+
 import-bounded : (rows : List Row) → MatchOption (import_names rows) ⊤ (λ names. IsBounded (import names))
 import-bounded rows =
     then-all _ _ (verify_names rows) (λ shown shown_are.
@@ -144,7 +156,7 @@ found-bounded found =
     (if-all IsBounded (bytes_eq found.0 (codes "verify")) _ _ (map-all IsBounded verify (verify_names rows) (each _ (verify_names rows) (λ names. tt)))
     (if-all IsBounded (bytes_eq found.0 (codes "live")) _ _ (map-all IsBounded run (option_and_then (run_names rows) (live_names rows)) (each _ (option_and_then (run_names rows) (live_names rows)) (λ names. tt)))
     (if-all IsBounded (bytes_eq found.0 (codes "verify-live")) _ _ (map-all IsBounded verify (option_and_then (shown_by_names rows) (live_names rows)) (each _ (option_and_then (shown_by_names rows) (live_names rows)) (λ names. tt)))
-    (if-all IsBounded (bytes_eq found.0 (codes "resume")) _ _ (map-all IsBounded resume (resume_names rows) (each _ (resume_names rows) (λ names. tt)))
+    (if-all IsBounded (bytes_eq found.0 (codes "resume")) _ _ (map-all IsBounded resume (resume_names rows) (resume-bounded rows))
     (if-all IsBounded (bytes_eq found.0 (codes "seek")) _ _ (map-all IsBounded seek (seek_names rows) (each _ (seek_names rows) (λ names. tt)))
     (if-all IsBounded (bytes_eq found.0 (codes "batch")) _ _ (map-all IsBounded batch (batch_names rows) (each _ (batch_names rows) (λ names. tt)))
     (if-all IsBounded (bytes_eq found.0 (codes "make")) _ _ (map-all IsBounded make (make_names rows) (make-bounded rows))
@@ -168,3 +180,6 @@ import-placed words names is = let bounded : IsBounded (import names) = subst (�
 
 pub import-valued : (words : List (List ℕ)) (names : ImportNames) → command_of words ≡ Some (import names) → names.shown.inputs.owners ≡ None
 import-valued words names is = let bounded : IsBounded (import names) = subst (λ command. MatchOption command ⊤ IsBounded) is (command-bounded words) in bounded.1
+
+pub resume-valued : (words : List (List ℕ)) (names : ResumeNames) → command_of words ≡ Some (resume names) → names.run_files.inputs.owners ≡ None
+resume-valued words names is = subst (λ command. MatchOption command ⊤ IsBounded) is (command-bounded words)

@@ -1,6 +1,6 @@
 -- What may be relied on of the program follows from how it ends, whatever the words ask for.
 use Rattle.std.proofs.Common.{◌≡◌, ◌∙◌, ℕ, Bool, true, false, inl, inr, List, [], refl, sym, ap, subst, Option, None}
-use Rattle.std.specs.Prelude.{IsFalse, IsTrue}
+use Rattle.std.specs.Prelude.{IsFalse, IsSome, IsTrue, is_some}
 use Rattle.std.proofs.lemmas.Bool.{false≢true, true≢false}
 use Rattle.auction_core.specs.declared.record.Record.{Record}
 use Rattle.auction_cmd.specs.BatchEnds.{BatchEnds}
@@ -19,7 +19,6 @@ use Rattle.auction_cmd.proofs.BatchLemmas.{batch-promises}
 use Rattle.auction_cmd.proofs.OutputNames.{own-resumed}
 use Rattle.auction_cmd.proofs.PromiseLemmas.{promises-of}
 use Rattle.auction_cmd.proofs.ResumeLemmas.{resume-promises}
-use Rattle.auction_cmd.proofs.RunLemmas.{IsOnce}
 
 same-batches : (a b : BatchNames) → batches a ≡ batches b → a ≡ b
 same-batches a b e = cc
@@ -55,8 +54,8 @@ module _ (plan : Plan) (before after : Outside) (status : ℕ) (found below : Op
   no-found is (Imported own is_own valued single end alone) = absurd (false≢true (sym (ap is_batch is_own) ∙ is))
 
   -- where no auction went on either, memory ran out before the command was known
-  starved-resume : (names : ResumeNames) → Ends plan before after status found below → plan ≡ resumes names → ResumeEnds names before after status found × IsOnce names.run_files found
-  starved-resume names (Starved s still alone) is = (ResumeStarved s, inl s.found_is)
+  starved-resume : (names : ResumeNames) → Ends plan before after status found below → plan ≡ resumes names → ResumeEnds names before after status found × (found ≡ None)
+  starved-resume names (Starved s still alone) is = (ResumeStarved s, s.found_is)
   starved-resume names (Usage text is_none two absent said files still alone) is = cc
   starved-resume names (Repeated name is_name five absent said files still alone) is = cc
   starved-resume names (Ran own is_own once end alone) is = cc
@@ -84,24 +83,30 @@ module _ (plan : Plan) (before after : Outside) (status : ℕ) (found below : Op
   resumes-other : {X : Type 0} (names : ResumeNames) (other : BatchNames) → plan ≡ resumes names → plan ≡ batches other → X
   resumes-other names other is_own is = cc
 
-  of-resume : (names : ResumeNames) → ResumeEnds names before after status found × IsOnce names.run_files found → ResumePromises names before after status found
-  of-resume names both = resume-promises names before after status found both.0 both.1
+  no-record : {X : Type 0} → found ≡ None → IsSome found → X
+  no-record none some = absurd (true≢false (sym some ∙ ap is_some none))
+
+  short-resume : (names : ResumeNames) → ResumeEnds names before after status found × (found ≡ None) → ResumePromises names before after status found
+  short-resume names (end, none) = resume-promises names before after status found end (inl none) (λ some. no-record none some)
+
+  of-resume : (names : ResumeNames) → ResumeEnds names before after status found → repeated_resume names ≡ None → names.run_files.inputs.owners ≡ None → ResumePromises names before after status found
+  of-resume names end once valued = resume-promises names before after status found end (inr (own-resumed names once)) (λ some. valued)
 
   pub program-promises : (batch : List Record) → ProgramEnds plan before after status found below batch → ProgramPromises plan before after status found below batch
   program-promises batch (Single end none) = record {
     single = λ other apart. promises-of plan before after status found below end;
     no_batch = λ other. none;
-    resume_promises = λ names is. of-resume names (starved-resume names end is);
+    resume_promises = λ names is. short-resume names (starved-resume names end is);
     no_below = λ is. alone-of is end;
     batch_promises = λ names is. batch-promises names before after status batch (starved-batch names batch end none is);
     no_others = λ is. no-found is end;
   }
-  program-promises batch (Resumed own is_own once end alone none) = record {
+  program-promises batch (Resumed own is_own valued once end alone none) = record {
     single = λ other apart. absurd (true≢false (sym (ap is_resumption is_own) ∙ apart));
     no_batch = λ other. none;
     resume_promises = λ names is.
         let same : own ≡ names = same-resumes own names (sym is_own ∙ is) in
-        of-resume names (subst (λ z. ResumeEnds z before after status found) same end, inr (own-resumed names (subst (λ z. repeated_resume z ≡ None) same once)));
+        subst (λ z. ResumePromises z before after status found) same (of-resume own end once valued);
     no_below = λ is. alone;
     batch_promises = λ names is. resumes-other own names is_own is;
     no_others = λ is. absurd (false≢true (sym (ap is_batch is_own) ∙ is));

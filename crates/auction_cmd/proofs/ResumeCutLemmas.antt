@@ -81,12 +81,25 @@ kept-same : (o : Option NotShown) (own kept : Prefix) → kept_or o own ≡ Ok k
 kept-same None own kept e = cc
 kept-same (Some first) own kept e = cc
 
+no-start : {X : Type 0} (shown : Shown) → Some shown ≡ None → X
+no-start shown e = cc
+
 -- of the whole of a transcript all is kept
 whole-kept : (inputs : Inputs) (text : List ℕ) (t : Transcript) (kept : Prefix) → transcript_of inputs.scenario inputs.book text ≡ Ok t → begun inputs text ≡ Ok kept → transcript_there t true ≡ kept
 unfolding begun
 whole-kept inputs text t kept read e =
     let all : begun_by inputs (Ok (transcript_there t true)) ≡ Ok kept = subst (λ r. begun_by inputs r ≡ Ok kept) (prefix-all inputs.scenario inputs.book text t read) e in
     kept-same (not_kept inputs.scenario inputs.book (transcript_there t true)) (transcript_there t true) kept all
+
+-- so it is gone on from, and its start is kept
+pub whole-begun : (inputs : Inputs) (text : List ℕ) (rec : Record) → verified inputs text ≡ Ok rec → (kept : Prefix) × (begun inputs text ≡ Ok kept)
+whole-begun inputs text rec e = cut-begun inputs text [] rec (subst (λ t. verified inputs t ≡ Ok rec) (sym (append-nil text)) e)
+
+pub whole-started : {X : Type 0} (inputs : Inputs) (text : List ℕ) (rec : Record) (kept : Prefix) → verified inputs text ≡ Ok rec → begun inputs text ≡ Ok kept → kept.start ≡ None → X
+whole-started inputs text rec kept e ok none =
+    let of = of-text inputs text rec e in
+    let same : transcript_there of.transcript true ≡ kept = whole-kept inputs text of.transcript kept of.read ok in
+    no-start of.transcript.start (ap (λ (p : Prefix). p.start) same ∙ none)
 
 -- a record that goes on from the whole of a transcript is the one that it shows
 whole-record : (inputs : Inputs) (t : Transcript) (new : Record) → IsAuction inputs.scenario inputs.book → not_shown inputs.scenario inputs.book t ≡ None → GoesOnFrom (transcript_there t true) new → IsRecordIn t.order inputs new → new ≡ transcript_record inputs.scenario inputs.book t

@@ -3,12 +3,15 @@ use Rattle.std.proofs.Common.{◌≡◌, ◌≢◌, ◌⊎◌, ◌<◌, ◌≤�
 use Rattle.std.specs.Prelude.{Ok, Err, IsSome, IsTrue, MatchOption, MatchResult, Result, is_some, ⊤}
 use Rattle.std.proofs.lemmas.Bool.{true≢false}
 use Rattle.pack_defs.specs.Lists.{is_in}
+use Rattle.pack_defs.specs.Packing.{fits}
+use Rattle.pack_defs.specs.Prices.{start_set}
 use Rattle.pack_defs.specs.declared.order.Order.{Order}
 use Rattle.outside_io.specs.Faults.{HasRisen}
 use Rattle.outside_io.specs.Files.{StoredFile, bytes_of}
 use Rattle.auction_core.specs.declared.prefix.Prefix.{Prefix}
 use Rattle.auction_core.specs.declared.record.Ending.TheVariants.{StartRefuted, StartUndecided}
 use Rattle.auction_core.specs.declared.record.Record.{Record}
+use Rattle.auction_core.specs.Backed.{undecided_of}
 use Rattle.auction_core.specs.NotShown.{order_kept}
 use Rattle.auction_cmd.specs.declared.fault.TranscriptFault.{TranscriptFault}
 use Rattle.auction_cmd.specs.declared.inputs.Inputs.{Inputs}
@@ -25,7 +28,7 @@ use Rattle.auction_cmd.specs.Ends.VerifyEnds.{VerifyStopped, VerifyStarved, NotL
 use Rattle.auction_cmd.specs.Inputs.{file_limit, inputs_of}
 use Rattle.auction_cmd.specs.Outside.{Outside, IsSaid}
 use Rattle.auction_cmd.specs.Promises.{IsSomeRecord}
-use Rattle.auction_cmd.specs.Records.{IsRecordIn, StartFits, StartUnfit}
+use Rattle.auction_cmd.specs.Records.{IsEndedRecordIn, IsRecordIn, StartFits, StartUnfit, done_status, summary_in}
 use Rattle.auction_cmd.specs.Refusals.{line_of, name_of}
 use Rattle.auction_cmd.specs.ResumeEnds.{ResumeEnds}
 use Rattle.auction_cmd.specs.ResumeEnds.ResumeEnds.{ResumeStopped, ResumeStarved, PrefixNotLoaded, NotBegun, WentOn}
@@ -36,8 +39,9 @@ use Rattle.auction_cmd.specs.Verified.{CanBeNamed, fault_line, verified}
 use Rattle.auction_cmd.specs.VerifyPromises.{AreAllThere, IsGiven, IsOr}
 use Rattle.auction_cmd.specs.Words.{ResumeNames, RunNames, begun_names, output_names}
 use Rattle.auction_cmd.proofs.Halts.{halted-held, not-both, same-inputs, stopped-memory, stopped-statuses}
-use Rattle.auction_cmd.proofs.DeliveryLemmas.{for-told}
-use Rattle.auction_cmd.proofs.ResumeCutLemmas.{cut-begun, verified-fits, whole-again}
+use Rattle.auction_cmd.proofs.DeliveryLemmas.{Ended, ended-of, for-told}
+use Rattle.auction_cmd.proofs.DeliveryLemmas.Ended.{Both, NotSaid, NotStored, OutOfRoom}
+use Rattle.auction_cmd.proofs.ResumeCutLemmas.{cut-begun, verified-fits, whole-again, whole-begun, whole-started}
 use Rattle.auction_cmd.proofs.ResumeEndLemmas.{no-verdict}
 use Rattle.auction_cmd.proofs.RunLemmas.{absent, run-backed, run-done, run-ended, run-others, run-untouched, run-unwritten, IsOnce}
 use Rattle.auction_cmd.proofs.RunPromiseLemmas.{run-promises}
@@ -96,6 +100,11 @@ module _ (names : ResumeNames) (before after : Outside) (status : ℕ) (found : 
   concluded-found order inputs rec (Unfit of six kept said same) = kept
   concluded-found order inputs rec (StartOpen of seven kept said same) = kept
   concluded-found order inputs rec (Delivered of can held kept d) = kept
+
+  concluded-auction : (order : Order) (inputs : Inputs) (rec : Record) → Concludes order names.run_files inputs rec before after status found → IsEndedRecordIn order inputs rec rec.ending
+  concluded-auction order inputs rec (Unfit of six kept said same) = subst (λ e. IsEndedRecordIn order inputs rec e) (sym of.ending) of
+  concluded-auction order inputs rec (StartOpen of seven kept said same) = subst (λ e. IsEndedRecordIn order inputs rec e) (sym of.ending) of
+  concluded-auction order inputs rec (Delivered of can held kept d) = subst (λ e. IsEndedRecordIn order inputs rec e) (sym of.ending) of
 
   went-statuses : (w : IsWent) → IsTrue (is_in (0 ∷ 1 ∷ 4 ∷ 6 ∷ 7 ∷ 8 ∷ []) status)
   went-statuses w = concluded-statuses (order_kept w.kept) w.inputs w.rec w.concludes
@@ -187,8 +196,8 @@ module _ (names : ResumeNames) (before after : Outside) (status : ℕ) (found : 
   went-unstarted w h = unstarted (order_kept w.kept) w.inputs w.text w.kept w.rec w.sound w.goes w.concludes h
 
   -- so it was resumed
-  as-resumed : IsOnce names.run_files found → IsWent → IsResumed names before after status found
-  as-resumed once w = record {
+  as-resumed : IsOnce names.run_files found → names.run_files.inputs.owners ≡ None → IsWent → IsResumed names before after status found
+  as-resumed once valued w = record {
     inputs = w.inputs;
     accepted = w.held;
     text = w.text;
@@ -197,7 +206,9 @@ module _ (names : ResumeNames) (before after : Outside) (status : ℕ) (found : 
     sound = w.sound;
     rec = w.rec;
     recorded = went-found w;
+    auction = concluded-auction (order_kept w.kept) w.inputs w.rec w.concludes;
     goes_on = w.goes;
+    valued = valued;
     as_run = run-promises (order_kept w.kept) names.run_files before after status found (as-run w) once;
     unstarted = went-unstarted w;
   }
@@ -269,7 +280,46 @@ module _ (names : ResumeNames) (before after : Outside) (status : ℕ) (found : 
           let fit : StartFits inputs = verified-fits files names.run_files.inputs inputs (text ++ behind) rec g.accepted (subst CanBeNamed one w.named) e in
           run-complete (order_kept w.kept) names.run_files before after status found files inputs (as-run w) told g.accepted fit
 
-  -- a whole sound transcript
+  -- a whole sound transcript ends as it is verified
+  all-whole_done : (files : List StoredFile) (inputs : Inputs) (text : List ℕ) (rec : Record) → ResumeEnds names before after status found → before.files ≡ Some files → IsGiven files (begun_names names) inputs text → verified inputs text ≡ Ok rec →
+      IsOr (done_status (undecided_of rec.steps)) before status ⊎ (status ≡ 4)
+  all-whole_done files inputs text rec end told g e = go (given-way files inputs text end told g)
+    where
+      one : (w : IsWent) → w.inputs ≡ inputs
+      one w = same-inputs w.inputs inputs (sym (w.held files told) ∙ g.accepted)
+
+      ok : (w : IsWent) → begun inputs text ≡ Ok w.kept
+      ok w = sym (went-same files inputs text w told g) ∙ w.sound
+
+      shown : (w : IsWent) → IsRecordIn (order_kept w.kept) w.inputs w.rec → w.rec ≡ rec
+      shown w of =
+          let mine : IsRecordIn (order_kept w.kept) inputs w.rec = subst (λ (i : Inputs). IsRecordIn (order_kept w.kept) i w.rec) (one w) of in
+          let again = whole-again files names.run_files.inputs inputs text rec w.kept w.rec g.accepted (subst CanBeNamed (one w) w.named) e (ok w) w.goes (subst (λ o. IsRecordIn o inputs w.rec) (sym w.goes.order) mine) in
+          again.0
+
+      last : (w : IsWent) → w.rec ≡ rec → Ended (auction_texts (order_kept w.kept) names.run_files w.inputs w.rec) (summary_in (order_kept w.kept) w.inputs (undecided_of w.rec.steps)) (done_status (undecided_of w.rec.steps)) before after status →
+          IsOr (done_status (undecided_of rec.steps)) before status ⊎ (status ≡ 4)
+      last w same (Both done all writes) = inl (inl (done ∙ ap (λ (r : Record). done_status (undecided_of r.steps)) same))
+      last w same (NotSaid four all rises less said) = inr four
+      last w same (NotStored x four part rises unsteady said) = inr four
+      last w same (OutOfRoom x eight part said) = inl (inr (inl eight))
+
+      by : (w : IsWent) → Concludes (order_kept w.kept) names.run_files w.inputs w.rec before after status found → IsOr (done_status (undecided_of rec.steps)) before status ⊎ (status ≡ 4)
+      by w (Unfit of six some said same) =
+          let fit : StartFits inputs = verified-fits files names.run_files.inputs inputs text rec g.accepted (subst CanBeNamed (one w) w.named) e in
+          absurd (true≢false (sym fit ∙ subst (λ (z : Inputs). fits z.book (start_set z.scenario) ≡ false) (one w) of.starts))
+      by w (StartOpen of seven some said same) =
+          absurd (whole-started inputs text rec w.kept e (ok w) (went-unstarted w (one-of (6 ∷ 7 ∷ []) status 7 seven refl)))
+      by w (Delivered of can held some d) = last w (shown w of) (ended-of _ _ _ before after status d)
+
+      go : GivenWay inputs text → IsOr (done_status (undecided_of rec.steps)) before status ⊎ (status ≡ 4)
+      go (Failed f) = inl (f (done_status (undecided_of rec.steps)))
+      go (AtFault fault err nine) =
+          let kept = whole-begun inputs text rec e in
+          not-both-begun kept.0 fault (begun inputs text) kept.1 err
+      go (GoneOn w) = by w w.concludes
+
+  -- and its record and its text are those again
   all-whole : (files : List StoredFile) (inputs : Inputs) (text : List ℕ) (rec : Record) → ResumeEnds names before after status found → IsOnce names.run_files found → before.files ≡ Some files → IsGiven files (begun_names names) inputs text → verified inputs text ≡ Ok rec →
       IsTrue (is_in (0 ∷ 1 ∷ []) status) → (found ≡ Some rec) × MatchOption after.files ⊥ (λ new. bytes_of new names.run_files.transcript ≡ Some text)
   all-whole files inputs text rec end once told g e h =
@@ -400,10 +450,11 @@ module _ (names : ResumeNames) (before after : Outside) (status : ℕ) (found : 
   all-memory (NotBegun inputs text fault are can held is nine none said same) eight = absurd (omega arith)
   all-memory (WentOn inputs text kept rec are can held is goes c) eight = run-memory (order_kept kept) names.run_files before after status found (Concluded inputs rec are c) eight
 
-pub resume-promises : (names : ResumeNames) (before after : Outside) (status : ℕ) (found : Option Record) → ResumeEnds names before after status found → IsOnce names.run_files found → ResumePromises names before after status found
-resume-promises names before after status found end once = record {
+pub resume-promises : (names : ResumeNames) (before after : Outside) (status : ℕ) (found : Option Record) → ResumeEnds names before after status found → IsOnce names.run_files found → (IsSome found → names.run_files.inputs.owners ≡ None) →
+    ResumePromises names before after status found
+resume-promises names before after status found end once valued = record {
   statuses = all-statuses names before after status found end;
-  resumed = λ some. as-resumed names before after status found once (by-record names before after status found end some);
+  resumed = λ some. as-resumed names before after status found once (valued some) (by-record names before after status found end some);
   recorded = λ h. all-recorded names before after status found end h;
   backed = all-backed names before after status found end;
   unrecorded = λ h. all-unrecorded names before after status found end h;
@@ -412,6 +463,7 @@ resume-promises names before after status found end once = record {
   refuses = λ files inputs text fault told g err. all-refuses names before after status found files inputs text fault end told g err;
   complete = λ files inputs text kept told g ok fit. all-complete names before after status found files inputs text kept end told g ok fit;
   any_cut = λ files inputs text behind rec told g e. all-any_cut names before after status found files inputs text behind rec end told g e;
+  whole_done = λ files inputs text rec told g e. all-whole_done names before after status found files inputs text rec end told g e;
   whole = λ files inputs text rec told g e h. all-whole names before after status found files inputs text rec end once told g e h;
   halted = λ files told five. all-halted names before after status found files end told five;
   refuses_input = λ files why told err. all-refuses_input names before after status found files why end told err;

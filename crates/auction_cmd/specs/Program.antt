@@ -11,12 +11,12 @@ use Rattle.auction_cmd.specs.ResumeEnds.{ResumeEnds}
 use Rattle.auction_cmd.specs.ResumePromises.{ResumePromises}
 use Rattle.auction_cmd.specs.Words.{BatchNames, ResumeNames, repeated_resume}
 
--- How the program ends. An auction goes on only where no output name is given twice. The records of a batch stand apart from the
--- others; where there are some, there are no others.
+-- How the program ends. An auction goes on only where no output name is given twice, and it has no owners' file. The records of a
+-- batch stand apart from the others; where there are some, there are no others.
 pub data ProgramEnds (plan : Plan) (before after : Outside) (status : ℕ) (found below : Option Record) (batch : List Record) : Type 0 where
   Single : Ends plan before after status found below → batch ≡ [] → ProgramEnds plan before after status found below batch
-  Resumed : (names : ResumeNames) → plan ≡ resumes names → repeated_resume names ≡ None → ResumeEnds names before after status found →
-      below ≡ None → batch ≡ [] → ProgramEnds plan before after status found below batch
+  Resumed : (names : ResumeNames) → plan ≡ resumes names → names.run_files.inputs.owners ≡ None → repeated_resume names ≡ None →
+      ResumeEnds names before after status found → below ≡ None → batch ≡ [] → ProgramEnds plan before after status found below batch
   Batched : (names : BatchNames) → plan ≡ batches names → BatchEnds names before after status batch → found ≡ None → below ≡ None →
       ProgramEnds plan before after status found below batch
 

@@ -5,6 +5,7 @@ use Rattle.outside_io.specs.Faults.{HasRisen}
 use Rattle.outside_io.specs.Files.{StoredFile, bytes_of}
 use Rattle.auction_core.specs.declared.prefix.Prefix.{Prefix}
 use Rattle.auction_core.specs.declared.record.Record.{Record}
+use Rattle.auction_core.specs.Backed.{undecided_of}
 use Rattle.auction_core.specs.NotShown.{order_kept}
 use Rattle.auction_cmd.specs.declared.fault.TranscriptFault.{TranscriptFault}
 use Rattle.auction_cmd.specs.declared.inputs.Inputs.{Inputs}
@@ -16,7 +17,7 @@ use Rattle.auction_cmd.specs.Ends.{AreHeld, IsTextHeld}
 use Rattle.auction_cmd.specs.Inputs.{file_limit, inputs_of}
 use Rattle.auction_cmd.specs.Outside.{Outside, IsSaid}
 use Rattle.auction_cmd.specs.Promises.{IsSomeRecord}
-use Rattle.auction_cmd.specs.Records.{StartFits, StartUnfit}
+use Rattle.auction_cmd.specs.Records.{IsEndedRecordIn, StartFits, StartUnfit, done_status}
 use Rattle.auction_cmd.specs.Refusals.{line_of, name_of}
 use Rattle.auction_cmd.specs.Resumption.{GoesOnFrom, begun}
 use Rattle.auction_cmd.specs.RunPromises.{RunPromises}
@@ -25,9 +26,10 @@ use Rattle.auction_cmd.specs.Verified.{fault_line, verified}
 use Rattle.auction_cmd.specs.VerifyPromises.{AreAllThere, IsGiven, IsOr}
 use Rattle.auction_cmd.specs.Words.{ResumeNames, begun_names, output_names}
 
--- The auction went on: from what is kept of the beginning that was read, each step of which is shown. The record goes on from it,
--- and all that may be relied on of a run holds, for the beginning's order. Its start set was refuted or left open only where what is
--- kept has no verdict on it.
+-- The auction went on: from what is kept of the beginning that was read, each step of which is shown. The record is that of the
+-- inputs' auction in the beginning's order, and goes on from what is kept; and all that may be relied on of a run holds, for that
+-- order. No owners' file is named, so that what a run says of prices stands. The start set was refuted or left open only where what
+-- is kept has no verdict on it.
 pub record IsResumed (names : ResumeNames) (before after : Outside) (status : ℕ) (found : Option Record) : Type 0 where
   pub inputs : Inputs
   pub accepted : AreHeld names.run_files.inputs before inputs
@@ -37,7 +39,9 @@ pub record IsResumed (names : ResumeNames) (before after : Outside) (status : �
   pub sound : begun inputs text ≡ Ok kept
   pub rec : Record
   pub recorded : found ≡ Some rec
+  pub auction : IsEndedRecordIn (order_kept kept) inputs rec rec.ending
   pub goes_on : GoesOnFrom kept rec
+  pub valued : names.run_files.inputs.owners ≡ None
   pub as_run : RunPromises (order_kept kept) names.run_files before after status found
   pub unstarted : IsTrue (is_in (6 ∷ 7 ∷ []) status) → kept.start ≡ None
 
@@ -64,8 +68,11 @@ pub record ResumePromises (names : ResumeNames) (before after : Outside) (status
   pub any_cut : (files : List StoredFile) (inputs : Inputs) (text behind : List ℕ) (rec : Record) →
       before.files ≡ Some files → IsGiven files (begun_names names) inputs text → verified inputs (text ++ behind) ≡ Ok rec →
       IsOr 0 before status ⊎ IsTrue (is_in (1 ∷ 4 ∷ 7 ∷ []) status)
-  -- From a whole sound transcript nothing is left to go on with: the record is the one that it shows, and TRANSCRIPT holds the same
-  -- bytes.
+  -- From a whole sound transcript nothing is left to go on with: it ends as `verify` of it does, the record is the one that it
+  -- shows, and TRANSCRIPT holds the same bytes.
+  pub whole_done : (files : List StoredFile) (inputs : Inputs) (text : List ℕ) (rec : Record) →
+      before.files ≡ Some files → IsGiven files (begun_names names) inputs text → verified inputs text ≡ Ok rec →
+      IsOr (done_status (undecided_of rec.steps)) before status ⊎ (status ≡ 4)
   pub whole : (files : List StoredFile) (inputs : Inputs) (text : List ℕ) (rec : Record) →
       before.files ≡ Some files → IsGiven files (begun_names names) inputs text → verified inputs text ≡ Ok rec →
       IsTrue (is_in (0 ∷ 1 ∷ []) status) →

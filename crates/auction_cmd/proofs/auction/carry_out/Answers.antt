@@ -3,7 +3,7 @@ use Rattle.std.proofs.Common.{map, refl, string_bytes, sym}
 use Rattle.auction_cmd.specs.Ends.Ends.{Usage, Repeated, Ran, Checked, Verified, Sought, Made, Exported, Imported}
 use Rattle.auction_cmd.specs.Program.ProgramEnds.{Single, Resumed, Batched}
 use Rattle.auction_cmd.specs.Words.{batch_seen, export_seen, import_seen, inputs_seen, make_seen, names_seen, resume_seen, seek_seen, verify_seen}
-use Rattle.auction_cmd.proofs.NumberLemmas.{command-sized, import-valued}
+use Rattle.auction_cmd.proofs.NumberLemmas.{command-sized, import-valued, resume-valued}
 use Rattle.auction_cmd.proofs.PlanLemmas.{plan-none, plan-batches, plan-checks, plan-exported_twice, plan-exports, plan-imported_twice, plan-imports, plan-made_twice, plan-makes, plan-repeats, plan-resumed_twice, plan-resumes, plan-runs, plan-seeks, plan-sought_twice, plan-verifies}
 use Rattle.auction_cmd.proofs.auction.carry_out.Goals as goal
 
@@ -50,6 +50,7 @@ pub returns-in-None-given_twice-clause-ends : goal.returns-in-None-given_twice-c
 returns-in-None-given_twice-clause-ends g c =
     Resumed (resume_seen c.in-Ok-Resume.files)
     (plan-resumes _ (resume_seen c.in-Ok-Resume.files) (rw c.in-Ok-Resume.field-0-is at c.in-Ok-Resume.ensures.order) c.in-None-given_twice.ensures)
+    (resume-valued (map string_bytes c.args.words.now) (resume_seen c.in-Ok-Resume.files) (rw c.in-Ok-Resume.field-0-is at c.in-Ok-Resume.ensures.order))
     (sym c.in-None-given_twice.ensures) c.resume.ensures.ends c.resume.ensures.no_other c.resume.ensures.no_batch
 
 pub returns-in-Some-given_twice-2-clause-ends : goal.returns-in-Some-given_twice-2-clause-ends
