@@ -25,6 +25,7 @@ use Rattle.auction_cmd.specs.declared.refusal.Refusal.TheVariants.{BadLine, Empt
 use Rattle.auction_cmd.specs.Delivery.{NamedText, named}
 use Rattle.auction_cmd.specs.Inputs.{and_then, file_of, inputs_from, rows_read, scenario_read}
 use Rattle.auction_cmd.specs.Records.{done_status, result_of, run_order}
+use Rattle.auction_cmd.specs.Statuses.{DONE, LEFT_OPEN, START_UNFIT, START_OPEN, SOME_UNSTARTED}
 use Rattle.auction_cmd.specs.Words.{BatchNames, InputNames}
 
 -- ---- what is read
@@ -130,8 +131,8 @@ ends_at_start StartUndecided = true
 -- the status of an auction by how it ended and by the tests that were left open, as `run` gives it
 abbrev pub ended_status : Ending → ℕ → ℕ
 ended_status Done done = done
-ended_status StartRefuted done = 6
-ended_status StartUndecided done = 7
+ended_status StartRefuted done = START_UNFIT
+ended_status StartUndecided done = START_OPEN
 
 abbrev pub own_status : Record → ℕ
 own_status rec = ended_status rec.ending (done_status (undecided_of rec.steps))
@@ -139,8 +140,8 @@ own_status rec = ended_status rec.ending (done_status (undecided_of rec.steps))
 -- the status of a batch: 11 where an auction ended at its start; else 1 where a test was left open, and 0 where none was
 abbrev pub batch_status : List Record → ℕ
 batch_status recs =
-    if list_any (λ (rec : Record). ends_at_start rec.ending) recs then 11
-    else if list_any (λ (rec : Record). own_status rec == 1) recs then 1 else 0
+    if list_any (λ (rec : Record). ends_at_start rec.ending) recs then SOME_UNSTARTED
+    else if list_any (λ (rec : Record). own_status rec == LEFT_OPEN) recs then LEFT_OPEN else DONE
 
 -- ---- the texts
 

@@ -13,6 +13,7 @@ use Rattle.auction_cmd.specs.Inputs.{CountsFault}
 use Rattle.auction_cmd.specs.Outside.{Outside}
 use Rattle.auction_cmd.specs.Records.{IsRecordBy}
 use Rattle.auction_cmd.specs.Says.{Says, twice_line}
+use Rattle.auction_cmd.specs.Statuses.{REFUSED}
 use Rattle.auction_cmd.specs.Words.{BatchNames, InputNames}
 
 -- What stopped the reading is what the files stop it by. Memory may run out; and a folder that isn't steady may fail to read a
@@ -31,7 +32,7 @@ CountsStop before now (Twice name) = now ≡ before
 -- the status and the line of what stopped the reading
 abbrev pub ExplainsStop : BatchStop → Option (List ℕ) → Option (List ℕ) → ℕ → ℕ → ℕ → Type 0
 ExplainsStop (Unread names why) held held' cuts cuts' status = Explains names why held held' cuts cuts' status
-ExplainsStop (Twice name) held held' cuts cuts' status = (status ≡ 5) × Says held held' cuts cuts' (twice_line name)
+ExplainsStop (Twice name) held held' cuts cuts' status = (status ≡ REFUSED) × Says held held' cuts cuts' (twice_line name)
 
 -- the names were those of the constraint files and the list, or of a scenario of these lines beside them
 abbrev pub IsUnderOneOf : BatchNames → List ListedNames → InputNames → Type 0

@@ -21,6 +21,7 @@ use Rattle.auction_cmd.specs.Outside.{Outside, IsSaid}
 use Rattle.auction_cmd.specs.Records.{IsRecordBy, outcome, result_of, run_order}
 use Rattle.auction_cmd.specs.Refusals.{line_of, name_of}
 use Rattle.auction_cmd.specs.Says.{memory_line, twice_line, unread_line, unwritten_line}
+use Rattle.auction_cmd.specs.Statuses.{DONE, LEFT_OPEN, UNREAD, UNWRITTEN, REFUSED, NO_MEMORY, SOME_UNSTARTED}
 use Rattle.auction_cmd.specs.VerifyPromises.{IsOr}
 use Rattle.auction_cmd.specs.Words.{BatchNames, InputNames}
 
@@ -39,8 +40,8 @@ pub record IsRunOf (files new : List StoredFile) (names : BatchNames) (line : Li
   pub accepted : inputs_of files (inputs_with names line.scenario) ≡ Ok inputs
   pub auction : IsRecordBy inputs rec rec.ending
   pub stored : rec.ending ≡ Done → bytes_of new line.result ≡ Some (result_of run_order inputs (undecided_of rec.steps))
-  pub decided : own_status rec ≡ 0 → bytes_of new line.result ≡ Some (result_of run_order inputs [])
-  pub paid : own_status rec ≡ 0 → (f : FrozenAt) → Contains (outcome run_order inputs []).frozen f →
+  pub decided : own_status rec ≡ DONE → bytes_of new line.result ≡ Some (result_of run_order inputs [])
+  pub paid : own_status rec ≡ DONE → (f : FrozenAt) → Contains (outcome run_order inputs []).frozen f →
       IsThresholdPrice inputs.scenario inputs.book run_order f.station f.price
 
 -- the line that says what is refused
@@ -81,50 +82,50 @@ pub record IsBatchCut (files : List StoredFile) (names : BatchNames) (before aft
   pub lines : IsSaid before after (status_lines run.held.lines batch)
 
 pub record BatchPromises (names : BatchNames) (before after : Outside) (status : ℕ) (batch : List Record) : Type 0 where
-  pub statuses : IsTrue (is_in (0 ∷ 1 ∷ 3 ∷ 4 ∷ 5 ∷ 8 ∷ 11 ∷ []) status)
+  pub statuses : IsTrue (is_in (DONE ∷ LEFT_OPEN ∷ UNREAD ∷ UNWRITTEN ∷ REFUSED ∷ NO_MEMORY ∷ SOME_UNSTARTED ∷ []) status)
   -- At status 0, 1 and 11 all auctions were carried out, also where the folder tells nothing, the status is that of the records,
   -- and the sink grew by exactly a line for each. Of a told folder each line got what is its own, and no other file is touched, nor
   -- is that of a result whose auction ended at its start.
-  pub done : IsTrue (is_in (0 ∷ 1 ∷ 11 ∷ []) status) →
+  pub done : IsTrue (is_in (DONE ∷ LEFT_OPEN ∷ SOME_UNSTARTED ∷ []) status) →
       (run : IsBatchRun names before batch) × (status ≡ batch_status batch)
       × Writes before.held after.held (status_lines run.held.lines batch) (Ok tt)
-  pub each : (files : List StoredFile) → before.files ≡ Some files → IsTrue (is_in (0 ∷ 1 ∷ 11 ∷ []) status) →
+  pub each : (files : List StoredFile) → before.files ≡ Some files → IsTrue (is_in (DONE ∷ LEFT_OPEN ∷ SOME_UNSTARTED ∷ []) status) →
       (run : IsBatchRun names before batch)
       × MatchOption after.files ⊥ (λ new. AreStored files new (batch_texts run.held batch) × EachOf (IsRunOf files new names) run.held.lines run.held.inputs batch)
   -- There are records at 4 too, and none at 3 and 5. At 8 there are some only where all auctions were carried out, and then texts
   -- may be stored.
-  pub recorded : status ≡ 4 → IsBatchRun names before batch
-  pub unrecorded : IsTrue (is_in (3 ∷ 5 ∷ []) status) → batch ≡ []
-  pub starved : status ≡ 8 → ((batch ≡ []) × (after.files ≡ before.files)) ⊎ IsBatchRun names before batch
+  pub recorded : status ≡ UNWRITTEN → IsBatchRun names before batch
+  pub unrecorded : IsTrue (is_in (UNREAD ∷ REFUSED ∷ []) status) → batch ≡ []
+  pub starved : status ≡ NO_MEMORY → ((batch ≡ []) × (after.files ≡ before.files)) ⊎ IsBatchRun names before batch
   -- Status 5 comes exactly where the first thing that stops the reading is a file that is too long or refused, or a result's name
   -- that is given twice, and the line says which. Before that memory may run out, and a folder that isn't steady may fail.
-  pub refused : (files : List StoredFile) → before.files ≡ Some files → status ≡ 5 →
+  pub refused : (files : List StoredFile) → before.files ≡ Some files → status ≡ REFUSED →
       (stop : BatchStop) × IsRefusing stop × (batch_of files names ≡ Err stop) × IsSaid before after (refused_line stop)
   pub refuses : (files : List StoredFile) (stop : BatchStop) → before.files ≡ Some files → batch_of files names ≡ Err stop → IsRefusing stop →
-      IsOr 5 before status
+      IsOr REFUSED before status
   -- Status 3 comes only where the folder's count of faults rose, and the line names a file that is read: of the words, or a scenario
   -- of the list. Where a missing file is the first thing that stops the reading of a steady folder, it names that one, and where
   -- none is missing it doesn't come.
-  pub unread : status ≡ 3 → HasRisen before.faults after.faults
+  pub unread : status ≡ UNREAD → HasRisen before.faults after.faults
       × ((own : InputNames) × (input : Input) × IsUnderList names before own × IsSaid before after (unread_line (name_of own input)))
   pub missing : (files : List StoredFile) (own : InputNames) (input : Input) → before.files ≡ Some files → before.steady ≡ true →
       batch_of files names ≡ Err (Unread own (CannotRead input)) →
-      (status ≡ 8) ⊎ ((status ≡ 3) × IsSaid before after (unread_line (name_of own input)))
+      (status ≡ NO_MEMORY) ⊎ ((status ≡ UNREAD) × IsSaid before after (unread_line (name_of own input)))
   pub surely_read : (files : List StoredFile) (held : HeldBatch) → before.files ≡ Some files → before.steady ≡ true → batch_of files names ≡ Ok held →
-      status ≢ 3
+      status ≢ UNREAD
   -- Status 4 comes only where a count of faults rose: a store failed, or the results are stored and the lines were not printed whole.
   -- It never comes over a steady folder and a sink that surely takes the lines.
-  pub unwritten : status ≡ 4 → HasRisen before.faults after.faults ⊎ HasRisen before.cuts after.cuts
-  pub unstored : (files : List StoredFile) → before.files ≡ Some files → status ≡ 4 →
+  pub unwritten : status ≡ UNWRITTEN → HasRisen before.faults after.faults ⊎ HasRisen before.cuts after.cuts
+  pub unstored : (files : List StoredFile) → before.files ≡ Some files → status ≡ UNWRITTEN →
       IsBatchUnstored files names before after batch ⊎ IsBatchCut files names before after batch
   pub surely_written : before.steady ≡ true → ((run : IsBatchRun names before batch) → length (status_lines run.held.lines batch) ≤ before.sure) →
-      status ≢ 4
+      status ≢ UNWRITTEN
   -- A batch that is accepted is carried out, but for want of memory and faults of the outside.
   pub complete : (files : List StoredFile) (held : HeldBatch) → before.files ≡ Some files → batch_of files names ≡ Ok held →
-      IsOr 0 before status ⊎ IsTrue (is_in (1 ∷ 4 ∷ 11 ∷ []) status)
+      IsOr DONE before status ⊎ IsTrue (is_in (LEFT_OPEN ∷ UNWRITTEN ∷ SOME_UNSTARTED ∷ []) status)
   -- No file is touched but those of the results, and none without records.
   pub others : (files : List StoredFile) (held : HeldBatch) → before.files ≡ Some files → batch_of files names ≡ Ok held →
       MatchOption after.files ⊥ (λ new. AllOthersStand files new (map (λ line. line.result) held.lines))
   pub untouched : batch ≡ [] → after.files ≡ before.files
   -- At status 8 the line says that memory ran out.
-  pub memory : status ≡ 8 → IsSaid before after memory_line
+  pub memory : status ≡ NO_MEMORY → IsSaid before after memory_line

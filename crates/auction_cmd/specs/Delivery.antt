@@ -6,6 +6,7 @@ use Rattle.outside_io.specs.Loads.{Stores, Writes}
 use Rattle.outside_io.specs.declared.folder.StoreErr.TheVariants.{Failed, NoMemory}
 use Rattle.auction_cmd.specs.Outside.{Outside, IsSaid}
 use Rattle.auction_cmd.specs.Says.{memory_line, unwritten_line}
+use Rattle.auction_cmd.specs.Statuses.{UNWRITTEN, NO_MEMORY}
 
 -- a text, and the name to store it under
 pub record NamedText : Type 0 where
@@ -26,16 +27,16 @@ pub record IsStored (x : NamedText) (before after : Outside) : Type 0 where
 
 -- The text was not stored: the store failed, of a folder that isn't steady, or memory ran out. The line says so.
 pub data IsNotStored (x : NamedText) (before after : Outside) (status : ℕ) : Type 0 where
-  Unwritten : status ≡ 4 → Stores before.files after.files x.name x.text (Err Failed) → HasRisen before.faults after.faults →
+  Unwritten : status ≡ UNWRITTEN → Stores before.files after.files x.name x.text (Err Failed) → HasRisen before.faults after.faults →
       before.steady ≢ true → IsSaid before after (unwritten_line x.name) → IsNotStored x before after status
-  OutOfRoom : status ≡ 8 → Stores before.files after.files x.name x.text (Err NoMemory) → IsSaid before after memory_line →
+  OutOfRoom : status ≡ NO_MEMORY → Stores before.files after.files x.name x.text (Err NoMemory) → IsSaid before after memory_line →
       IsNotStored x before after status
 
 -- The text was printed, and the status is `done`; or no more than some of it was, since the sink failed. No file is touched.
 pub data IsPrinted (text : List ℕ) (done : ℕ) (before after : Outside) (status : ℕ) : Type 0 where
   Written : status ≡ done → after.files ≡ before.files → Writes before.held after.held text (Ok tt) →
       IsPrinted text done before after status
-  CutShort : status ≡ 4 → after.files ≡ before.files → HasRisen before.cuts after.cuts → before.sure < length text →
+  CutShort : status ≡ UNWRITTEN → after.files ≡ before.files → HasRisen before.cuts after.cuts → before.sure < length text →
       IsSaid before after text → IsPrinted text done before after status
 
 -- What the delivery of these texts and of a summary leaves: each text was stored, and then the summary printed; or the first

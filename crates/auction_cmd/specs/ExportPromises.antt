@@ -17,6 +17,7 @@ use Rattle.auction_cmd.specs.Inputs.{file_limit, inputs_of}
 use Rattle.auction_cmd.specs.Outside.{Outside, IsSaid}
 use Rattle.auction_cmd.specs.Says.{unwritten_line}
 use Rattle.auction_cmd.specs.Settling.{step_line}
+use Rattle.auction_cmd.specs.Statuses.{DONE, UNREAD, UNWRITTEN, REFUSED, NO_MEMORY, NOT_SHOWN, NOT_SETTLED}
 use Rattle.auction_cmd.specs.Verified.{verified}
 use Rattle.auction_cmd.specs.VerifyPromises.{IsGiven, IsOr, VerifyPromises}
 use Rattle.auction_cmd.specs.Words.{ExportNames, VerifyNames}
@@ -31,36 +32,36 @@ pub record IsAsked (files : List StoredFile) (names : VerifyNames) (step : ℕ) 
   pub at : step_at rec.steps step ≡ there
 
 pub record ExportPromises (names : ExportNames) (before after : Outside) (status : ℕ) (found : Option Record) : Type 0 where
-  pub statuses : IsTrue (is_in (0 ∷ 3 ∷ 4 ∷ 5 ∷ 8 ∷ 9 ∷ 10 ∷ []) status)
+  pub statuses : IsTrue (is_in (DONE ∷ UNREAD ∷ UNWRITTEN ∷ REFUSED ∷ NO_MEMORY ∷ NOT_SHOWN ∷ NOT_SETTLED ∷ []) status)
   -- It has no record, and at 0 nothing is printed.
   pub unrecorded : found ≡ None
-  pub silent : status ≡ 0 → after.held ≡ before.held
+  pub silent : status ≡ DONE → after.held ≡ before.held
   -- At 0 the transcript is sound, its record has the step, and the file holds the packing formula of the stations that the step
   -- asked about. All other files stand, whatever the status.
-  pub done : (files : List StoredFile) → before.files ≡ Some files → status ≡ 0 →
+  pub done : (files : List StoredFile) → before.files ≡ Some files → status ≡ DONE →
       (x : Step) × (a : IsAsked files names.shown names.step (Some x))
       × MatchOption after.files ⊥ (λ new. AreStored files new (named names.formula (formula_text a.inputs.book a.rec names.step) ∷ []))
   pub others : (files : List StoredFile) → before.files ≡ Some files →
       MatchOption after.files ⊥ (λ new. AllOthersStand files new (names.formula ∷ []))
-  pub untouched : IsTrue (is_in (3 ∷ 5 ∷ 9 ∷ 10 ∷ []) status) → after.files ≡ before.files
+  pub untouched : IsTrue (is_in (UNREAD ∷ REFUSED ∷ NOT_SHOWN ∷ NOT_SETTLED ∷ []) status) → after.files ≡ before.files
   -- Status 10 comes exactly where the record of a sound transcript has no such step, and the line says so.
-  pub missing : (files : List StoredFile) → before.files ≡ Some files → status ≡ 10 →
+  pub missing : (files : List StoredFile) → before.files ≡ Some files → status ≡ NOT_SETTLED →
       IsAsked files names.shown names.step None × IsSaid before after (step_line names.step NoSuchStep)
-  pub misses : (files : List StoredFile) → before.files ≡ Some files → IsAsked files names.shown names.step None → IsOr 10 before status
+  pub misses : (files : List StoredFile) → before.files ≡ Some files → IsAsked files names.shown names.step None → IsOr NOT_SETTLED before status
   -- At 3, 5 and 9 it ended as `verify` ends, and where `verify` would end so it does.
-  pub as_verify : IsTrue (is_in (3 ∷ 5 ∷ 9 ∷ []) status) → VerifyPromises names.shown before after status found
+  pub as_verify : IsTrue (is_in (UNREAD ∷ REFUSED ∷ NOT_SHOWN ∷ []) status) → VerifyPromises names.shown before after status found
   pub refuses : (files : List StoredFile) (inputs : Inputs) (text : List ℕ) (fault : TranscriptFault) →
-      before.files ≡ Some files → IsGiven files names.shown inputs text → verified inputs text ≡ Err fault → IsOr 9 before status
+      before.files ≡ Some files → IsGiven files names.shown inputs text → verified inputs text ≡ Err fault → IsOr NOT_SHOWN before status
   pub refuses_input : (files : List StoredFile) (why : Refusal) →
-      before.files ≡ Some files → inputs_of files names.shown.inputs ≡ Err (Refused why) → IsOr 5 before status
+      before.files ≡ Some files → inputs_of files names.shown.inputs ≡ Err (Refused why) → IsOr REFUSED before status
   pub refuses_long : (files : List StoredFile) (inputs : Inputs) (bytes : List ℕ) →
       before.files ≡ Some files → inputs_of files names.shown.inputs ≡ Ok inputs → bytes_of files names.shown.transcript ≡ Some bytes →
-      file_limit < length bytes → IsOr 5 before status
+      file_limit < length bytes → IsOr REFUSED before status
   -- Status 4 comes only where the store failed, of a folder that isn't steady, of a step of a sound transcript, and the line
   -- names the file.
-  pub unwritten : status ≡ 4 → HasRisen before.faults after.faults × (before.steady ≢ true) × IsSaid before after (unwritten_line names.formula)
-  pub unstored : (files : List StoredFile) → before.files ≡ Some files → status ≡ 4 →
+  pub unwritten : status ≡ UNWRITTEN → HasRisen before.faults after.faults × (before.steady ≢ true) × IsSaid before after (unwritten_line names.formula)
+  pub unstored : (files : List StoredFile) → before.files ≡ Some files → status ≡ UNWRITTEN →
       (x : Step) × IsAsked files names.shown names.step (Some x)
   -- Of a sound transcript each step's formula is stored, but for want of memory and faults of the outside.
   pub complete : (files : List StoredFile) (x : Step) → before.files ≡ Some files → IsAsked files names.shown names.step (Some x) →
-      IsOr 0 before status ⊎ (status ≡ 4)
+      IsOr DONE before status ⊎ (status ≡ UNWRITTEN)

@@ -29,6 +29,7 @@ use Rattle.auction_cmd.specs.Outside.{Outside, IsSaid}
 use Rattle.auction_cmd.specs.Records.{IsRecordIn, done_status, outcome, summary_in}
 use Rattle.auction_cmd.specs.Says.{unread_line, unwritten_line}
 use Rattle.auction_cmd.specs.Settling.{log_line, open_fault, step_line}
+use Rattle.auction_cmd.specs.Statuses.{DONE, LEFT_OPEN, UNREAD, UNWRITTEN, REFUSED, NO_MEMORY, NOT_SHOWN, NOT_SETTLED}
 use Rattle.auction_cmd.specs.Verified.{verified}
 use Rattle.auction_cmd.specs.VerifyPromises.{AreAllThere, IsGiven, IsOr, VerifyPromises}
 use Rattle.auction_cmd.specs.Words.{ImportNames, VerifyNames}
@@ -117,78 +118,78 @@ pub record IsUnlogged (names : ImportNames) (before after : Outside) (status : �
   pub unloaded : IsNotLoaded names.proof before after status
 
 pub record ImportPromises (names : ImportNames) (before after : Outside) (status : ℕ) (found : Option Record) : Type 0 where
-  pub statuses : IsTrue (is_in (0 ∷ 1 ∷ 3 ∷ 4 ∷ 5 ∷ 8 ∷ 9 ∷ 10 ∷ []) status)
+  pub statuses : IsTrue (is_in (DONE ∷ LEFT_OPEN ∷ UNREAD ∷ UNWRITTEN ∷ REFUSED ∷ NO_MEMORY ∷ NOT_SHOWN ∷ NOT_SETTLED ∷ []) status)
   -- At 0 and 1 the step is settled: 0 exactly where no other test is left open.
-  pub done : (files : List StoredFile) → before.files ≡ Some files → IsTrue (is_in (0 ∷ 1 ∷ []) status) →
+  pub done : (files : List StoredFile) → before.files ≡ Some files → IsTrue (is_in (DONE ∷ LEFT_OPEN ∷ []) status) →
       IsImported files names before after status found
   -- At 0, 1 and 4 there is a record, one of the auction of the inputs, also where the folder tells nothing; at 3, 5, 9 and 10 there
   -- is none.
-  pub recorded : IsTrue (is_in (0 ∷ 1 ∷ 4 ∷ []) status) →
+  pub recorded : IsTrue (is_in (DONE ∷ LEFT_OPEN ∷ UNWRITTEN ∷ []) status) →
       (inputs : Inputs) × (rec : Record) × AreHeld names.shown.inputs before inputs × (found ≡ Some rec) × IsRecordIn rec.order inputs rec
-  pub unrecorded : IsTrue (is_in (3 ∷ 5 ∷ 9 ∷ 10 ∷ []) status) → found ≡ None
+  pub unrecorded : IsTrue (is_in (UNREAD ∷ REFUSED ∷ NOT_SHOWN ∷ NOT_SETTLED ∷ []) status) → found ≡ None
   -- Also where the folder tells nothing, the sink grew at 0 and 1 by the summary of the record, and the status is 0 exactly
   -- where no test was left open.
-  pub summed : IsTrue (is_in (0 ∷ 1 ∷ []) status) →
+  pub summed : IsTrue (is_in (DONE ∷ LEFT_OPEN ∷ []) status) →
       (inputs : Inputs) × (rec : Record) × (found ≡ Some rec) × IsRecordIn rec.order inputs rec
       × (status ≡ done_status (undecided_of rec.steps))
       × Writes before.held after.held (summary_in rec.order inputs (undecided_of rec.steps)) (Ok tt)
   -- Where every test is decided then, each station that is bought is paid the greatest admissible value with which it would have
   -- been bought, by the rule in the transcript's order.
   pub paid : (files : List StoredFile) (inputs : Inputs) (rec : Record) (f : FrozenAt) → before.files ≡ Some files →
-      inputs_of files names.shown.inputs ≡ Ok inputs → found ≡ Some rec → status ≡ 0 →
+      inputs_of files names.shown.inputs ≡ Ok inputs → found ≡ Some rec → status ≡ DONE →
       Contains (outcome rec.order inputs []).frozen f → IsThresholdPrice inputs.scenario inputs.book rec.order f.station f.price
   -- Status 10 comes exactly where, of a sound transcript, there is no such step or it isn't undecided, or where it is and the text
   -- of the log is refused, or the log doesn't refute the step's set. The line says which.
-  pub refused : (files : List StoredFile) → before.files ≡ Some files → status ≡ 10 →
+  pub refused : (files : List StoredFile) → before.files ≡ Some files → status ≡ NOT_SETTLED →
       (s : IsSoundIn files names.shown) × (
       ((fault : StepFault) × (open_fault (step_at s.rec.steps names.step) ≡ Some fault) × IsSaid before after (step_line names.step fault))
       ⊎ ((log : List ℕ) × (fault : SettleErr) × IsLogIn files names.proof log × (open_fault (step_at s.rec.steps names.step) ≡ None)
       × (settled_text s.inputs.book s.rec names.step log ≡ Err fault) × IsSaid before after (log_line names.proof fault)))
   pub refuses_step : (files : List StoredFile) (s : IsSoundIn files names.shown) (fault : StepFault) →
-      before.files ≡ Some files → open_fault (step_at s.rec.steps names.step) ≡ Some fault → IsOr 10 before status
+      before.files ≡ Some files → open_fault (step_at s.rec.steps names.step) ≡ Some fault → IsOr NOT_SETTLED before status
   pub refuses_log : (files : List StoredFile) (s : IsSoundIn files names.shown) (log : List ℕ) (fault : SettleErr) →
       before.files ≡ Some files → open_fault (step_at s.rec.steps names.step) ≡ None → IsLogIn files names.proof log →
-      settled_text s.inputs.book s.rec names.step log ≡ Err fault → IsOr 10 before status
+      settled_text s.inputs.book s.rec names.step log ≡ Err fault → IsOr NOT_SETTLED before status
   -- A log that settles an undecided step of a sound transcript is taken, but for want of memory and faults of the outside.
   pub complete : (files : List StoredFile) (s : IsSoundIn files names.shown) (log : List ℕ) (new : Record) →
       before.files ≡ Some files → open_fault (step_at s.rec.steps names.step) ≡ None → IsLogIn files names.proof log →
       settled_text s.inputs.book s.rec names.step log ≡ Ok new →
-      IsOr (done_status (undecided_of new.steps)) before status ⊎ (status ≡ 4)
+      IsOr (done_status (undecided_of new.steps)) before status ⊎ (status ≡ UNWRITTEN)
   -- At 9 it ended as `verify` ends, and at 3 and 5 too, or since the log was not loaded, of a sound transcript and an undecided
   -- step. Where `verify` would end so it does.
-  pub as_verify : status ≡ 9 → VerifyPromises names.shown before after status found
-  pub unloaded : IsTrue (is_in (3 ∷ 5 ∷ []) status) →
+  pub as_verify : status ≡ NOT_SHOWN → VerifyPromises names.shown before after status found
+  pub unloaded : IsTrue (is_in (UNREAD ∷ REFUSED ∷ []) status) →
       VerifyPromises names.shown before after status found ⊎ IsUnlogged names before after status
   pub refuses : (files : List StoredFile) (inputs : Inputs) (text : List ℕ) (fault : TranscriptFault) →
-      before.files ≡ Some files → IsGiven files names.shown inputs text → verified inputs text ≡ Err fault → IsOr 9 before status
+      before.files ≡ Some files → IsGiven files names.shown inputs text → verified inputs text ≡ Err fault → IsOr NOT_SHOWN before status
   pub refuses_input : (files : List StoredFile) (why : Refusal) →
-      before.files ≡ Some files → inputs_of files names.shown.inputs ≡ Err (Refused why) → IsOr 5 before status
+      before.files ≡ Some files → inputs_of files names.shown.inputs ≡ Err (Refused why) → IsOr REFUSED before status
   pub refuses_long : (files : List StoredFile) (inputs : Inputs) (bytes : List ℕ) →
       before.files ≡ Some files → inputs_of files names.shown.inputs ≡ Ok inputs → bytes_of files names.shown.transcript ≡ Some bytes →
-      file_limit < length bytes → IsOr 5 before status
+      file_limit < length bytes → IsOr REFUSED before status
   pub refuses_long_log : (files : List StoredFile) (s : IsSoundIn files names.shown) (bytes : List ℕ) →
       before.files ≡ Some files → open_fault (step_at s.rec.steps names.step) ≡ None → bytes_of files names.proof ≡ Some bytes →
-      file_limit < length bytes → IsOr 5 before status
+      file_limit < length bytes → IsOr REFUSED before status
   -- Nothing is stored at 3, 5, 9 and 10, and no other file is touched at any status.
-  pub untouched : IsTrue (is_in (3 ∷ 5 ∷ 9 ∷ 10 ∷ []) status) → after.files ≡ before.files
+  pub untouched : IsTrue (is_in (UNREAD ∷ REFUSED ∷ NOT_SHOWN ∷ NOT_SETTLED ∷ []) status) → after.files ≡ before.files
   pub others : (files : List StoredFile) → before.files ≡ Some files →
       MatchOption after.files ⊥ (λ now. AllOthersStand files now (names.result ∷ names.transcript ∷ []))
   -- Status 3 comes only where the folder's count of faults rose, and never over a steady folder that has the five files. Where
   -- of such a folder the log alone is missing, the line names it.
-  pub unread : status ≡ 3 → HasRisen before.faults after.faults
+  pub unread : status ≡ UNREAD → HasRisen before.faults after.faults
   pub surely_read : (files : List StoredFile) →
-      before.files ≡ Some files → before.steady ≡ true → AreAllThere files names.shown → IsSome (bytes_of files names.proof) → status ≢ 3
+      before.files ≡ Some files → before.steady ≡ true → AreAllThere files names.shown → IsSome (bytes_of files names.proof) → status ≢ UNREAD
   pub missing_log : (files : List StoredFile) (s : IsSoundIn files names.shown) →
       before.files ≡ Some files → before.steady ≡ true → open_fault (step_at s.rec.steps names.step) ≡ None →
-      bytes_of files names.proof ≡ None → (status ≡ 8) ⊎ ((status ≡ 3) × IsSaid before after (unread_line names.proof))
+      bytes_of files names.proof ≡ None → (status ≡ NO_MEMORY) ⊎ ((status ≡ UNREAD) × IsSaid before after (unread_line names.proof))
   -- Status 4 comes only where a count of faults rose: the step is settled, and a store failed, or both texts are stored and the
   -- summary was written, or some of it from the first byte on. It never comes over a steady folder and a sink that surely takes
   -- the summary. Where memory runs out at a store, there is a record, and the text before it is stored.
-  pub unwritten : status ≡ 4 → HasRisen before.faults after.faults ⊎ HasRisen before.cuts after.cuts
-  pub stored : (files : List StoredFile) → before.files ≡ Some files → status ≡ 4 →
+  pub unwritten : status ≡ UNWRITTEN → HasRisen before.faults after.faults ⊎ HasRisen before.cuts after.cuts
+  pub stored : (files : List StoredFile) → before.files ≡ Some files → status ≡ UNWRITTEN →
       IsUnimported files names before after found ⊎ IsUnsummed files names before after found
-  pub part_stored : (files : List StoredFile) → before.files ≡ Some files → status ≡ 8 → IsSome found →
+  pub part_stored : (files : List StoredFile) → before.files ≡ Some files → status ≡ NO_MEMORY → IsSome found →
       IsImportedUpTo files names after found
   pub surely_written : (files : List StoredFile) → before.files ≡ Some files → before.steady ≡ true →
       ((inputs : Inputs) (order : Order) (undecided : List ClockTest) → inputs_of files names.shown.inputs ≡ Ok inputs →
-      length (summary_in order inputs undecided) ≤ before.sure) → status ≢ 4
+      length (summary_in order inputs undecided) ≤ before.sure) → status ≢ UNWRITTEN

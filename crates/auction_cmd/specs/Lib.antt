@@ -28,6 +28,7 @@ pub mod Says
 pub mod Seek
 pub mod SeekPromises
 pub mod Settling
+pub mod Statuses
 pub mod Transcripts
 pub mod Verified
 pub mod VerifyPromises

@@ -15,6 +15,7 @@ use Rattle.auction_cmd.specs.Made.{made_inputs, made_texts}
 use Rattle.auction_cmd.specs.Outside.{Outside, IsSaid}
 use Rattle.auction_cmd.specs.Records.{IsRecordOf, done_status, outcome, run_order, summary_of}
 use Rattle.auction_cmd.specs.Says.{unwritten_line}
+use Rattle.auction_cmd.specs.Statuses.{DONE, LEFT_OPEN, UNWRITTEN, NO_MEMORY}
 use Rattle.auction_cmd.specs.Words.{MakeNames, made_names}
 
 -- The auction of the made files was carried through: they are accepted, nobody starts on air, and the record is that of
@@ -67,28 +68,28 @@ pub record IsUnsaid (names : MakeNames) (before after : Outside) (found : Option
 pub record MakePromises (names : MakeNames) (before after : Outside) (status : ℕ) (found : Option Record) : Type 0 where
   -- Its words may be no command, and a name given twice: else, whatever the seed and the size, all is done, but for want of
   -- memory and faults of the outside.
-  pub statuses : IsTrue (is_in (0 ∷ 1 ∷ 4 ∷ 8 ∷ []) status)
+  pub statuses : IsTrue (is_in (DONE ∷ LEFT_OPEN ∷ UNWRITTEN ∷ NO_MEMORY ∷ []) status)
   -- At status 0 and 1 the three names hold the made files, every other file is what it was, the record is that of their
   -- auction, carried through, and the sink grew by its summary: at 0 with every test decided. The record and the summary are
   -- so also where the folder tells nothing.
-  pub stored : (files : List StoredFile) → before.files ≡ Some files → IsTrue (is_in (0 ∷ 1 ∷ []) status) →
+  pub stored : (files : List StoredFile) → before.files ≡ Some files → IsTrue (is_in (DONE ∷ LEFT_OPEN ∷ []) status) →
       AreAllMade files names after
-  pub done : IsTrue (is_in (0 ∷ 1 ∷ []) status) →
+  pub done : IsTrue (is_in (DONE ∷ LEFT_OPEN ∷ []) status) →
       (made : IsMadeRun names found) × (status ≡ done_status (undecided_of made.rec.steps))
       × Writes before.held after.held (made_summary made) (Ok tt)
-  pub decided : status ≡ 0 → IsMadeDecided names before after
+  pub decided : status ≡ DONE → IsMadeDecided names before after
   -- At status 4 a store failed, and the line names the file; or all three files stand and the summary could not be written.
   -- Neither comes over a steady folder and a sink that surely takes the summary, whatever is undecided.
-  pub unwritten : status ≡ 4 → IsUnmade before after found ⊎ IsUnsaid names before after found
-  pub unstored : (files : List StoredFile) → before.files ≡ Some files → status ≡ 4 → found ≡ None →
+  pub unwritten : status ≡ UNWRITTEN → IsUnmade before after found ⊎ IsUnsaid names before after found
+  pub unstored : (files : List StoredFile) → before.files ≡ Some files → status ≡ UNWRITTEN → found ≡ None →
       (upto : IsMadeUpTo files names after) × IsSaid before after (unwritten_line upto.part.failed.name)
-  pub unsaid : (files : List StoredFile) → before.files ≡ Some files → status ≡ 4 → IsSome found → AreAllMade files names after
+  pub unsaid : (files : List StoredFile) → before.files ≡ Some files → status ≡ UNWRITTEN → IsSome found → AreAllMade files names after
   pub surely : before.steady ≡ true →
       ((inputs : Inputs) (undecided : List ClockTest) → made_inputs names.seed names.size ≡ Ok inputs → length (summary_of inputs undecided) ≤ before.sure) →
-      status ≢ 4
+      status ≢ UNWRITTEN
   -- At status 8 there is no record: nothing was stored, or memory ran out at a store, or behind all three.
-  pub unrecorded : status ≡ 8 → found ≡ None
-  pub starved : (files : List StoredFile) → before.files ≡ Some files → status ≡ 8 →
+  pub unrecorded : status ≡ NO_MEMORY → found ≡ None
+  pub starved : (files : List StoredFile) → before.files ≡ Some files → status ≡ NO_MEMORY →
       (after.files ≡ before.files) ⊎ (IsMadeUpTo files names after ⊎ AreAllMade files names after)
   -- No file is touched but the three.
   pub others : (files : List StoredFile) → before.files ≡ Some files →

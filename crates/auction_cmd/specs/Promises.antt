@@ -26,6 +26,7 @@ use Rattle.auction_cmd.specs.Refusals.{line_of, name_of}
 use Rattle.auction_cmd.specs.RunPromises.{RunPromises}
 use Rattle.auction_cmd.specs.Says.{memory_line, twice_line, unread_line}
 use Rattle.auction_cmd.specs.SeekPromises.{SeekPromises}
+use Rattle.auction_cmd.specs.Statuses.{DONE, LEFT_OPEN, NO_COMMAND, UNREAD, UNWRITTEN, REFUSED, START_UNFIT, START_OPEN, NO_MEMORY, NOT_SHOWN, NOT_SETTLED}
 use Rattle.auction_cmd.specs.VerifyPromises.{IsOr, VerifyPromises}
 use Rattle.auction_cmd.specs.Words.{ExportNames, ImportNames, InputNames, MakeNames, RunNames, SeekNames, VerifyNames, seek_inputs}
 
@@ -142,14 +143,14 @@ pub record IsSomeRecord (rec : Record) : Type 0 where
   pub packing : rec.ending ≡ Done → IsPacking inputs.book (on_air_set inputs.scenario (outcome rec.order inputs (undecided_of rec.steps))) rec.map
 
 pub record Promises (plan : Plan) (before after : Outside) (status : ℕ) (found below : Option Record) : Type 0 where
-  pub statuses : IsTrue (is_in (0 ∷ 1 ∷ 2 ∷ 3 ∷ 4 ∷ 5 ∷ 6 ∷ 7 ∷ 8 ∷ 9 ∷ 10 ∷ []) status)
+  pub statuses : IsTrue (is_in (DONE ∷ LEFT_OPEN ∷ NO_COMMAND ∷ UNREAD ∷ UNWRITTEN ∷ REFUSED ∷ START_UNFIT ∷ START_OPEN ∷ NO_MEMORY ∷ NOT_SHOWN ∷ NOT_SETTLED ∷ []) status)
   -- Status 2 comes exactly where the words are no command, but for want of memory.
-  pub usage : plan ≡ no_command → (status ≡ 2) ⊎ (status ≡ 8)
-  pub usage_only : status ≡ 2 → plan ≡ no_command
+  pub usage : plan ≡ no_command → (status ≡ NO_COMMAND) ⊎ (status ≡ NO_MEMORY)
+  pub usage_only : status ≡ NO_COMMAND → plan ≡ no_command
   -- An output name that is given twice is refused, and the line names it. Before that, and where the words are no command,
   -- no call of the folder failed that could have been made: its count of faults stands.
   pub twice : (name : List ℕ) → plan ≡ repeats name →
-      ((status ≡ 5) × IsSaid before after (twice_line name)) ⊎ (status ≡ 8)
+      ((status ≡ REFUSED) × IsSaid before after (twice_line name)) ⊎ (status ≡ NO_MEMORY)
   pub asked_nothing : asks_nothing plan ≡ true → after.faults ≡ before.faults
   -- What may be relied on of each command; `seek` alone has a second record.
   pub run : (names : RunNames) → plan ≡ runs names → RunPromises run_order names before after status found
@@ -162,41 +163,41 @@ pub record Promises (plan : Plan) (before after : Outside) (status : ℕ) (found
   pub import : (names : ImportNames) → plan ≡ imports names → ImportPromises names before after status found
   -- The record: backed, also where the folder tells nothing. None is there at 2, 3, 5, 9 and 10.
   pub backed : MatchOption found ⊤ IsSomeRecord
-  pub unrecorded : IsTrue (is_in (2 ∷ 3 ∷ 5 ∷ 9 ∷ 10 ∷ []) status) → found ≡ None
+  pub unrecorded : IsTrue (is_in (NO_COMMAND ∷ UNREAD ∷ REFUSED ∷ NOT_SHOWN ∷ NOT_SETTLED ∷ []) status) → found ≡ None
   -- Of those that read their inputs and no other file: status 5, beside a name given twice, comes exactly where an input is too
   -- long or refused, and the line names the file and the cause. Before that memory may run out, and a folder that isn't steady may
   -- fail.
   pub refused : (files : List StoredFile) (names : InputNames) →
-      before.files ≡ Some files → inputs_read plan ≡ Some names → status ≡ 5 →
+      before.files ≡ Some files → inputs_read plan ≡ Some names → status ≡ REFUSED →
       (why : Refusal) × (inputs_of files names ≡ Err (Refused why)) × IsSaid before after (line_of names why)
   pub refuses : (files : List StoredFile) (names : InputNames) (why : Refusal) →
       before.files ≡ Some files → inputs_read plan ≡ Some names → inputs_of files names ≡ Err (Refused why) →
-      IsOr 5 before status
+      IsOr REFUSED before status
   -- Status 3 comes only where the folder's count of faults rose, and of those the line names an input; it never comes over a steady
   -- folder that has the inputs. Where a missing file is the first thing that stops the reading of a steady folder, the line
   -- names it.
-  pub unread : status ≡ 3 → HasRisen before.faults after.faults
-  pub unread_says : (names : InputNames) → inputs_read plan ≡ Some names → status ≡ 3 →
+  pub unread : status ≡ UNREAD → HasRisen before.faults after.faults
+  pub unread_says : (names : InputNames) → inputs_read plan ≡ Some names → status ≡ UNREAD →
       (input : Input) × IsSaid before after (unread_line (name_of names input))
   pub surely_read : (files : List StoredFile) (names : InputNames) →
-      before.files ≡ Some files → inputs_read plan ≡ Some names → before.steady ≡ true → AreThere files names → status ≢ 3
+      before.files ≡ Some files → inputs_read plan ≡ Some names → before.steady ≡ true → AreThere files names → status ≢ UNREAD
   pub missing : (files : List StoredFile) (names : InputNames) (input : Input) →
       before.files ≡ Some files → inputs_read plan ≡ Some names → before.steady ≡ true →
       inputs_of files names ≡ Err (CannotRead input) →
-      (status ≡ 8) ⊎ ((status ≡ 3) × IsSaid before after (unread_line (name_of names input)))
+      (status ≡ NO_MEMORY) ⊎ ((status ≡ UNREAD) × IsSaid before after (unread_line (name_of names input)))
   -- Status 4 comes only where a count of faults rose.
-  pub unwritten : status ≡ 4 → HasRisen before.faults after.faults ⊎ HasRisen before.cuts after.cuts
+  pub unwritten : status ≡ UNWRITTEN → HasRisen before.faults after.faults ⊎ HasRisen before.cuts after.cuts
   -- A file is touched only where there is a record of an auction that was carried through; `make` alone stores before there is
   -- one, and `export` without one.
   pub untouched : records_first plan ≡ true → found ≡ None → after.files ≡ before.files
-  pub unfit_untouched : IsTrue (is_in (6 ∷ 7 ∷ []) status) → after.files ≡ before.files
+  pub unfit_untouched : IsTrue (is_in (START_UNFIT ∷ START_OPEN ∷ []) status) → after.files ≡ before.files
   -- Of an auction without an owners' file the record has no owners; of one with such a file `verify` shows a live one.
   pub unsaid : (files : List StoredFile) (names : InputNames) →
       before.files ≡ Some files → carries_out plan ≡ Some names → names.owners ≡ None → MatchOption found ⊤ (λ rec. rec.scenario.owners ≡ None)
   pub verified_live : (files : List StoredFile) (names : VerifyNames) (owners : List ℕ) →
       before.files ≡ Some files → plan ≡ verifies names → names.inputs.owners ≡ Some owners → IsSome found → IsLive files names.inputs owners found
   -- Status 9 is of the commands alone that verify a transcript, and 10 of `export` and `import`.
-  pub verify_only : status ≡ 9 → IsTrue (verifies_first plan)
-  pub proofs_only : status ≡ 10 → IsTrue (asks_step plan)
+  pub verify_only : status ≡ NOT_SHOWN → IsTrue (verifies_first plan)
+  pub proofs_only : status ≡ NOT_SETTLED → IsTrue (asks_step plan)
   -- At status 8 the line says that memory ran out.
-  pub memory : status ≡ 8 → IsSaid before after memory_line
+  pub memory : status ≡ NO_MEMORY → IsSaid before after memory_line

@@ -15,6 +15,7 @@ use Rattle.auction_core.specs.Backed.{AreReceipts, IsBacked, undecided_of}
 use Rattle.auction_core.specs.State.{start_task}
 use Rattle.result_text.specs.ResultText.{result_text, summary_text}
 use Rattle.auction_cmd.specs.declared.inputs.Inputs.{Inputs}
+use Rattle.auction_cmd.specs.Statuses.{DONE, LEFT_OPEN}
 
 -- a run tests the stations of a round by volume
 abbrev pub run_order : Order
@@ -36,9 +37,9 @@ summary_in order inputs undecided = summary_text inputs.scenario (outcome order 
 abbrev pub summary_of : Inputs → List ClockTest → List ℕ
 summary_of inputs undecided = summary_in run_order inputs undecided
 
--- the status of an auction that was carried through: 0 where no test was left open, else 1
+-- the status of an auction that was carried through: whether a test of it was left open
 abbrev pub done_status : List ClockTest → ℕ
-done_status undecided = if is_empty undecided then 0 else 1
+done_status undecided = if is_empty undecided then DONE else LEFT_OPEN
 
 -- the start set fits
 abbrev pub StartFits : Inputs → Type 0

@@ -9,6 +9,7 @@ use Rattle.auction_cmd.specs.declared.inputs.Inputs.{Inputs}
 use Rattle.auction_cmd.specs.Ends.{AreHeld, Concludes, IsHalted, IsNotLoaded, IsStarved, IsTextHeld}
 use Rattle.auction_cmd.specs.Outside.{Outside, IsSaid}
 use Rattle.auction_cmd.specs.Resumption.{GoesOnFrom, StandsBehind, begun}
+use Rattle.auction_cmd.specs.Statuses.{NOT_SHOWN}
 use Rattle.auction_cmd.specs.Verified.{CanBeNamed, fault_line}
 use Rattle.auction_cmd.specs.Words.{ResumeNames, begun_names}
 
@@ -20,7 +21,7 @@ pub data ResumeEnds (names : ResumeNames) (before after : Outside) (status : ℕ
   PrefixNotLoaded : (inputs : Inputs) → AreHeld names.run_files.inputs before inputs → IsNotLoaded names.prefix before after status →
       found ≡ None → after.files ≡ before.files → ResumeEnds names before after status found
   NotBegun : (inputs : Inputs) (text : List ℕ) (fault : TranscriptFault) → AreHeld names.run_files.inputs before inputs →
-      CanBeNamed inputs → IsTextHeld (begun_names names) before text → begun inputs text ≡ Err fault → status ≡ 9 → found ≡ None →
+      CanBeNamed inputs → IsTextHeld (begun_names names) before text → begun inputs text ≡ Err fault → status ≡ NOT_SHOWN → found ≡ None →
       IsSaid before after (fault_line names.prefix fault) → after.files ≡ before.files → ResumeEnds names before after status found
   WentOn : (inputs : Inputs) (text : List ℕ) (kept : Prefix) (rec : Record) → AreHeld names.run_files.inputs before inputs →
       CanBeNamed inputs → IsTextHeld (begun_names names) before text → begun inputs text ≡ Ok kept → GoesOnFrom kept rec →

@@ -21,6 +21,7 @@ use Rattle.auction_cmd.specs.LivePromises.{IsLive}
 use Rattle.auction_cmd.specs.Outside.{Outside, IsSaid}
 use Rattle.auction_cmd.specs.Records.{IsEndedRecordIn, IsOpenRecordIn, IsRecordIn, StartFits, StartUnfit, done_status, outcome, result_of, summary_in}
 use Rattle.auction_cmd.specs.Says.{open_line, unfit_line, unwritten_line}
+use Rattle.auction_cmd.specs.Statuses.{DONE, LEFT_OPEN, UNWRITTEN, START_UNFIT, START_OPEN, NO_MEMORY}
 use Rattle.auction_cmd.specs.Verified.{verified}
 use Rattle.auction_cmd.specs.VerifyPromises.{IsOr}
 use Rattle.auction_cmd.specs.Words.{RunNames, output_names}
@@ -108,29 +109,29 @@ pub record IsLeftOpen (order : Order) (files : List StoredFile) (names : RunName
 -- Of a folder that tells its files.
 pub record ToldRun (order : Order) (files : List StoredFile) (names : RunNames) (before after : Outside) (status : ℕ) (found : Option Record) : Type 0 where
   -- At status 0 and 1 the auction of the inputs that the files hold was carried out, at 0 with every test decided.
-  pub done : IsTrue (is_in (0 ∷ 1 ∷ []) status) → IsDone order files names before after status found
-  pub decided : status ≡ 0 → IsDecided order files names before after
+  pub done : IsTrue (is_in (DONE ∷ LEFT_OPEN ∷ []) status) → IsDone order files names before after status found
+  pub decided : status ≡ DONE → IsDecided order files names before after
   -- Status 6 comes only where the start set of accepted inputs doesn't fit, and 7 only where the record has a receipt of
   -- every worker that its budget was spent on that set. Where it doesn't fit one of them comes, but for want of memory and a
   -- folder that isn't steady; where nobody starts on air neither does.
-  pub unfit : status ≡ 6 → (inputs : Inputs) × (inputs_of files names.inputs ≡ Ok inputs) × StartUnfit inputs × IsSaid before after unfit_line
-  pub unfits : (inputs : Inputs) → inputs_of files names.inputs ≡ Ok inputs → StartUnfit inputs → IsOr 6 before status ⊎ (status ≡ 7)
-  pub left_open : status ≡ 7 → IsLeftOpen order files names before after found
-  pub nobody : (inputs : Inputs) → inputs_of files names.inputs ≡ Ok inputs → start_set inputs.scenario ≡ [] → IsFalse (is_in (6 ∷ 7 ∷ []) status)
+  pub unfit : status ≡ START_UNFIT → (inputs : Inputs) × (inputs_of files names.inputs ≡ Ok inputs) × StartUnfit inputs × IsSaid before after unfit_line
+  pub unfits : (inputs : Inputs) → inputs_of files names.inputs ≡ Ok inputs → StartUnfit inputs → IsOr START_UNFIT before status ⊎ (status ≡ START_OPEN)
+  pub left_open : status ≡ START_OPEN → IsLeftOpen order files names before after found
+  pub nobody : (inputs : Inputs) → inputs_of files names.inputs ≡ Ok inputs → start_set inputs.scenario ≡ [] → IsFalse (is_in (START_UNFIT ∷ START_OPEN ∷ []) status)
   -- At status 4 a store failed, or the three texts are stored and the summary was written, or some of it from the first byte on.
   -- It never comes over a steady folder and a sink that surely takes the summary, whatever is undecided. Where memory runs out at
   -- a store, there is a record, and the texts before it are stored.
-  pub stored : status ≡ 4 → IsUnwritten order files names before after found
-  pub part_stored : status ≡ 8 → IsSome found → IsPartStored order files names after found
+  pub stored : status ≡ UNWRITTEN → IsUnwritten order files names before after found
+  pub part_stored : status ≡ NO_MEMORY → IsSome found → IsPartStored order files names after found
   pub surely_written : before.steady ≡ true →
       ((inputs : Inputs) (undecided : List ClockTest) → inputs_of files names.inputs ≡ Ok inputs → length (summary_in order inputs undecided) ≤ before.sure) →
-      status ≢ 4
+      status ≢ UNWRITTEN
   -- No file is touched but RESULT, CHANNELS and TRANSCRIPT.
   pub others : MatchOption after.files ⊥ (λ new. AllOthersStand files new (output_names names))
   -- Accepted inputs are carried through, where the start set fits and its test isn't left open, but for want of memory and faults
   -- of the outside.
   pub complete : (inputs : Inputs) → inputs_of files names.inputs ≡ Ok inputs → StartFits inputs →
-      IsOr 0 before status ⊎ IsTrue (is_in (1 ∷ 4 ∷ 7 ∷ []) status)
+      IsOr DONE before status ⊎ IsTrue (is_in (LEFT_OPEN ∷ UNWRITTEN ∷ START_OPEN ∷ []) status)
   -- What may be relied on of a live auction, one with an owners' file, beside that.
   pub live : (owners : List ℕ) → names.inputs.owners ≡ Some owners → IsSome found → IsLive files names.inputs owners found
 
@@ -138,12 +139,12 @@ pub record RunPromises (order : Order) (names : RunNames) (before after : Outsid
   pub told : (files : List StoredFile) → before.files ≡ Some files → ToldRun order files names before after status found
   -- Also where the folder tells nothing, the sink grew at 0 and 1 by the summary of the record, and the status is 0 exactly
   -- where no test was left open.
-  pub summed : IsTrue (is_in (0 ∷ 1 ∷ []) status) →
+  pub summed : IsTrue (is_in (DONE ∷ LEFT_OPEN ∷ []) status) →
       (inputs : Inputs) × (rec : Record) × (found ≡ Some rec) × IsRecordIn order inputs rec
       × (status ≡ done_status (undecided_of rec.steps))
       × Writes before.held after.held (summary_in order inputs (undecided_of rec.steps)) (Ok tt)
   -- The record is that of the inputs: of an auction that was carried through at 0, 1 and 4, of a refuted start at 6 and of one left
   -- open at 7.
-  pub recorded : IsTrue (is_in (0 ∷ 1 ∷ 4 ∷ []) status) → IsRecordAt order names before Done found
-  pub refuted_recorded : status ≡ 6 → IsRecordAt order names before StartRefuted found
-  pub open_recorded : status ≡ 7 → IsRecordAt order names before StartUndecided found
+  pub recorded : IsTrue (is_in (DONE ∷ LEFT_OPEN ∷ UNWRITTEN ∷ []) status) → IsRecordAt order names before Done found
+  pub refuted_recorded : status ≡ START_UNFIT → IsRecordAt order names before StartRefuted found
+  pub open_recorded : status ≡ START_OPEN → IsRecordAt order names before StartUndecided found

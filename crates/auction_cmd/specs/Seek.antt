@@ -21,6 +21,7 @@ use Rattle.auction_cmd.specs.declared.tops.FoundTop.{FoundTop}
 use Rattle.auction_cmd.specs.declared.tops.FoundTop.TheVariants.{NoneFits, LastOpen, Found}
 use Rattle.auction_cmd.specs.Inputs.{and_then, inputs_by, sources_of}
 use Rattle.auction_cmd.specs.Records.{IsOpenRecordOf, IsRecordBy, IsRecordOf, IsRefutedRecordOf}
+use Rattle.auction_cmd.specs.Statuses.{DONE, LEFT_OPEN}
 use Rattle.auction_cmd.specs.Words.{InputNames}
 
 -- ---- what is read
@@ -130,6 +131,6 @@ abbrev pub top_text : ℕ → Bool → List ℕ
 top_text top false = count_line (codes "top") top
 top_text top true = count_line (codes "top") top ++ count_line (codes "undecided") (top - 1)
 
--- the status: 0 where it is the least, 1 where the test below was left open
+-- the status: all is done where it is the least, else the test below was left open
 abbrev pub top_status : Bool → ℕ
-top_status is_open = if is_open then 1 else 0
+top_status is_open = if is_open then LEFT_OPEN else DONE

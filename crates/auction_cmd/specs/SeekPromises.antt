@@ -19,6 +19,7 @@ use Rattle.auction_cmd.specs.Outside.{Outside, IsSaid}
 use Rattle.auction_cmd.specs.Records.{IsOpenRecordOf, IsRefutedRecordOf}
 use Rattle.auction_cmd.specs.Says.{open_line, unfit_line, unwritten_line}
 use Rattle.auction_cmd.specs.Seek.{IsLeastTop, IsSeekable, base_of, inputs_at, seekable_of, top_status, top_text}
+use Rattle.auction_cmd.specs.Statuses.{DONE, LEFT_OPEN, UNREAD, UNWRITTEN, REFUSED, START_UNFIT, START_OPEN, NO_MEMORY}
 use Rattle.auction_cmd.specs.VerifyPromises.{IsOr}
 use Rattle.auction_cmd.specs.Words.{SeekNames, seek_inputs}
 
@@ -72,45 +73,45 @@ pub record IsTopOpen (names : SeekNames) (before after : Outside) (found : Optio
   pub line : IsSaid before after open_line
 
 pub record SeekPromises (names : SeekNames) (before after : Outside) (status : ℕ) (found below : Option Record) : Type 0 where
-  pub statuses : IsTrue (is_in (0 ∷ 1 ∷ 3 ∷ 4 ∷ 5 ∷ 6 ∷ 7 ∷ 8 ∷ []) status)
+  pub statuses : IsTrue (is_in (DONE ∷ LEFT_OPEN ∷ UNREAD ∷ UNWRITTEN ∷ REFUSED ∷ START_UNFIT ∷ START_OPEN ∷ NO_MEMORY ∷ []) status)
   -- At status 0, 1 and 4 a top channel was found, also where the folder tells nothing: at 0 and 1 it was printed, at 0 it is the
   -- least one from 14 on, and at 1 the test of one channel less was left open, and that channel was printed too. Where it is above
   -- 14, at 0, the start of the second record is shown not to fit. At 8 one may have been found, and both records are there then.
-  pub of : IsTrue (is_in (0 ∷ 1 ∷ 4 ∷ []) status) → IsTopOf names before found below
-  pub done : IsTrue (is_in (0 ∷ 1 ∷ []) status) →
+  pub of : IsTrue (is_in (DONE ∷ LEFT_OPEN ∷ UNWRITTEN ∷ []) status) → IsTopOf names before found below
+  pub done : IsTrue (is_in (DONE ∷ LEFT_OPEN ∷ []) status) →
       (of : IsTopOf names before found below) × (status ≡ top_status of.x.is_open)
       × Writes before.held after.held (top_text of.x.top of.x.is_open) (Ok tt)
-  pub least : status ≡ 0 →
+  pub least : status ≡ DONE →
       (of : IsTopOf names before found below) × ((less : ℕ) → 14 ≤ less → less < of.x.top → IsFalse (fits_at (base_of of.sources) less))
       × MatchOption below (of.x.top ≡ 14) (λ rec. (14 < of.x.top) × IsTrue (shows_unfit rec.start))
       × Writes before.held after.held (top_text of.x.top false) (Ok tt)
-  pub starved : status ≡ 8 → ((found ≡ None) × (below ≡ None)) ⊎ IsTopOf names before found below
+  pub starved : status ≡ NO_MEMORY → ((found ≡ None) × (below ≡ None)) ⊎ IsTopOf names before found below
   -- There CHANNELS holds the text of the channels, and every other file stands.
-  pub stored : (files : List StoredFile) → before.files ≡ Some files → IsTrue (is_in (0 ∷ 1 ∷ []) status) →
+  pub stored : (files : List StoredFile) → before.files ≡ Some files → IsTrue (is_in (DONE ∷ LEFT_OPEN ∷ []) status) →
       (of : IsTopOf names before found below) × MatchOption after.files ⊥ (λ new. AreStored files new (seek_texts names of.x.rec))
   -- Status 6 comes only where the start set doesn't fit up to the scenario's own top channel, and 7 only where the record has a
   -- receipt of every worker that its budget was spent on that. Where it doesn't fit one of them comes, but for want of memory and
   -- a folder that isn't steady.
-  pub unfit : status ≡ 6 → IsNoTop names before after found
-  pub left_open : status ≡ 7 → IsTopOpen names before after found
+  pub unfit : status ≡ START_UNFIT → IsNoTop names before after found
+  pub left_open : status ≡ START_OPEN → IsTopOpen names before after found
   pub unfits : (files : List StoredFile) (sources : Sources) → before.files ≡ Some files → seekable_of files (seek_inputs names) ≡ Ok sources →
-      IsFalse (fits_at (base_of sources) sources.scenario.top) → IsOr 6 before status ⊎ (status ≡ 7)
+      IsFalse (fits_at (base_of sources) sources.scenario.top) → IsOr START_UNFIT before status ⊎ (status ≡ START_OPEN)
   -- Where it fits, a top channel is found, but for want of memory and faults of the outside, or that test is left open.
   pub complete : (files : List StoredFile) (sources : Sources) → before.files ≡ Some files → seekable_of files (seek_inputs names) ≡ Ok sources →
-      IsTrue (fits_at (base_of sources) sources.scenario.top) → IsOr 0 before status ⊎ IsTrue (is_in (1 ∷ 4 ∷ 7 ∷ []) status)
+      IsTrue (fits_at (base_of sources) sources.scenario.top) → IsOr DONE before status ⊎ IsTrue (is_in (LEFT_OPEN ∷ UNWRITTEN ∷ START_OPEN ∷ []) status)
   -- Where nobody starts on air that channel is 14, and nothing is left open.
   pub nobody : (files : List StoredFile) (sources : Sources) → before.files ≡ Some files → seekable_of files (seek_inputs names) ≡ Ok sources →
       start_set sources.scenario ≡ [] →
-      (IsOr 0 before status ⊎ (status ≡ 4)) × (status ≡ 0 → Writes before.held after.held (top_text 14 false) (Ok tt))
+      (IsOr DONE before status ⊎ (status ≡ UNWRITTEN)) × (status ≡ DONE → Writes before.held after.held (top_text 14 false) (Ok tt))
   -- Status 4 comes only where the store failed, of a folder that isn't steady, and the line names the file; or the channels are
   -- stored, and the sink was not sure of the top channel: some of the text was printed, from the first byte on.
-  pub unwritten : status ≡ 4 →
+  pub unwritten : status ≡ UNWRITTEN →
       (HasRisen before.faults after.faults × (before.steady ≢ true) × IsSaid before after (unwritten_line names.channels))
       ⊎ ((of : IsTopOf names before found below) × HasRisen before.cuts after.cuts
       × (before.sure < length (top_text of.x.top of.x.is_open)) × IsSaid before after (top_text of.x.top of.x.is_open)
       × ((files : List StoredFile) → before.files ≡ Some files → MatchOption after.files ⊥ (λ new. AreStored files new (seek_texts names of.x.rec))))
   -- The record of one channel less comes only beside that of a top channel that was found.
-  pub alone : IsTrue (is_in (3 ∷ 5 ∷ 6 ∷ 7 ∷ []) status) → below ≡ None
+  pub alone : IsTrue (is_in (UNREAD ∷ REFUSED ∷ START_UNFIT ∷ START_OPEN ∷ []) status) → below ≡ None
   -- No file is touched but CHANNELS.
   pub others : (files : List StoredFile) → before.files ≡ Some files →
       MatchOption after.files ⊥ (λ new. AllOthersStand files new (names.channels ∷ []))

@@ -22,6 +22,7 @@ use Rattle.auction_cmd.specs.Inputs.{file_limit}
 use Rattle.auction_cmd.specs.Records.{IsRecordIn}
 use Rattle.auction_cmd.specs.Says.{Says, long_line, memory_line, unread_line}
 use Rattle.auction_cmd.specs.Settling.{log_line}
+use Rattle.auction_cmd.specs.Statuses.{UNREAD, REFUSED, NO_MEMORY, NOT_SHOWN, NOT_SETTLED}
 use Rattle.auction_cmd.specs.Verified.{fault_line}
 
 -- The reader has read bytes that are those of this name's file, where the folder tells its files, and no more than a file may
@@ -39,9 +40,9 @@ IsTextRead inputs told steady before now name (Err NoLoad) = ⊤
 
 -- the status and the line of a transcript that was not loaded
 abbrev pub ExplainsLoad : List ℕ → LoadErr → Option (List ℕ) → Option (List ℕ) → ℕ → ℕ → ℕ → Type 0
-ExplainsLoad name Failed held held' cuts cuts' status = (status ≡ 3) × Says held held' cuts cuts' (unread_line name)
-ExplainsLoad name TooLong held held' cuts cuts' status = (status ≡ 5) × Says held held' cuts cuts' (long_line name)
-ExplainsLoad name NoLoad held held' cuts cuts' status = (status ≡ 8) × Says held held' cuts cuts' memory_line
+ExplainsLoad name Failed held held' cuts cuts' status = (status ≡ UNREAD) × Says held held' cuts cuts' (unread_line name)
+ExplainsLoad name TooLong held held' cuts cuts' status = (status ≡ REFUSED) × Says held held' cuts cuts' (long_line name)
+ExplainsLoad name NoLoad held held' cuts cuts' status = (status ≡ NO_MEMORY) × Says held held' cuts cuts' memory_line
 
 -- The bytes are those of this name's file, where the folder tells its files, and no more than a file may have; or the file can't
 -- be read, which for a steady folder says that it isn't there; or it is too long. Memory may run out.
@@ -65,8 +66,8 @@ not_read NoRoom = NoMemory
 -- the status and the line of a transcript of which there is no record
 abbrev pub ExplainsDenied : List ℕ → Denied → Option (List ℕ) → Option (List ℕ) → ℕ → ℕ → ℕ → Type 0
 ExplainsDenied name (Fault fault) held held' cuts cuts' status =
-    (status ≡ 9) × Says held held' cuts cuts' (fault_line name fault)
-ExplainsDenied name NoMemory held held' cuts cuts' status = (status ≡ 8) × Says held held' cuts cuts' memory_line
+    (status ≡ NOT_SHOWN) × Says held held' cuts cuts' (fault_line name fault)
+ExplainsDenied name NoMemory held held' cuts cuts' status = (status ≡ NO_MEMORY) × Says held held' cuts cuts' memory_line
 
 -- The answer is what the definitions make of the transcript: the record that it shows, which is that of the auction of the
 -- inputs; or its first fault. Memory may run out.
@@ -80,10 +81,10 @@ IsVerdict inputs wanted (Err NoMemory) = ⊤
 -- the status and the line of a log that settled nothing
 abbrev pub ExplainsLog : List ℕ → SettleErr → Option (List ℕ) → Option (List ℕ) → ℕ → ℕ → ℕ → Type 0
 ExplainsLog name (settle.Unread why) held held' cuts cuts' status =
-    (status ≡ 10) × Says held held' cuts cuts' (log_line name (settle.Unread why))
+    (status ≡ NOT_SETTLED) × Says held held' cuts cuts' (log_line name (settle.Unread why))
 ExplainsLog name settle.NoRefutation held held' cuts cuts' status =
-    (status ≡ 10) × Says held held' cuts cuts' (log_line name settle.NoRefutation)
-ExplainsLog name settle.NoMemory held held' cuts cuts' status = (status ≡ 8) × Says held held' cuts cuts' memory_line
+    (status ≡ NOT_SETTLED) × Says held held' cuts cuts' (log_line name settle.NoRefutation)
+ExplainsLog name settle.NoMemory held held' cuts cuts' status = (status ≡ NO_MEMORY) × Says held held' cuts cuts' memory_line
 
 -- The answer is what the definitions make of the log: the record with the step settled, which is one of the auction of the
 -- inputs; or the log's fault. Memory may run out.

@@ -7,6 +7,7 @@ ghost use Rattle.auction_cmd.specs.Outside.{outside};
 ghost use Rattle.auction_cmd.specs.Plan.{plan_of};
 ghost use Rattle.auction_cmd.specs.Program.{ProgramEnds, ProgramPromises};
 ghost use Rattle.auction_cmd.specs.Says.{Says, twice_line};
+ghost use Rattle.auction_cmd.specs.Statuses.{REFUSED};
 
 use crate::batch::batch;
 use crate::check::check;
@@ -19,6 +20,7 @@ use crate::resume::resume;
 use crate::run::run;
 use crate::says::say;
 use crate::seek::seek;
+use crate::status::{NO_COMMAND, REFUSED};
 use crate::verify::verify;
 use crate::words::{Order, WordsFault, read_words};
 use outside_io::folder::Folder;
@@ -30,14 +32,14 @@ use std::thread::Threads;
 
 // Says that this output name is given twice.
 fn refuse_twice<K: Sink>(out: &mut K, name: &str) -> Finish
-    ensures status { result.status ≡ 5 }
+    ensures status { result.status ≡ REFUSED }
     ensures none { result.result ≡ None }
     ensures no_other { result.below ≡ None }
     ensures no_batch { result.batch ≡ [] }
     ensures says { Says (K.held out.old) (K.held out.new) (K.faults out.old) (K.faults out.new) (twice_line name.now) }
 {
     say(out, &[name, ": given twice\n"]);
-    Finish::without_record(5)
+    Finish::without_record(REFUSED)
 }
 
 // Carries out what the words ask for.
@@ -88,7 +90,7 @@ fn carry_out<F: Folder, K: Sink, G: Gate + Sync, W: Threads + Wait + Sync>(
         },
         Err(WordsFault::Refused(text)) => {
             say(out, &[text.as_str()]);
-            Finish::without_record(2)
+            Finish::without_record(NO_COMMAND)
         }
         Err(WordsFault::NoMemory) => starve(out),
     }

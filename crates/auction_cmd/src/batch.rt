@@ -8,6 +8,7 @@ ghost use Rattle.auction_cmd.specs.BatchEnds.{AreRecordsOf, BatchEnds};
 ghost use Rattle.auction_cmd.specs.Delivery.{Delivers};
 ghost use Rattle.auction_cmd.specs.Faults.{IsCounted};
 ghost use Rattle.auction_cmd.specs.Outside.{outside};
+ghost use Rattle.auction_cmd.specs.Statuses.{LEFT_OPEN};
 ghost use Rattle.auction_cmd.specs.Words.{batch_seen};
 
 use crate::batch_inputs::{ReadBatch, read_each, read_listed};
@@ -18,6 +19,7 @@ use crate::finish::Finish;
 use crate::inputs::Inputs;
 use crate::run::{done_status, store};
 use crate::says::say;
+use crate::status::{DONE, LEFT_OPEN, REFUSED, SOME_UNSTARTED, START_OPEN, START_UNFIT, UNWRITTEN};
 use auction_core::record::{Ending, Record};
 use batch_list::line::BatchLine;
 use batch_list::repeated::first_repeated;
@@ -80,8 +82,8 @@ fn own_status(rec: &Record) -> u8
 {
     match rec.ending {
         Ending::Done => done_status(rec),
-        Ending::StartRefuted => 6,
-        Ending::StartUndecided => 7,
+        Ending::StartRefuted => START_UNFIT,
+        Ending::StartUndecided => START_OPEN,
     }
 }
 
@@ -94,9 +96,9 @@ fn any_at_start(records: &[Record]) -> bool
 
 // Whether a test of an auction was left open that was carried through.
 fn any_left_open(records: &[Record]) -> bool
-    ensures { result ≡ list_any (λ rec. own_status rec == 1) records.now }
+    ensures { result ≡ list_any (λ rec. own_status rec == LEFT_OPEN) records.now }
 {
-    records.iter().any(|rec| own_status(rec) == 1)
+    records.iter().any(|rec| own_status(rec) == LEFT_OPEN)
 }
 
 // The status of the batch.
@@ -104,12 +106,12 @@ fn batch_status(records: &[Record]) -> u8
     ensures { result ≡ batch_status records.now }
 {
     if any_at_start(records) {
-        return 11;
+        return SOME_UNSTARTED;
     }
     if any_left_open(records) {
-        return 1;
+        return LEFT_OPEN;
     }
-    0
+    DONE
 }
 
 // Puts the lines of these scenarios' names and their auctions' statuses to the text.
@@ -158,7 +160,7 @@ fn deliver<F: Folder, K: Sink>(
     let Some((line, lines_left)) = lines.split_first() else {
         return match out.write(printed) {
             Ok(()) => done,
-            Err(_) => 4,
+            Err(_) => UNWRITTEN,
         };
     };
     let Some((text, texts_left)) = texts.split_first() else {
@@ -236,7 +238,7 @@ pub fn batch<F: Folder, K: Sink, G: Gate + Sync, W: Threads + Wait + Sync>(
     };
     if let Some(name) = first_repeated(&[files.domains, files.rows, files.list], &listed.lines) {
         say(out, &[name, ": given twice\n"]);
-        return Finish::without_record(5);
+        return Finish::without_record(REFUSED);
     }
     let ReadBatch { lines, inputs } = match read_each(alloc, folder, out, files, listed) {
         Ok(read) => read,

@@ -10,6 +10,7 @@ ghost use Rattle.auction_cmd.specs.Words.{inputs_seen};
 use crate::explain::{explain, starve};
 use crate::finish::Finish;
 use crate::inputs::{Inputs, read_inputs};
+use crate::status::{DONE, UNWRITTEN};
 use crate::words::InputArgs;
 use outside_io::folder::Folder;
 use outside_io::sink::Sink;
@@ -56,7 +57,7 @@ pub fn check<F: Folder, K: Sink>(
         return starve(out);
     };
     match out.write(&text) {
-        Ok(()) => Finish::without_record(0),
-        Err(_) => Finish::without_record(4),
+        Ok(()) => Finish::without_record(DONE),
+        Err(_) => Finish::without_record(UNWRITTEN),
     }
 }

@@ -3,12 +3,14 @@
 ghost use Rattle.std.specs.Prelude.{◌≡◌, ◌≤◌, [], None};
 ghost use Rattle.auction_cmd.specs.Ends.{Explains};
 ghost use Rattle.auction_cmd.specs.Says.{Says, memory_line};
+ghost use Rattle.auction_cmd.specs.Statuses.{NO_MEMORY};
 ghost use Rattle.auction_cmd.specs.Words.{inputs_seen};
 
 use crate::finish::Finish;
 use crate::inputs::Stop;
 use crate::refusal::say_refused;
 use crate::says::say;
+use crate::status::{NO_MEMORY, REFUSED, UNREAD};
 use crate::words::InputArgs;
 use outside_io::sink::Sink;
 
@@ -20,15 +22,15 @@ pub fn explain<K: Sink>(out: &mut K, files: &InputArgs<'_>, stop: Stop) -> u8
     match stop {
         Stop::CannotRead(input) => {
             say(out, &["cannot read ", files.of(input), "\n"]);
-            3
+            UNREAD
         }
         Stop::Refused(why) => {
             say_refused(out, files, why);
-            5
+            REFUSED
         }
         Stop::NoMemory => {
             say_memory(out);
-            8
+            NO_MEMORY
         }
     }
 }
@@ -43,12 +45,12 @@ pub fn say_memory<K: Sink>(out: &mut K)
 
 /// The end where memory ran out and nothing was stored.
 pub fn starve<K: Sink>(out: &mut K) -> Finish
-    ensures status { result.status ≡ 8 }
+    ensures status { result.status ≡ NO_MEMORY }
     ensures none { result.result ≡ None }
     ensures no_other { result.below ≡ None }
     ensures no_batch { result.batch ≡ [] }
     ensures line { Says (K.held out.old) (K.held out.new) (K.faults out.old) (K.faults out.new) memory_line }
 {
     say_memory(out);
-    Finish::without_record(8)
+    Finish::without_record(NO_MEMORY)
 }

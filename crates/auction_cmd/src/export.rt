@@ -18,6 +18,7 @@ use crate::proof_words::ExportArgs;
 use crate::run::store;
 use crate::settling::{missing_fault, say_step};
 use crate::shown::{ShownAuction, shown_by};
+use crate::status::{DONE, NOT_SETTLED};
 use auction_core::record::Record;
 use open_tests::formula::formula_of_step;
 use outside_io::folder::Folder;
@@ -60,13 +61,13 @@ pub fn export<F: Folder, K: Sink>(
     };
     if let Some(fault) = missing_fault(&record, files.step) {
         say_step(out, files.step, fault);
-        return Finish::without_record(10);
+        return Finish::without_record(NOT_SETTLED);
     }
     let Ok(text) = formula_of(alloc, &inputs, &record, files.step) else {
         return starve(out);
     };
     match store(folder, out, files.formula, &text) {
-        Ok(()) => Finish::without_record(0),
+        Ok(()) => Finish::without_record(DONE),
         Err(status) => Finish::without_record(status),
     }
 }

@@ -23,6 +23,7 @@ use crate::proof_words::ImportArgs;
 use crate::run::{done_status, store};
 use crate::settling::{open_fault, say_log, say_step};
 use crate::shown::{ShownAuction, file_bytes, say_unloaded, shown_by};
+use crate::status::{NOT_SETTLED, NO_MEMORY, UNWRITTEN};
 use crate::verify::result_text;
 use auction_core::record::Record;
 use open_tests::settle::{SettleErr, settle_by_text};
@@ -65,10 +66,10 @@ fn say_unsettled<K: Sink>(out: &mut K, name: &str, why: SettleErr) -> u8
 {
     if let SettleErr::NoMemory = why {
         say_memory(out);
-        return 8;
+        return NO_MEMORY;
     }
     say_log(out, name, why);
-    10
+    NOT_SETTLED
 }
 
 // The texts of this record, which is one of the inputs' auction. It touches nothing outside.
@@ -116,7 +117,7 @@ fn deliver<F: Folder, K: Sink>(
     }
     match out.write(&texts.summary) {
         Ok(()) => done,
-        Err(_) => 4,
+        Err(_) => UNWRITTEN,
     }
 }
 
@@ -146,7 +147,7 @@ pub fn import<F: Folder, K: Sink>(
     };
     if let Some(fault) = open_fault(&record, files.step) {
         say_step(out, files.step, fault);
-        return Finish::without_record(10);
+        return Finish::without_record(NOT_SETTLED);
     }
     let log = match file_bytes(alloc, folder, files.proof) {
         Ok(log) => log,

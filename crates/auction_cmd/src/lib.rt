@@ -5,7 +5,7 @@
 //! Read `words` and `auction` first: which command the words are, and who carries it out. Then `run`, with `inputs`, `sources` and
 //! `constraints`, which read, and `conclude`, which stores and writes. The others are like it: `check`; `verify`, with `shown`;
 //! `resume`; `seek`, with `tops`; `batch`, with `batch_inputs` and `batch_run`; `make`; `export` and `import`, with `settling`. How a
-//! command ends is in `finish`, and what it says in `says`, `explain`, `refusal` and `fault`.
+//! command ends is in `finish` and `status`, and what it says in `says`, `explain`, `refusal` and `fault`.
 #![tactic(auto)]
 
 pub mod auction;
@@ -34,6 +34,7 @@ pub mod seek_words;
 pub mod settling;
 mod shown;
 mod sources;
+pub mod status;
 mod tops;
 mod verify;
 pub mod words;

@@ -20,6 +20,7 @@ use crate::finish::Finish;
 use crate::inputs::Inputs;
 use crate::make_words::MakeArgs;
 use crate::run::{auction_of, done_status, store};
+use crate::status::UNWRITTEN;
 use crate::words::InputArgs;
 use auction_core::record::Record;
 use constraint_files::domains::read_domains;
@@ -179,6 +180,6 @@ pub fn make<F: Folder, K: Sink, G: Gate + Sync, W: Threads + Wait + Sync>(
     let done = done_status(&carried.record);
     match out.write(&carried.summary) {
         Ok(()) => Finish::with_record(done, carried.record),
-        Err(_) => Finish::with_record(4, carried.record),
+        Err(_) => Finish::with_record(UNWRITTEN, carried.record),
     }
 }

@@ -18,6 +18,7 @@ use crate::explain::{explain, say_memory, starve};
 use crate::finish::Finish;
 use crate::inputs::{Inputs, read_inputs};
 use crate::says::say;
+use crate::status::{DONE, LEFT_OPEN, NO_MEMORY, START_OPEN, START_UNFIT, UNWRITTEN};
 use crate::words::RunArgs;
 use auction_core::record::{Ending, Record, Shown, Step};
 use outside_io::folder::{Folder, StoreErr};
@@ -72,14 +73,14 @@ fn any_undecided(steps: &[Step]) -> bool
     steps.iter().any(is_undecided)
 }
 
-// The status of an auction that was carried through: 0 where no test was left open, else 1.
+// The status of an auction that was carried through: whether a test of it was left open.
 pub fn done_status(rec: &Record) -> u8
     ensures { result ≡ done_status (undecided_of rec.now.steps) }
 {
     if any_undecided(rec.steps.as_slice()) {
-        return 1;
+        return LEFT_OPEN;
     }
-    0
+    DONE
 }
 
 // The texts of this record, which is one of the inputs' auction. It touches nothing outside.
@@ -125,11 +126,11 @@ pub fn store<F: Folder, K: Sink>(
         Ok(()) => Ok(()),
         Err(StoreErr::Failed) => {
             say(out, &["cannot write ", name, "\n"]);
-            Err(4)
+            Err(UNWRITTEN)
         }
         Err(StoreErr::NoMemory) => {
             say_memory(out);
-            Err(8)
+            Err(NO_MEMORY)
         }
     }
 }
@@ -164,7 +165,7 @@ fn deliver<F: Folder, K: Sink>(
     }
     match out.write(&texts.summary) {
         Ok(()) => done,
-        Err(_) => 4,
+        Err(_) => UNWRITTEN,
     }
 }
 
@@ -199,11 +200,11 @@ pub fn conclude<F: Folder, K: Sink>(
         Ending::Done => {}
         Ending::StartRefuted => {
             say(out, &["the start set does not fit\n"]);
-            return Finish::with_record(6, rec);
+            return Finish::with_record(START_UNFIT, rec);
         }
         Ending::StartUndecided => {
             say(out, &["the start set is undecided\n"]);
-            return Finish::with_record(7, rec);
+            return Finish::with_record(START_OPEN, rec);
         }
     }
     let Ok(texts) = texts_of(alloc, inputs, &rec) else {

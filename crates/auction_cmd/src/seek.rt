@@ -18,6 +18,7 @@ use crate::run::store;
 use crate::says::say;
 use crate::seek_words::SeekArgs;
 use crate::sources::{Sources, book_of, read_sources};
+use crate::status::{DONE, LEFT_OPEN, START_OPEN, START_UNFIT, UNWRITTEN};
 use crate::tops::{FoundTop, LeastTop, least_top};
 use crate::words::InputArgs;
 use auction_core::record::Record;
@@ -80,14 +81,14 @@ fn texts_of(alloc: Global, rec: &Record, top: u8, is_open: bool) -> Result<Texts
     Ok(Texts { channels, top })
 }
 
-// The status of a top channel that was found: 0 where it is the least, 1 where the test of one channel less was left open.
+// The status of a top channel that was found: whether the test of one channel less was left open.
 fn top_status(is_open: bool) -> u8
     ensures { result ≡ top_status is_open }
 {
     if is_open {
-        return 1;
+        return LEFT_OPEN;
     }
-    0
+    DONE
 }
 
 // Stores the channels under this name and prints the top channel. It gives the status, which is `done` where all is done.
@@ -112,7 +113,7 @@ fn deliver<F: Folder, K: Sink>(
     }
     match out.write(&texts.top) {
         Ok(()) => done,
-        Err(_) => 4,
+        Err(_) => UNWRITTEN,
     }
 }
 
@@ -153,11 +154,11 @@ pub fn seek<F: Folder, K: Sink, G: Gate + Sync, W: Threads + Wait + Sync>(
     } = match found {
         FoundTop::NoneFits(rec) => {
             say(out, &["the start set does not fit\n"]);
-            return Finish::with_record(6, rec);
+            return Finish::with_record(START_UNFIT, rec);
         }
         FoundTop::LastOpen(rec) => {
             say(out, &["the start set is undecided\n"]);
-            return Finish::with_record(7, rec);
+            return Finish::with_record(START_OPEN, rec);
         }
         FoundTop::Found(found) => found,
     };

@@ -17,6 +17,7 @@ use crate::fault::{TranscriptFault, say_fault};
 use crate::finish::Finish;
 use crate::inputs::{FILE_LIMIT, Inputs, read_inputs};
 use crate::says::say;
+use crate::status::{NOT_SHOWN, NO_MEMORY, REFUSED, UNREAD};
 use crate::words::VerifyArgs;
 use auction_core::record::Record;
 use auction_core::transcript::Transcript;
@@ -94,15 +95,15 @@ pub fn say_unloaded<K: Sink>(out: &mut K, name: &str, why: LoadErr) -> u8
     match why {
         LoadErr::Failed => {
             say(out, &["cannot read ", name, "\n"]);
-            3
+            UNREAD
         }
         LoadErr::TooLong => {
             say(out, &[name, ": too long\n"]);
-            5
+            REFUSED
         }
         LoadErr::NoMemory => {
             say_memory(out);
-            8
+            NO_MEMORY
         }
     }
 }
@@ -153,11 +154,11 @@ pub(crate) fn say_denied<K: Sink>(out: &mut K, name: &str, why: Denied) -> u8
     match why {
         Denied::Fault(fault) => {
             say_fault(out, name, fault);
-            9
+            NOT_SHOWN
         }
         Denied::NoMemory => {
             say_memory(out);
-            8
+            NO_MEMORY
         }
     }
 }

@@ -14,6 +14,7 @@ use crate::finish::Finish;
 use crate::inputs::Inputs;
 use crate::run::done_status;
 use crate::shown::{ShownAuction, shown_by};
+use crate::status::UNWRITTEN;
 use crate::words::VerifyArgs;
 use auction_core::record::Record;
 use outside_io::folder::Folder;
@@ -60,6 +61,6 @@ pub fn verify<F: Folder, K: Sink>(
     let done = done_status(&record);
     match out.write(&result) {
         Ok(()) => Finish::with_record(done, record),
-        Err(_) => Finish::with_record(4, record),
+        Err(_) => Finish::with_record(UNWRITTEN, record),
     }
 }
