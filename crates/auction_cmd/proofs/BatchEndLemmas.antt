@@ -12,8 +12,8 @@ use Rattle.auction_cmd.specs.declared.batch_run.Ran.{Ran}
 use Rattle.auction_cmd.specs.declared.inputs.Inputs.{Inputs}
 use Rattle.auction_cmd.specs.declared.inputs.Stop.{Stop}
 use Rattle.auction_cmd.specs.declared.inputs.Stop.TheVariants.{CannotRead, NoMemory, Refused}
-use Rattle.auction_cmd.specs.Batch.{BatchStop, Unread, Twice, ListedView, among, batch_of, each_inputs, go_on, inputs_beside, inputs_with, listed_of, listed_seen, own_texts, words_of}
-use Rattle.auction_cmd.specs.BatchEnds.{AreRecordsOf, CountsStop, EachOf, ExplainsStop, IsBatchStopped, IsStopped, IsUnderList, IsUnderOneOf, StopsAsHeld, StopsUnder}
+use Rattle.auction_cmd.specs.Batch.{BatchStop, Unread, Twice, ListedView, among, batch_of, each_inputs, unless_stopped, inputs_beside, inputs_with, listing_of, listed_seen, own_texts, names_in_words}
+use Rattle.auction_cmd.specs.BatchEnds.{AreRecordsOf, CountsStop, EachOf, ExplainsStop, IsBatchStopped, IsReadingStopped, IsUnderList, IsUnderOneOf, StopsAsHeld, StopsUnder}
 use Rattle.auction_cmd.specs.BatchRuns.{IsRun}
 use Rattle.auction_cmd.specs.Inputs.{Agrees, CountsFault, RisesAt}
 use Rattle.auction_cmd.specs.Outside.{Outside}
@@ -27,37 +27,37 @@ module _ (files : List StoredFile) (names : BatchNames) where
   abbrev at : InputNames
   at = inputs_with names names.list
 
-  unlisted : (why : Stop) → listed_of files (inputs_with names names.list) ≡ Err why → batch_of files names ≡ Err (Unread (inputs_with names names.list) why)
+  unlisted : (why : Stop) → listing_of files (inputs_with names names.list) ≡ Err why → batch_of files names ≡ Err (Unread (inputs_with names names.list) why)
   unfolding batch_of
   unlisted why e = rw e refl
 
-  twice-listed : (listed : ListedView) (name : List ℕ) → listed_of files (inputs_with names names.list) ≡ Ok listed → repeated_result (words_of names) listed.lines ≡ Some name → batch_of files names ≡ Err (Twice name)
+  twice-listed : (listed : ListedView) (name : List ℕ) → listing_of files (inputs_with names names.list) ≡ Ok listed → repeated_result (names_in_words names) listed.lines ≡ Some name → batch_of files names ≡ Err (Twice name)
   unfolding batch_of
   twice-listed listed name e twice = rw (e, twice) refl
 
   -- what comes after the list
-  after-listed : (listed : ListedView) → listed_of files (inputs_with names names.list) ≡ Ok listed → repeated_result (words_of names) listed.lines ≡ None →
-      batch_of files names ≡ go_on (each_inputs files names listed.constraints listed.lines) (λ inputs. Ok (record { lines = listed.lines; inputs = inputs }))
+  after-listed : (listed : ListedView) → listing_of files (inputs_with names names.list) ≡ Ok listed → repeated_result (names_in_words names) listed.lines ≡ None →
+      batch_of files names ≡ unless_stopped (each_inputs files names listed.constraints listed.lines) (λ inputs. Ok (record { lines = listed.lines; inputs = inputs }))
   unfolding batch_of
   after-listed listed e once = rw (e, once) refl
 
-  pub stops-listing : (steady : Bool) (stop : Stop) → Agrees {A = Listed} listed_seen steady (listed_of files (inputs_with names names.list)) (Err stop) →
+  pub stops-listing : (steady : Bool) (stop : Stop) → Agrees {A = Listed} listed_seen steady (listing_of files (inputs_with names names.list)) (Err stop) →
       StopsAsHeld steady (batch_of files names) (Unread (inputs_with names names.list) stop)
   stops-listing steady (CannotRead input) h = λ still. unlisted (CannotRead input) (h still)
   stops-listing steady (Refused why) h = unlisted (Refused why) h
   stops-listing steady NoMemory h = tt
 
-  pub stops-twice : (steady : Bool) (listed : ListedView) (name : List ℕ) → listed_of files (inputs_with names names.list) ≡ Ok listed → Some name ≡ repeated_result (words_of names) listed.lines →
+  pub stops-twice : (steady : Bool) (listed : ListedView) (name : List ℕ) → listing_of files (inputs_with names names.list) ≡ Ok listed → Some name ≡ repeated_result (names_in_words names) listed.lines →
       StopsAsHeld steady (batch_of files names) (Twice name)
   stops-twice steady listed name e twice = twice-listed listed name e (sym twice)
 
   -- a stop of the scenarios' reading is one of the whole
-  pub stops-each : (steady : Bool) (listed : ListedView) (stop : BatchStop) → listed_of files (inputs_with names names.list) ≡ Ok listed → None ≡ repeated_result (words_of names) listed.lines →
+  pub stops-each : (steady : Bool) (listed : ListedView) (stop : BatchStop) → listing_of files (inputs_with names names.list) ≡ Ok listed → None ≡ repeated_result (names_in_words names) listed.lines →
       StopsAsHeld steady (each_inputs files names listed.constraints listed.lines) stop → StopsAsHeld steady (batch_of files names) stop
   stops-each steady listed stop e once h = by stop h
     where
       over : (s : BatchStop) → each_inputs files names listed.constraints listed.lines ≡ Err s → batch_of files names ≡ Err s
-      over s k = after-listed listed e (sym once) ∙ ap (λ r. go_on r (λ inputs. Ok (record { lines = listed.lines; inputs = inputs }))) k
+      over s k = after-listed listed e (sym once) ∙ ap (λ r. unless_stopped r (λ inputs. Ok (record { lines = listed.lines; inputs = inputs }))) k
 
       by : (s : BatchStop) → StopsAsHeld steady (each_inputs files names listed.constraints listed.lines) s → StopsAsHeld steady (batch_of files names) s
       by (Unread own (CannotRead input)) k = λ still. over (Unread own (CannotRead input)) (k still)
@@ -65,10 +65,10 @@ module _ (files : List StoredFile) (names : BatchNames) where
       by (Unread own NoMemory) k = tt
       by (Twice name) k = over (Twice name) k
 
-  pub held-batch : (listed : ListedView) (inputs : List Inputs) → listed_of files (inputs_with names names.list) ≡ Ok listed → None ≡ repeated_result (words_of names) listed.lines →
+  pub held-batch : (listed : ListedView) (inputs : List Inputs) → listing_of files (inputs_with names names.list) ≡ Ok listed → None ≡ repeated_result (names_in_words names) listed.lines →
       each_inputs files names listed.constraints listed.lines ≡ Ok inputs → batch_of files names ≡ Ok (record { lines = listed.lines; inputs = inputs })
   held-batch listed inputs e once each =
-      after-listed listed e (sym once) ∙ ap (λ r. go_on r (λ is. Ok (record { lines = listed.lines; inputs = is }))) each
+      after-listed listed e (sym once) ∙ ap (λ r. unless_stopped r (λ is. Ok (record { lines = listed.lines; inputs = is }))) each
 
 -- the count of faults is as where inputs were read
 pub listing-counts : (before now : ℕ) (stop : Stop) → CountsFault {A = Listed} before now (Err stop) → CountsFault {A = Inputs} before now (Err stop)
@@ -81,9 +81,9 @@ listing-counts before now stop h = record { kept = h.kept; rises = by stop h.ris
 
 -- where the reading of the scenarios stopped after the list was read, that of the batch did
 pub stopped-each : (names : BatchNames) (listed : ListedView) (before between after : Outside) (status : ℕ) →
-    ((files : List StoredFile) → before.files ≡ Some files → listed_of files (inputs_with names names.list) ≡ Ok listed) → None ≡ repeated_result (words_of names) listed.lines →
+    ((files : List StoredFile) → before.files ≡ Some files → listing_of files (inputs_with names names.list) ≡ Ok listed) → None ≡ repeated_result (names_in_words names) listed.lines →
     IsSince before between → between.faults ≡ before.faults →
-    IsStopped {A = List Inputs} (λ files. each_inputs files names listed.constraints listed.lines) (IsUnderOneOf names listed.lines) between after status → IsBatchStopped names before after status
+    IsReadingStopped {A = List Inputs} (λ files. each_inputs files names listed.constraints listed.lines) (IsUnderOneOf names listed.lines) between after status → IsBatchStopped names before after status
 stopped-each names listed before between after status read once s same h = record {
   stop = h.stop;
   under = by h.stop h.under;
@@ -104,10 +104,10 @@ stopped-each names listed before between after status read once s same h = recor
 module _ (files : List StoredFile) (names : BatchNames) (c : Constraints) where
   -- what is made of the lines that are left, behind these inputs
   abbrev pub behind : List Inputs → List ListedNames → Result (List Inputs) BatchStop
-  behind done left = go_on (each_inputs files names c left) (λ more. Ok (done ++ more))
+  behind done left = unless_stopped (each_inputs files names c left) (λ more. Ok (done ++ more))
 
   move : (done : List Inputs) (x : Inputs) (r : Result (List Inputs) BatchStop) →
-      go_on (go_on r (λ more. Ok (x ∷ more))) (λ more. Ok (done ++ more)) ≡ go_on r (λ more. Ok ((done ++ x ∷ []) ++ more))
+      unless_stopped (unless_stopped r (λ more. Ok (x ∷ more))) (λ more. Ok (done ++ more)) ≡ unless_stopped r (λ more. Ok ((done ++ x ∷ []) ++ more))
   move done x (Ok more) = ap Ok (sym (append_assoc done (x ∷ []) more))
   move done x (Err stop) = refl
 
@@ -115,14 +115,14 @@ module _ (files : List StoredFile) (names : BatchNames) (c : Constraints) where
       behind done (drop i lines) ≡ behind (done ++ x ∷ []) (drop (i + 1) lines)
   each-next done lines i line x within is read =
       ap (behind done) (drop_more lines i line within ∙ ap (λ y. y ∷ drop (i + 1) lines) (sym is))
-      ∙ (ap (λ r. go_on (go_on (among (inputs_with names line.scenario) r) (λ inputs. go_on (each_inputs files names c (drop (i + 1) lines)) (λ more. Ok (inputs ∷ more)))) (λ more. Ok (done ++ more))) read
+      ∙ (ap (λ r. unless_stopped (unless_stopped (among (inputs_with names line.scenario) r) (λ inputs. unless_stopped (each_inputs files names c (drop (i + 1) lines)) (λ more. Ok (inputs ∷ more)))) (λ more. Ok (done ++ more))) read
       ∙ move done x (each_inputs files names c (drop (i + 1) lines)))
 
   stopped-at : (done : List Inputs) (lines : List ListedNames) (i : ℕ) (line : ListedNames) (why : Stop) → i < length lines → line ≡ get_or lines i line → inputs_beside files c line.scenario ≡ Err why →
       behind done (drop i lines) ≡ Err (Unread (inputs_with names line.scenario) why)
   stopped-at done lines i line why within is read =
       ap (behind done) (drop_more lines i line within ∙ ap (λ y. y ∷ drop (i + 1) lines) (sym is))
-      ∙ ap (λ r. go_on (go_on (among (inputs_with names line.scenario) r) (λ inputs. go_on (each_inputs files names c (drop (i + 1) lines)) (λ more. Ok (inputs ∷ more)))) (λ more. Ok (done ++ more))) read
+      ∙ ap (λ r. unless_stopped (unless_stopped (among (inputs_with names line.scenario) r) (λ inputs. unless_stopped (each_inputs files names c (drop (i + 1) lines)) (λ more. Ok (inputs ∷ more)))) (λ more. Ok (done ++ more))) read
 
   -- the line at which the reading stops
   pub each-stops : (steady : Bool) (done : List Inputs) (lines : List ListedNames) (i : ℕ) (line : ListedNames) (stop : Stop) → behind done (drop i lines) ≡ each_inputs files names c lines →
@@ -135,7 +135,7 @@ module _ (files : List StoredFile) (names : BatchNames) (c : Constraints) where
   pub each-begins : (lines : List ListedNames) → behind [] lines ≡ each_inputs files names c lines
   each-begins lines = by (each_inputs files names c lines)
     where
-      by : (r : Result (List Inputs) BatchStop) → go_on r (λ more. Ok more) ≡ r
+      by : (r : Result (List Inputs) BatchStop) → unless_stopped r (λ more. Ok more) ≡ r
       by (Ok more) = refl
       by (Err stop) = refl
 

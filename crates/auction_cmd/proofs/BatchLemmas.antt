@@ -17,7 +17,7 @@ use Rattle.auction_core.specs.Backed.{undecided_of}
 use Rattle.auction_cmd.specs.declared.inputs.Inputs.{Inputs}
 use Rattle.auction_cmd.specs.declared.inputs.Stop.TheVariants.{CannotRead, NoMemory, Refused}
 use Rattle.auction_cmd.specs.declared.refusal.Input.{Input}
-use Rattle.auction_cmd.specs.Batch.{BatchStop, Unread, Twice, HeldBatch, batch_of, batch_status, batch_texts, ended_status, ended_text, ends_at_start, inputs_with, own_status, own_texts, status_lines, texts_under, with_text, words_of}
+use Rattle.auction_cmd.specs.Batch.{BatchStop, Unread, Twice, HeldBatch, batch_of, batch_status, batch_texts, ended_status, ended_text, ends_at_start, inputs_with, own_status, own_texts, status_lines, texts_under, with_text, names_in_words}
 use Rattle.auction_cmd.specs.BatchEnds.{AreRecordsOf, BatchEnds, CountsStop, EachOf, ExplainsStop, IsBatchHeld, IsBatchStopped, IsUnderList, StopsAsHeld, StopsUnder}
 use Rattle.auction_cmd.specs.BatchEnds.BatchEnds.{BatchStopped, BatchStarved, BatchRan}
 use Rattle.auction_cmd.specs.BatchPromises.{BatchPromises, IsBatchCut, IsBatchPart, IsBatchRun, IsBatchUnstored, IsRefusing, IsRunOf, refused_line}
@@ -188,7 +188,7 @@ module _ (names : BatchNames) (before after : Outside) (status : ℕ) (batch : L
   apart-texts : (r : IsReached) (files : List StoredFile) → before.files ≡ Some files → AreApart (batch_texts r.held batch)
   apart-texts r files told =
       let read = read-batch files names r.held (r.accepted files told) in
-      own-results (words_of names) r.held.lines (own_texts r.held.inputs batch) read.once
+      own-results (names_in_words names) r.held.lines (own_texts r.held.inputs batch) read.once
 
   batch-each : (files : List StoredFile) → Came → before.files ≡ Some files → IsTrue (is_in (0 ∷ 1 ∷ 11 ∷ []) status) →
       (run : IsBatchRun names before batch)

@@ -17,7 +17,7 @@ use Rattle.auction_cmd.specs.declared.batch_inputs.Constraints.{Constraints}
 use Rattle.auction_cmd.specs.declared.inputs.Inputs.{Inputs}
 use Rattle.auction_cmd.specs.declared.inputs.Stop.{Stop}
 use Rattle.auction_cmd.specs.declared.refusal.Input.TheVariants.{Domains, Rows, Scenario as ScenarioFile}
-use Rattle.auction_cmd.specs.Batch.{BatchStop, HeldBatch, ListedView, among, batch_of, constraints_of, each_inputs, go_on, inputs_beside, inputs_with, listed_in, listed_of, once_each, texts_under, words_of}
+use Rattle.auction_cmd.specs.Batch.{BatchStop, HeldBatch, ListedView, among, batch_of, constraints_of, each_inputs, unless_stopped, inputs_beside, inputs_with, list_named, listing_of, once_each, texts_under, names_in_words}
 use Rattle.auction_cmd.specs.Delivery.{IsOther, names_of}
 use Rattle.auction_cmd.specs.Inputs.{and_then, file_of, inputs_from, inputs_of, rows_read, scenario_read, sources_of}
 use Rattle.auction_cmd.specs.Words.{BatchNames, InputNames, is_repeated_among}
@@ -27,7 +27,7 @@ use Rattle.auction_cmd.proofs.ReadingLemmas.{then-ok}
 
 -- ---- steps
 
-pub on-ok : {A B : Type 0} (r : Result A BatchStop) (f : A → Result B BatchStop) (y : B) → go_on r f ≡ Ok y → (x : A) × (r ≡ Ok x) × (f x ≡ Ok y)
+pub on-ok : {A B : Type 0} (r : Result A BatchStop) (f : A → Result B BatchStop) (y : B) → unless_stopped r f ≡ Ok y → (x : A) × (r ≡ Ok x) × (f x ≡ Ok y)
 on-ok (Ok x) f y e = (x, refl, e)
 on-ok (Err stop) f y e = cc
 
@@ -78,7 +78,7 @@ pub each-own : (files : List StoredFile) (names : BatchNames) (own : List ℕ) (
 each-own files names own c [] [] are e = tt
 each-own files names own c [] (i ∷ is) are e = cc
 each-own files names own c (line ∷ lines) inputs are e =
-    let (first, first_is, rest) = on-ok (among (inputs_with names line.scenario) (inputs_beside files c line.scenario)) (λ i. go_on (each_inputs files names c lines) (λ more. Ok (i ∷ more))) inputs e in
+    let (first, first_is, rest) = on-ok (among (inputs_with names line.scenario) (inputs_beside files c line.scenario)) (λ i. unless_stopped (each_inputs files names c lines) (λ more. Ok (i ∷ more))) inputs e in
     let (more, more_are, made) = on-ok (each_inputs files names c lines) (λ more. Ok (first ∷ more)) inputs rest in
     let same : first ∷ more ≡ inputs = same-list (first ∷ more) inputs made in
     subst (λ is. AllZip (λ (line : ListedNames) i. inputs_of files (inputs_with names line.scenario) ≡ Ok i) (line ∷ lines) is) same
@@ -91,16 +91,16 @@ each-own files names own c (line ∷ lines) inputs are e =
 
 -- what a batch that was read is made of
 pub record IsReadBatch (files : List StoredFile) (names : BatchNames) (held : HeldBatch) : Type 0 where
-  pub once : repeated_result (words_of names) held.lines ≡ None
+  pub once : repeated_result (names_in_words names) held.lines ≡ None
   pub own : AllZip (λ (line : ListedNames) i. inputs_of files (inputs_with names line.scenario) ≡ Ok i) held.lines held.inputs
 
 -- the constraint files of what was listed
-listed-constraints : (files : List StoredFile) (names : BatchNames) (own : List ℕ) (listed : ListedView) → listed_of files (inputs_with names own) ≡ Ok listed → constraints_of files (inputs_with names own) ≡ Ok listed.constraints
-unfolding listed_of
+listed-constraints : (files : List StoredFile) (names : BatchNames) (own : List ℕ) (listed : ListedView) → listing_of files (inputs_with names own) ≡ Ok listed → constraints_of files (inputs_with names own) ≡ Ok listed.constraints
+unfolding listing_of
 listed-constraints files names own listed e =
     let at = inputs_with names own in
-    let (c, are, rest) = then-ok (constraints_of files at) (λ c. and_then (listed_in files own) (λ lines. Ok (record { constraints = c; lines = lines }))) listed e in
-    let (lines, lines_are, made) = then-ok (listed_in files own) (λ lines. Ok (record { constraints = c; lines = lines })) listed rest in
+    let (c, are, rest) = then-ok (constraints_of files at) (λ c. and_then (list_named files own) (λ lines. Ok (record { constraints = c; lines = lines }))) listed e in
+    let (lines, lines_are, made) = then-ok (list_named files own) (λ lines. Ok (record { constraints = c; lines = lines })) listed rest in
     let same : record { constraints = c; lines = lines } ≡ listed = same-listed (record { constraints = c; lines = lines }) listed made in
     are ∙ ap (λ (l : ListedView). Ok l.constraints) same
   where
@@ -111,13 +111,13 @@ pub read-batch : (files : List StoredFile) (names : BatchNames) (held : HeldBatc
 unfolding batch_of
 read-batch files names held e =
     let at = inputs_with names names.list in
-    let (listed, listed_is, rest) = on-ok (among at (listed_of files at)) _ held e in
-    let (lines, lines_are, more) = on-ok (once_each listed.lines (repeated_result (words_of names) listed.lines)) _ held rest in
+    let (listed, listed_is, rest) = on-ok (among at (listing_of files at)) _ held e in
+    let (lines, lines_are, more) = on-ok (once_each listed.lines (repeated_result (names_in_words names) listed.lines)) _ held rest in
     let (inputs, inputs_are, made) = on-ok (each_inputs files names listed.constraints lines) (λ inputs. Ok (record { lines = lines; inputs = inputs })) held more in
     let same : record { lines = lines; inputs = inputs } ≡ held = same-held (record { lines = lines; inputs = inputs }) held made in
-    let once = once-ok listed.lines lines (repeated_result (words_of names) listed.lines) lines_are in
-    let single : repeated_result (words_of names) lines ≡ None = ap (repeated_result (words_of names)) once.1 ∙ once.0 in
-    let constraints = listed-constraints files names names.list listed (among-ok at (listed_of files at) listed listed_is) in
+    let once = once-ok listed.lines lines (repeated_result (names_in_words names) listed.lines) lines_are in
+    let single : repeated_result (names_in_words names) lines ≡ None = ap (repeated_result (names_in_words names)) once.1 ∙ once.0 in
+    let constraints = listed-constraints files names names.list listed (among-ok at (listing_of files at) listed listed_is) in
     subst (IsReadBatch files names) same (record { once = single; own = each-own files names names.list listed.constraints lines inputs constraints inputs_are })
   where
     same-held : (a b : HeldBatch) → held-as a ≡ held-as b → a ≡ b

@@ -24,7 +24,7 @@ use Rattle.auction_cmd.specs.Delivery.IsNotStored.{Unwritten, OutOfRoom}
 use Rattle.auction_cmd.specs.Ends.{ExportEnds, IsShown, VerifyEnds}
 use Rattle.auction_cmd.specs.Ends.ExportEnds.{Unshown, ExportStarved, NoStep, FormulaStored, FormulaNotStored}
 use Rattle.auction_cmd.specs.Ends.VerifyEnds.{VerifyStopped, VerifyStarved, NotLoaded, NotSound, Sound}
-use Rattle.auction_cmd.specs.ExportPromises.{ExportPromises, IsAsked}
+use Rattle.auction_cmd.specs.ExportPromises.{ExportPromises, IsStepAsked}
 use Rattle.auction_cmd.specs.Inputs.{file_limit, inputs_of}
 use Rattle.auction_cmd.specs.Outside.{Outside, IsSaid}
 use Rattle.auction_cmd.specs.Says.{memory_line, unwritten_line}
@@ -133,11 +133,11 @@ module _ (names : ExportNames) (before after : Outside) (status : ℕ) (found : 
   stored-told : (files : List StoredFile) (x : NamedText) → before.files ≡ Some files → IsStored x before after → MatchOption after.files ⊥ (λ new. AreStored files new (x ∷ []))
   stored-told files x told stored = all-more x [] before after after stored (all-none after after refl) files told (All-nil (λ name. x.name ≢ name), tt)
 
-  abbrev asked : (files : List StoredFile) (inputs : Inputs) (rec : Record) (there : Option Step) → before.files ≡ Some files → (s : IsShown names.shown before inputs rec) → step_at rec.steps names.step ≡ there → IsAsked files names.shown names.step there
+  abbrev asked : (files : List StoredFile) (inputs : Inputs) (rec : Record) (there : Option Step) → before.files ≡ Some files → (s : IsShown names.shown before inputs rec) → step_at rec.steps names.step ≡ there → IsStepAsked files names.shown names.step there
   asked files inputs rec there told s is = record { inputs = inputs; text = s.text; given = shown-given files names.shown before inputs rec told s; rec = rec; shown = s.sound; at = is }
 
   export-done : (files : List StoredFile) → ExportEnds names before after status found → before.files ≡ Some files → status ≡ 0 →
-      (x : Step) × (a : IsAsked files names.shown names.step (Some x)) × MatchOption after.files ⊥ (λ new. AreStored files new (named names.formula (formula_text a.inputs.book a.rec names.step) ∷ []))
+      (x : Step) × (a : IsStepAsked files names.shown names.step (Some x)) × MatchOption after.files ⊥ (λ new. AreStored files new (named names.formula (formula_text a.inputs.book a.rec names.step) ∷ []))
   export-done files (Unshown end none) told zero = absurd (off (3 ∷ 5 ∷ 8 ∷ 9 ∷ []) status 0 (unshown-statuses names.shown before after status found end none) zero refl)
   export-done files (ExportStarved s) told zero = let eight = s.status_is in absurd (omega arith)
   export-done files (NoStep inputs rec fault s is ten none said same) told zero = absurd (omega arith)
@@ -171,7 +171,7 @@ module _ (names : ExportNames) (before after : Outside) (status : ℕ) (found : 
   export-untouched (FormulaStored inputs rec s is zero none stored) h = absurd (off (3 ∷ 5 ∷ 9 ∷ 10 ∷ []) status 0 h zero refl)
   export-untouched (FormulaNotStored inputs rec s is none not) h = absurd (apart-lists (3 ∷ 5 ∷ 9 ∷ 10 ∷ []) (4 ∷ 8 ∷ []) status refl h (unstored-statuses (text inputs rec) not))
 
-  export-missing : (files : List StoredFile) → ExportEnds names before after status found → before.files ≡ Some files → status ≡ 10 → IsAsked files names.shown names.step None × IsSaid before after (step_line names.step NoSuchStep)
+  export-missing : (files : List StoredFile) → ExportEnds names before after status found → before.files ≡ Some files → status ≡ 10 → IsStepAsked files names.shown names.step None × IsSaid before after (step_line names.step NoSuchStep)
   export-missing files (Unshown end none) told ten = absurd (off (3 ∷ 5 ∷ 8 ∷ 9 ∷ []) status 10 (unshown-statuses names.shown before after status found end none) ten refl)
   export-missing files (ExportStarved s) told ten = let eight = s.status_is in absurd (omega arith)
   export-missing files (NoStep inputs rec fault s is ten none said same) told t =
@@ -180,7 +180,7 @@ module _ (names : ExportNames) (before after : Outside) (status : ℕ) (found : 
   export-missing files (FormulaStored inputs rec s is zero none stored) told ten = absurd (omega arith)
   export-missing files (FormulaNotStored inputs rec s is none not) told ten = absurd (off (4 ∷ 8 ∷ []) status 10 (unstored-statuses (text inputs rec) not) ten refl)
 
-  export-misses : (files : List StoredFile) → ExportEnds names before after status found → before.files ≡ Some files → IsAsked files names.shown names.step None → IsOr 10 before status
+  export-misses : (files : List StoredFile) → ExportEnds names before after status found → before.files ≡ Some files → IsStepAsked files names.shown names.step None → IsOr 10 before status
   export-misses files (Unshown end none) told a = unshown-or names.shown before after status 10 found files a.inputs a.text a.rec end none told a.given a.shown
   export-misses files (ExportStarved s) told a = inr (inl s.status_is)
   export-misses files (NoStep inputs rec fault s is ten none said same) told a = inl ten
@@ -228,7 +228,7 @@ module _ (names : ExportNames) (before after : Outside) (status : ℕ) (found : 
   export-unwritten (FormulaNotStored inputs rec s is none (Unwritten is_four stores rises unsteady said)) four = (rises, unsteady, said)
   export-unwritten (FormulaNotStored inputs rec s is none (OutOfRoom eight stores said)) four = absurd (omega arith)
 
-  export-unstored : (files : List StoredFile) → ExportEnds names before after status found → before.files ≡ Some files → status ≡ 4 → (x : Step) × IsAsked files names.shown names.step (Some x)
+  export-unstored : (files : List StoredFile) → ExportEnds names before after status found → before.files ≡ Some files → status ≡ 4 → (x : Step) × IsStepAsked files names.shown names.step (Some x)
   export-unstored files (Unshown end none) told four = absurd (off (3 ∷ 5 ∷ 8 ∷ 9 ∷ []) status 4 (unshown-statuses names.shown before after status found end none) four refl)
   export-unstored files (ExportStarved s) told four = let eight = s.status_is in absurd (omega arith)
   export-unstored files (NoStep inputs rec fault s is ten none said same) told four = absurd (omega arith)
@@ -237,7 +237,7 @@ module _ (names : ExportNames) (before after : Outside) (status : ℕ) (found : 
       let there = missing-some (step_at rec.steps names.step) is in
       (there.0, asked files inputs rec (Some there.0) told s there.1)
 
-  export-complete : (files : List StoredFile) (x : Step) → ExportEnds names before after status found → before.files ≡ Some files → IsAsked files names.shown names.step (Some x) → IsOr 0 before status ⊎ (status ≡ 4)
+  export-complete : (files : List StoredFile) (x : Step) → ExportEnds names before after status found → before.files ≡ Some files → IsStepAsked files names.shown names.step (Some x) → IsOr 0 before status ⊎ (status ≡ 4)
   export-complete files x (Unshown end none) told a = inl (unshown-or names.shown before after status 0 found files a.inputs a.text a.rec end none told a.given a.shown)
   export-complete files x (ExportStarved s) told a = inl (inr (inl s.status_is))
   export-complete files x (NoStep inputs rec fault s is ten none said same) told a =

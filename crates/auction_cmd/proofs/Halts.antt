@@ -9,11 +9,11 @@ use Rattle.auction_cmd.specs.declared.inputs.Stop.{Stop}
 use Rattle.auction_cmd.specs.declared.inputs.Stop.TheVariants.{CannotRead, Refused, NoMemory}
 use Rattle.auction_cmd.specs.declared.refusal.Input.{Input}
 use Rattle.auction_cmd.specs.declared.refusal.Refusal.{Refusal}
-use Rattle.auction_cmd.specs.Ends.{AreHeld, Explains, IsHalted}
+use Rattle.auction_cmd.specs.Ends.{AreInputsOf, ExplainsHalt, IsHalted}
 use Rattle.auction_cmd.specs.Inputs.{Agrees, RisesAt, inputs_of}
 use Rattle.auction_cmd.specs.Outside.{Outside, IsSaid}
 use Rattle.auction_cmd.specs.Promises.{AreThere}
-use Rattle.auction_cmd.specs.Refusals.{line_of, name_of}
+use Rattle.auction_cmd.specs.Refusals.{refusal_line, name_of}
 use Rattle.auction_cmd.specs.Says.{memory_line, unread_line}
 use Rattle.auction_cmd.specs.VerifyPromises.{IsOr}
 use Rattle.auction_cmd.specs.Words.{InputNames}
@@ -23,7 +23,7 @@ use Rattle.auction_cmd.proofs.Statuses.{off, one-of}
 pub stopped-statuses : (names : InputNames) (before after : Outside) (status : ℕ) → IsHalted names before after status → IsTrue (is_in (3 ∷ 5 ∷ 8 ∷ []) status)
 stopped-statuses names before after status h = by h.stop h.explains
   where
-    by : (stop : Stop) → Explains names stop before.held after.held before.cuts after.cuts status → IsTrue (is_in (3 ∷ 5 ∷ 8 ∷ []) status)
+    by : (stop : Stop) → ExplainsHalt names stop before.held after.held before.cuts after.cuts status → IsTrue (is_in (3 ∷ 5 ∷ 8 ∷ []) status)
     by (CannotRead input) e = one-of (3 ∷ 5 ∷ 8 ∷ []) status 3 e.0 refl
     by (Refused why) e = one-of (3 ∷ 5 ∷ 8 ∷ []) status 5 e.0 refl
     by NoMemory e = one-of (3 ∷ 5 ∷ 8 ∷ []) status 8 e.0 refl
@@ -31,7 +31,7 @@ stopped-statuses names before after status h = by h.stop h.explains
 pub stopped-unread : (names : InputNames) (before after : Outside) (status : ℕ) → IsHalted names before after status → status ≡ 3 → HasRisen before.faults after.faults
 stopped-unread names before after status h three = by h.stop h.counted.rises h.explains
   where
-    by : (stop : Stop) → RisesAt {A = Inputs} before.faults after.faults (Err stop) → Explains names stop before.held after.held before.cuts after.cuts status → HasRisen before.faults after.faults
+    by : (stop : Stop) → RisesAt {A = Inputs} before.faults after.faults (Err stop) → ExplainsHalt names stop before.held after.held before.cuts after.cuts status → HasRisen before.faults after.faults
     by (CannotRead input) rises e = rises
     by (Refused why) rises e = let five = e.0 in absurd (omega arith)
     by NoMemory rises e = let eight = e.0 in absurd (omega arith)
@@ -39,7 +39,7 @@ stopped-unread names before after status h three = by h.stop h.counted.rises h.e
 pub stopped-memory : (names : InputNames) (before after : Outside) (status : ℕ) → IsHalted names before after status → status ≡ 8 → IsSaid before after memory_line
 stopped-memory names before after status h eight = by h.stop h.explains
   where
-    by : (stop : Stop) → Explains names stop before.held after.held before.cuts after.cuts status → IsSaid before after memory_line
+    by : (stop : Stop) → ExplainsHalt names stop before.held after.held before.cuts after.cuts status → IsSaid before after memory_line
     by (CannotRead input) e = let three = e.0 in absurd (omega arith)
     by (Refused why) e = let five = e.0 in absurd (omega arith)
     by NoMemory e = e.1
@@ -48,7 +48,7 @@ stopped-memory names before after status h eight = by h.stop h.explains
 pub data Reading (names : InputNames) (before after : Outside) (status : ℕ) : Type 0 where
   Halted : IsHalted names before after status → Reading names before after status
   Short : status ≡ 8 → Reading names before after status
-  Went : (inputs : Inputs) → AreHeld names before inputs → IsTrue (is_in (0 ∷ 1 ∷ 4 ∷ 6 ∷ 7 ∷ 8 ∷ []) status) → Reading names before after status
+  Went : (inputs : Inputs) → AreInputsOf names before inputs → IsTrue (is_in (0 ∷ 1 ∷ 4 ∷ 6 ∷ 7 ∷ 8 ∷ []) status) → Reading names before after status
 
 -- ---- what a reading shows
 
@@ -62,11 +62,11 @@ pub not-both : (inputs : Inputs) (stop : Stop) → held inputs ≡ err stop → 
 not-both inputs stop e = cc
 
 pub refused-cause : (names : InputNames) (before after : Outside) (status : ℕ) (files : List StoredFile) → Reading names before after status → before.files ≡ Some files → status ≡ 5 →
-    (why : Refusal) × (inputs_of files names ≡ Err (Refused why)) × IsSaid before after (line_of names why)
+    (why : Refusal) × (inputs_of files names ≡ Err (Refused why)) × IsSaid before after (refusal_line names why)
 refused-cause names before after status files (Halted h) told five = by h.stop (h.told files told) h.explains
   where
-    by : (stop : Stop) → Agrees {A = Inputs} {B = Inputs} (λ i. i) before.steady (inputs_of files names) (Err stop) → Explains names stop before.held after.held before.cuts after.cuts status →
-        (why : Refusal) × (inputs_of files names ≡ Err (Refused why)) × IsSaid before after (line_of names why)
+    by : (stop : Stop) → Agrees {A = Inputs} {B = Inputs} (λ i. i) before.steady (inputs_of files names) (Err stop) → ExplainsHalt names stop before.held after.held before.cuts after.cuts status →
+        (why : Refusal) × (inputs_of files names ≡ Err (Refused why)) × IsSaid before after (refusal_line names why)
     by (CannotRead input) agrees e = let three = e.0 in absurd (omega arith)
     by (Refused why) agrees e = (why, agrees, e.1)
     by NoMemory agrees e = let eight = e.0 in absurd (omega arith)
@@ -77,7 +77,7 @@ refused-cause names before after status files (Went inputs are on) told five = a
 pub unread-line : (names : InputNames) (before after : Outside) (status : ℕ) → Reading names before after status → status ≡ 3 → (input : Input) × IsSaid before after (unread_line (name_of names input))
 unread-line names before after status (Halted h) three = by h.stop h.explains
   where
-    by : (stop : Stop) → Explains names stop before.held after.held before.cuts after.cuts status → (input : Input) × IsSaid before after (unread_line (name_of names input))
+    by : (stop : Stop) → ExplainsHalt names stop before.held after.held before.cuts after.cuts status → (input : Input) × IsSaid before after (unread_line (name_of names input))
     by (CannotRead input) e = (input, e.1)
     by (Refused why) e = let five = e.0 in absurd (omega arith)
     by NoMemory e = let eight = e.0 in absurd (omega arith)
@@ -91,7 +91,7 @@ stops-at names before after status files why (Halted h) told is = by h.stop (h.t
     other : (i : Input) → err (Refused why) ≡ err (CannotRead i) → ⊥
     other i e = cc
 
-    by : (stop : Stop) → Agrees {A = Inputs} {B = Inputs} (λ i. i) before.steady (inputs_of files names) (Err stop) → Explains names stop before.held after.held before.cuts after.cuts status → IsOr 5 before status
+    by : (stop : Stop) → Agrees {A = Inputs} {B = Inputs} (λ i. i) before.steady (inputs_of files names) (Err stop) → ExplainsHalt names stop before.held after.held before.cuts after.cuts status → IsOr 5 before status
     by (CannotRead input) agrees e = inr (inr (e.0, λ steady. other input (sym is ∙ agrees steady)))
     by (Refused cause) agrees e = inl e.0
     by NoMemory agrees e = inr (inl e.0)
@@ -101,7 +101,7 @@ stops-at names before after status files why (Went inputs are on) told is = absu
 pub read-there : (names : InputNames) (before after : Outside) (status : ℕ) (files : List StoredFile) → Reading names before after status → before.files ≡ Some files → before.steady ≡ true → AreThere files names → status ≢ 3
 read-there names before after status files (Halted h) told steady there = by h.stop (h.told files told) h.explains
   where
-    by : (stop : Stop) → Agrees {A = Inputs} {B = Inputs} (λ i. i) before.steady (inputs_of files names) (Err stop) → Explains names stop before.held after.held before.cuts after.cuts status → status ≢ 3
+    by : (stop : Stop) → Agrees {A = Inputs} {B = Inputs} (λ i. i) before.steady (inputs_of files names) (Err stop) → ExplainsHalt names stop before.held after.held before.cuts after.cuts status → status ≢ 3
     by (CannotRead input) agrees e = absurd (can-read files names input there (agrees steady))
     by (Refused why) agrees e = let five = e.0 in λ three. omega arith
     by NoMemory agrees e = let eight = e.0 in λ three. omega arith
@@ -118,7 +118,7 @@ missing-one names before after status files input (Halted h) told steady is = by
     other : (why : Refusal) → err (Refused why) ≡ err (CannotRead input) → ⊥
     other why e = cc
 
-    by : (stop : Stop) → Agrees {A = Inputs} {B = Inputs} (λ i. i) before.steady (inputs_of files names) (Err stop) → Explains names stop before.held after.held before.cuts after.cuts status →
+    by : (stop : Stop) → Agrees {A = Inputs} {B = Inputs} (λ i. i) before.steady (inputs_of files names) (Err stop) → ExplainsHalt names stop before.held after.held before.cuts after.cuts status →
         (status ≡ 8) ⊎ ((status ≡ 3) × IsSaid before after (unread_line (name_of names input)))
     by (CannotRead i) agrees e = inr (e.0, subst (λ z. IsSaid before after (unread_line (name_of names z))) (same i (sym (agrees steady) ∙ is)) e.1)
     by (Refused why) agrees e = absurd (other why (sym agrees ∙ is))
@@ -130,7 +130,7 @@ missing-one names before after status files input (Went inputs are on) told stea
 pub halted-held : (names : InputNames) (before after : Outside) (status n : ℕ) (files : List StoredFile) (inputs : Inputs) → IsHalted names before after status → before.files ≡ Some files → inputs_of files names ≡ Ok inputs → IsOr n before status
 halted-held names before after status n files inputs h told is = by h.stop (h.told files told) h.explains
   where
-    by : (stop : Stop) → Agrees {A = Inputs} {B = Inputs} (λ i. i) before.steady (inputs_of files names) (Err stop) → Explains names stop before.held after.held before.cuts after.cuts status → IsOr n before status
+    by : (stop : Stop) → Agrees {A = Inputs} {B = Inputs} (λ i. i) before.steady (inputs_of files names) (Err stop) → ExplainsHalt names stop before.held after.held before.cuts after.cuts status → IsOr n before status
     by (CannotRead input) agrees e = inr (inr (e.0, λ steady. not-both inputs (CannotRead input) (sym is ∙ agrees steady)))
     by (Refused why) agrees e = absurd (not-both inputs (Refused why) (sym is ∙ agrees))
     by NoMemory agrees e = inr (inl e.0)

@@ -31,7 +31,7 @@ use Rattle.auction_cmd.specs.Settling.{open_fault, step_line}
 use Rattle.auction_cmd.specs.Ends.{ImportEnds, IsFileHeld, IsShown, import_texts}
 use Rattle.auction_cmd.specs.Ends.ImportEnds.{ImportStarved, NoLog, NoOpenStep, NotSettled, Settled}
 use Rattle.auction_cmd.specs.Ends.IsNotLoaded.{Unloaded, LongText}
-use Rattle.auction_cmd.specs.Faults.{IsCounted}
+use Rattle.auction_cmd.specs.Faults.{AreFaultsCounted}
 use Rattle.auction_cmd.specs.Outside.{IsSaid, Outside}
 use Rattle.auction_cmd.specs.Transcripts.{ExplainsLoad, ExplainsLog, IsFileRead, IsSettling}
 use Rattle.auction_cmd.specs.Words.{ImportNames}
@@ -108,7 +108,7 @@ no-log names before after status found inputs rec TooLong s is h e none files = 
 no-log names before after status found inputs rec NoLoad s is h e none files = ImportStarved (record { status_is = e.0; found_is = none; line = e.1; files = files })
 
 -- and the folder's count of faults rose at status 3 alone
-pub no-log-counted : (name : List ℕ) (before after : Outside) (status : ℕ) (why : LoadErr) → ExplainsLoad name why before.held after.held before.cuts after.cuts status → (why ≢ Failed → after.faults ≡ before.faults) → IsCounted before after status
+pub no-log-counted : (name : List ℕ) (before after : Outside) (status : ℕ) (why : LoadErr) → ExplainsLoad name why before.held after.held before.cuts after.cuts status → (why ≢ Failed → after.faults ≡ before.faults) → AreFaultsCounted before after status
 no-log-counted name before after status Failed e stands = record {
   folder = λ h. absurd (true≢false (sym (one-of (3 ∷ 4 ∷ []) status 3 e.0 refl) ∙ h));
   sink = λ h. absurd (off (0 ∷ 1 ∷ []) status 3 h e.0 refl);
@@ -142,7 +142,7 @@ no-log-since names before between after status said found inputs rec why s is sa
     none (files ∙ ap (λ (o : Outside). o.files) same)
 
 pub no-log-counted-since : (name : List ℕ) (before between after : Outside) (status said : ℕ) (why : LoadErr) → between ≡ before → ExplainsLoad name why between.held after.held between.cuts after.cuts said → status ≡ said
-    → (why ≢ Failed → after.faults ≡ between.faults) → IsCounted before after status
+    → (why ≢ Failed → after.faults ≡ between.faults) → AreFaultsCounted before after status
 no-log-counted-since name before between after status said why same e status_is stands =
     no-log-counted name before after status why
     (subst (λ (b : Outside). ExplainsLoad name why b.held after.held b.cuts after.cuts status) same (subst (ExplainsLoad name why between.held after.held between.cuts after.cuts) (sym status_is) e))

@@ -24,7 +24,7 @@ use Rattle.auction_cmd.specs.declared.inputs.Stop.TheVariants.{Refused}
 use Rattle.auction_cmd.specs.declared.refusal.Refusal.{Refusal}
 use Rattle.auction_cmd.specs.declared.settling.StepFault.{StepFault}
 use Rattle.auction_cmd.specs.Delivery.{AllOthersStand, AreStored, Delivers, NamedText}
-use Rattle.auction_cmd.specs.Ends.{AreHeld, ImportEnds, IsFileHeld, IsNotLoaded, IsShown, import_texts}
+use Rattle.auction_cmd.specs.Ends.{AreInputsOf, ImportEnds, IsFileHeld, IsNotLoaded, IsShown, import_texts}
 use Rattle.auction_cmd.specs.Ends.ImportEnds.{NothingShown, ImportStarved, NoOpenStep, NoLog, NotSettled, Settled}
 use Rattle.auction_cmd.specs.Ends.IsNotLoaded.{Unloaded, LongText}
 use Rattle.auction_cmd.specs.ImportPromises.{ImportPromises, IsImported, IsImportedUpTo, IsLogIn, IsSettledStep, IsSoundIn, IsUnimported, IsUnlogged, IsUnsummed}
@@ -33,7 +33,7 @@ use Rattle.auction_cmd.specs.Outside.{Outside, IsSaid}
 use Rattle.auction_cmd.specs.Promises.{IsSomeRecord}
 use Rattle.auction_cmd.specs.Records.{IsRecordIn, done_status, outcome, result_of, summary_in}
 use Rattle.auction_cmd.specs.Says.{memory_line, unread_line, unwritten_line}
-use Rattle.auction_cmd.specs.Settling.{log_line, open_fault, step_line}
+use Rattle.auction_cmd.specs.Settling.{unsettled_line, open_fault, step_line}
 use Rattle.auction_cmd.specs.Verified.{verified}
 use Rattle.auction_cmd.specs.VerifyPromises.{AreAllThere, IsGiven, IsOr, VerifyPromises}
 use Rattle.auction_cmd.specs.Words.{ImportNames, repeated_import}
@@ -126,7 +126,7 @@ module _ (names : ImportNames) (before after : Outside) (status : ℕ) (found : 
   import-kept (Settled inputs rec log new s is held ok own kept some d) absent = cc (sym some ∙ absent)
 
   import-recorded : ImportEnds names before after status found → IsTrue (is_in (0 ∷ 1 ∷ 4 ∷ []) status) →
-      (inputs : Inputs) × (rec : Record) × AreHeld names.shown.inputs before inputs × (found ≡ Some rec) × IsRecordIn rec.order inputs rec
+      (inputs : Inputs) × (rec : Record) × AreInputsOf names.shown.inputs before inputs × (found ≡ Some rec) × IsRecordIn rec.order inputs rec
   import-recorded (NothingShown end none) h = absurd (apart-lists (0 ∷ 1 ∷ 4 ∷ []) (3 ∷ 5 ∷ 8 ∷ 9 ∷ []) status refl h (unshown-statuses names.shown before after status found end none))
   import-recorded (ImportStarved s) h = absurd (off (0 ∷ 1 ∷ 4 ∷ []) status 8 h s.status_is refl)
   import-recorded (NoOpenStep inputs rec fault s is ten none said same) h = absurd (off (0 ∷ 1 ∷ 4 ∷ []) status 10 h ten refl)
@@ -275,7 +275,7 @@ module _ (names : ImportNames) (before after : Outside) (status : ℕ) (found : 
   Cause files s =
       ((fault : StepFault) × (open_fault (step_at s.rec.steps names.step) ≡ Some fault) × IsSaid before after (step_line names.step fault))
       ⊎ ((log : List ℕ) × (fault : SettleErr) × IsLogIn files names.proof log × (open_fault (step_at s.rec.steps names.step) ≡ None)
-      × (settled_text s.inputs.book s.rec names.step log ≡ Err fault) × IsSaid before after (log_line names.proof fault))
+      × (settled_text s.inputs.book s.rec names.step log ≡ Err fault) × IsSaid before after (unsettled_line names.proof fault))
 
   import-refused : (files : List StoredFile) → ImportEnds names before after status found → before.files ≡ Some files → status ≡ 10 → (s : IsSoundIn files names.shown) × Cause files s
   import-refused files (NothingShown end none) told ten = absurd (off (3 ∷ 5 ∷ 8 ∷ 9 ∷ []) status 10 (unshown-statuses names.shown before after status found end none) ten refl)

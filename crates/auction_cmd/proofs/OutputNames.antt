@@ -8,7 +8,7 @@ use Rattle.std.proofs.lemmas.List.Sums.{sum_by-append, sum_by-cons}
 use Rattle.std.proofs.lemmas.Slice.Eq.{bytes_eq-Decides}
 use Rattle.auction_core.proofs.Finds.{find_cases}
 use Rattle.pack_defs.proofs.Members.{Contains-here, Contains-there, list_any-from}
-use Rattle.auction_cmd.specs.Words.{ImportNames, MakeNames, ResumeNames, RunNames, imported_names, is_repeated_among, is_repeated_in, made_names, names_given, output_names, owners_given, repeated_import, repeated_made, repeated_output, repeated_resume, resumed_names}
+use Rattle.auction_cmd.specs.Words.{ImportNames, MakeNames, ResumeNames, RunNames, imported_names, is_repeated_among, is_repeated_in, made_names, run_names_given, output_names, owners_given, repeated_import, repeated_made, repeated_output, repeated_resume, resumed_names}
 use Rattle.auction_cmd.specs.Ends.{output_texts, pair_of_texts}
 use Rattle.auction_cmd.specs.Made.{texts_under}
 use Rattle.auction_cmd.proofs.DeliveryLemmas.{AreApart}
@@ -36,9 +36,9 @@ own : (name : List ℕ) → bytes_eq name name ≡ true
 own name = (bytes_eq-Decides name name).1 refl
 
 -- a name that stands at two places is given twice
-given-twice : (names : RunNames) (xs ys zs : List (List ℕ)) (a b : List ℕ) → xs ++ a ∷ (ys ++ b ∷ zs) ≡ names_given names → a ≡ b → is_repeated_in a names ≡ true
+given-twice : (names : RunNames) (xs ys zs : List (List ℕ)) (a b : List ℕ) → xs ++ a ∷ (ys ++ b ∷ zs) ≡ run_names_given names → a ≡ b → is_repeated_in a names ≡ true
 given-twice names xs ys zs a b whole same =
-    lt-ltb 1 (count_by (bytes_eq a) (names_given names))
+    lt-ltb 1 (count_by (bytes_eq a) (run_names_given names))
     (subst (λ given. 1 < count_by (bytes_eq a) given) whole (two-pass (bytes_eq a) xs ys zs a b (own a) ((bytes_eq-Decides a b).1 same)))
 
 pub own-names : (names : RunNames) (result channels transcript : List ℕ) → repeated_output names ≡ None → AreApart (output_texts names result channels transcript)

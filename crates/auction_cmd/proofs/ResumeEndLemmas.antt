@@ -36,7 +36,7 @@ use Rattle.auction_cmd.specs.declared.fault.TranscriptFault.TheVariants.{Unshown
 use Rattle.auction_cmd.specs.declared.inputs.Inputs.{Inputs}
 use Rattle.auction_cmd.specs.declared.shown.Denied.{Denied}
 use Rattle.auction_cmd.specs.declared.shown.Denied.TheVariants.{Fault, NoMemory}
-use Rattle.auction_cmd.specs.Ends.{AreHeld, Concludes, IsStarved, IsTextHeld}
+use Rattle.auction_cmd.specs.Ends.{AreInputsOf, Concludes, IsStarved, IsTextHeld}
 use Rattle.auction_cmd.specs.Ends.IsNotLoaded.{Unloaded, LongText}
 use Rattle.auction_cmd.specs.Outside.{Outside}
 use Rattle.auction_cmd.specs.ResumeEnds.{IsResumable, ResumeEnds}
@@ -75,7 +75,7 @@ unread-begun inputs text NoRoom is = tt
 
 -- the end where the beginning was not loaded
 pub prefix-unloaded : (names : ResumeNames) (before after : Outside) (status : ℕ) (found : Option Record) (inputs : Inputs) (why : LoadErr) (told : Option (List StoredFile)) (steady : Bool) (faults : ℕ) →
-    AreHeld names.run_files.inputs before inputs → told ≡ before.files → steady ≡ before.steady → before.faults ≤ faults →
+    AreInputsOf names.run_files.inputs before inputs → told ≡ before.files → steady ≡ before.steady → before.faults ≤ faults →
     IsFileRead told steady faults after.faults names.prefix (Err why) →
     ExplainsLoad names.prefix why before.held after.held before.cuts after.cuts status →
     found ≡ None → after.files ≡ before.files → ResumeEnds names before after status found
@@ -88,7 +88,7 @@ prefix-unloaded names before after status found inputs NoLoad told steady faults
 
 -- the end where no auction goes on from it
 pub not-begun : (names : ResumeNames) (before after : Outside) (status : ℕ) (found : Option Record) (inputs : Inputs) (text : List ℕ) (why : Denied) →
-    AreHeld names.run_files.inputs before inputs → CanBeNamed inputs → IsTextHeld (begun_names names) before text → IsResumption inputs (begun inputs text) (Err why) →
+    AreInputsOf names.run_files.inputs before inputs → CanBeNamed inputs → IsTextHeld (begun_names names) before text → IsResumption inputs (begun inputs text) (Err why) →
     ExplainsDenied names.prefix why before.held after.held before.cuts after.cuts status →
     found ≡ None → after.files ≡ before.files → ResumeEnds names before after status found
 not-begun names before after status found inputs text (Fault fault) are can held is e none files = NotBegun inputs text fault are can held is e.0 none e.1 files

@@ -20,7 +20,7 @@ use Rattle.auction_cmd.specs.declared.refusal.Input.{Input}
 use Rattle.auction_cmd.specs.declared.refusal.Refusal.{Refusal}
 use Rattle.transcript_text.specs.Spelling.{transcript_text}
 use Rattle.auction_cmd.specs.Delivery.{AllOthersStand, AreStored, named}
-use Rattle.auction_cmd.specs.Ends.{AreHeld, Concludes, IsTextHeld, RunEnds, auction_texts}
+use Rattle.auction_cmd.specs.Ends.{AreInputsOf, Concludes, IsTextHeld, RunEnds, auction_texts}
 use Rattle.auction_cmd.specs.Ends.Concludes.{Unfit, StartOpen, Delivered}
 use Rattle.auction_cmd.specs.Ends.IsNotLoaded.{Unloaded, LongText}
 use Rattle.auction_cmd.specs.Ends.RunEnds.{Concluded}
@@ -29,7 +29,7 @@ use Rattle.auction_cmd.specs.Inputs.{file_limit, inputs_of}
 use Rattle.auction_cmd.specs.Outside.{Outside, IsSaid}
 use Rattle.auction_cmd.specs.Promises.{IsSomeRecord}
 use Rattle.auction_cmd.specs.Records.{IsEndedRecordIn, IsRecordIn, StartFits, StartUnfit, done_status, summary_in}
-use Rattle.auction_cmd.specs.Refusals.{line_of, name_of}
+use Rattle.auction_cmd.specs.Refusals.{refusal_line, name_of}
 use Rattle.auction_cmd.specs.ResumeEnds.{ResumeEnds}
 use Rattle.auction_cmd.specs.ResumeEnds.ResumeEnds.{ResumeStopped, ResumeStarved, PrefixNotLoaded, NotBegun, WentOn}
 use Rattle.auction_cmd.specs.ResumePromises.{IsResumed, ResumePromises}
@@ -79,7 +79,7 @@ module _ (names : ResumeNames) (before after : Outside) (status : ℕ) (found : 
     pub text : List ℕ
     pub kept : Prefix
     pub rec : Record
-    pub held : AreHeld names.run_files.inputs before inputs
+    pub held : AreInputsOf names.run_files.inputs before inputs
     pub named : CanBeNamed inputs
     pub told : IsTextHeld (begun_names names) before text
     pub sound : begun inputs text ≡ Ok kept
@@ -352,7 +352,7 @@ module _ (names : ResumeNames) (before after : Outside) (status : ℕ) (found : 
   concluded-off order inputs rec n c is out = absurd (off (0 ∷ 1 ∷ 4 ∷ 6 ∷ 7 ∷ 8 ∷ []) status n (concluded-statuses order inputs rec c) is out)
 
   all-halted : (files : List StoredFile) → ResumeEnds names before after status found → before.files ≡ Some files → status ≡ 5 →
-      ((why : Refusal) × (inputs_of files names.run_files.inputs ≡ Err (Refused why)) × IsSaid before after (line_of names.run_files.inputs why))
+      ((why : Refusal) × (inputs_of files names.run_files.inputs ≡ Err (Refused why)) × IsSaid before after (refusal_line names.run_files.inputs why))
       ⊎ ((inputs : Inputs) × (inputs_of files names.run_files.inputs ≡ Ok inputs) × (bytes : List ℕ) × (bytes_of files names.prefix ≡ Some bytes)
       × (file_limit < length bytes) × IsSaid before after (long_line names.prefix))
   all-halted files (ResumeStopped s none) told five = text-halted (begun_names names) before after status found files (VerifyStopped s none) told five

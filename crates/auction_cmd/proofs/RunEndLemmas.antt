@@ -4,7 +4,7 @@ use Rattle.auction_core.specs.Backed.{undecided_of}
 use Rattle.auction_core.specs.declared.record.Record.{Record}
 use Rattle.pack_defs.specs.declared.order.Order.{Order}
 use Rattle.auction_cmd.specs.declared.inputs.Inputs.{Inputs}
-use Rattle.auction_cmd.specs.Ends.{AreHeld, Concludes, IsStarved, RunEnds, auction_texts}
+use Rattle.auction_cmd.specs.Ends.{AreInputsOf, Concludes, IsStarved, RunEnds, auction_texts}
 use Rattle.auction_cmd.specs.Ends.Concludes.{Unfit, StartOpen, Delivered}
 use Rattle.auction_cmd.specs.Ends.RunEnds.{RunStarved, Concluded}
 use Rattle.auction_cmd.specs.Outside.{Outside}
@@ -27,7 +27,7 @@ concludes-since order names inputs rec before between after status found s (Star
 concludes-since order names inputs rec before between after status found s (Delivered of can held kept d) =
     Delivered of can held kept (delivers-since (auction_texts order names inputs rec) (summary_in order inputs (undecided_of rec.steps)) (done_status (undecided_of rec.steps)) before between after status d s)
 
-pub run-concludes : (names : RunNames) (before between after : Outside) (status : ℕ) (found : Option Record) (inputs : Inputs) (rec : Record) → AreHeld names.inputs before inputs → IsSince before between → IsRecordBy inputs rec rec.ending →
+pub run-concludes : (names : RunNames) (before between after : Outside) (status : ℕ) (found : Option Record) (inputs : Inputs) (rec : Record) → AreInputsOf names.inputs before inputs → IsSince before between → IsRecordBy inputs rec rec.ending →
     IsStarved between after status found ⊎ Concludes rec.order names inputs rec between after status found → RunEnds run_order names before after status found
 run-concludes names before between after status found inputs rec are s of (inl h) = RunStarved (starved-since before between after status found s h)
 run-concludes names before between after status found inputs rec are s of (inr c) =

@@ -18,13 +18,13 @@ use Rattle.transcript_text.specs.Named.{IsHeld}
 use Rattle.transcript_text.specs.Spelling.{transcript_text}
 use Rattle.auction_cmd.specs.declared.inputs.Inputs.{Inputs}
 use Rattle.auction_cmd.specs.Delivery.{AllOthersStand, AreStored, NamedText, named}
-use Rattle.auction_cmd.specs.Ends.{AreHeld, RunEnds, auction_texts}
+use Rattle.auction_cmd.specs.Ends.{AreInputsOf, RunEnds, auction_texts}
 use Rattle.auction_cmd.specs.Ends.Concludes.{Unfit, StartOpen, Delivered}
 use Rattle.auction_cmd.specs.Ends.RunEnds.{RunStopped, RunStarved, Concluded}
 use Rattle.auction_cmd.specs.Inputs.{inputs_of}
 use Rattle.auction_cmd.specs.Outside.{Outside, IsSaid}
 use Rattle.auction_cmd.specs.Promises.{IsSomeRecord}
-use Rattle.auction_cmd.specs.RunPromises.{IsDecided, IsDone, IsPartStored, IsRecordAt, IsUnstored, IsUnwritten}
+use Rattle.auction_cmd.specs.RunPromises.{IsDecided, IsRunDone, IsPartStored, IsRecordAt, IsUnstored, IsUnwritten}
 use Rattle.auction_cmd.specs.Records.{IsRecordIn, done_status, outcome, result_of, summary_in}
 use Rattle.auction_cmd.specs.Says.{unwritten_line}
 use Rattle.auction_cmd.specs.Verified.{CanBeNamed}
@@ -75,7 +75,7 @@ ended-statuses xs summary U before after status (OutOfRoom x is part said) = one
 record IsCarried (order : Order) (names : RunNames) (before after : Outside) (status : ℕ) (found : Option Record) : Type 0 where
   pub inputs : Inputs
   pub rec : Record
-  pub held : AreHeld names.inputs before inputs
+  pub held : AreInputsOf names.inputs before inputs
   pub auction : IsRecordIn order inputs rec
   pub named : CanBeNamed inputs
   pub kept : IsHeld rec
@@ -166,7 +166,7 @@ module _ (order : Order) (names : RunNames) (before after : Outside) (status : �
     line = subst (λ (z : NamedText). IsSaid before after (unwritten_line z.name)) (sym p.failed) said;
   }
 
-  pub run-done : (files : List StoredFile) → RunEnds order names before after status found → IsOnce names found → before.files ≡ Some files → IsTrue (is_in (0 ∷ 1 ∷ []) status) → IsDone order files names before after status found
+  pub run-done : (files : List StoredFile) → RunEnds order names before after status found → IsOnce names found → before.files ≡ Some files → IsTrue (is_in (0 ∷ 1 ∷ []) status) → IsRunDone order files names before after status found
   run-done files end once told h = go c.ended
     where
       c : IsCarried order names before after status found
@@ -175,7 +175,7 @@ module _ (order : Order) (names : RunNames) (before after : Outside) (status : �
       of : IsRecordIn order c.inputs c.rec
       of = c.auction
 
-      go : Ended (auction_texts order names c.inputs c.rec) (summary_in order c.inputs (undecided_of c.rec.steps)) (done_status (undecided_of c.rec.steps)) before after status → IsDone order files names before after status found
+      go : Ended (auction_texts order names c.inputs c.rec) (summary_in order c.inputs (undecided_of c.rec.steps)) (done_status (undecided_of c.rec.steps)) before after status → IsRunDone order files names before after status found
       go (Both is all writes) = record {
         inputs = c.inputs;
         accepted = c.held files told;

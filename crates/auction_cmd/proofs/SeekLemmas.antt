@@ -33,14 +33,14 @@ use Rattle.auction_cmd.specs.declared.tops.LeastTop.{LeastTop}
 use Rattle.auction_cmd.specs.Delivery.IsNotStored.{Unwritten, OutOfRoom as NoRoom}
 use Rattle.auction_cmd.specs.Delivery.IsPrinted.{Written, CutShort}
 use Rattle.auction_cmd.specs.Delivery.{AllOthersStand, AreStored, Delivers, NamedText, named}
-use Rattle.auction_cmd.specs.Ends.{AreHeld, AreSought, SeekEnds}
+use Rattle.auction_cmd.specs.Ends.{AreInputsOf, AreSought, SeekEnds}
 use Rattle.auction_cmd.specs.Ends.SeekEnds.{SeekStopped, SeekStarved, NoTop, TopOpen, TopFound}
 use Rattle.auction_cmd.specs.Inputs.{Agrees, CountsFault, RisesAt, and_then, inputs_by, inputs_from, inputs_of, sources_of, with_said}
 use Rattle.auction_cmd.specs.Outside.{Outside, IsSaid}
 use Rattle.auction_cmd.specs.Promises.{IsSomeRecord}
 use Rattle.auction_cmd.specs.Records.{IsOpenRecordOf, IsRefutedRecordOf, run_order}
 use Rattle.auction_cmd.specs.Says.{memory_line, unwritten_line}
-use Rattle.auction_cmd.specs.Seek.{IsBelow, IsLeastTop, IsSeekable, base_of, inputs_at, joinable, seekable_of, top_status, top_text}
+use Rattle.auction_cmd.specs.Seek.{IsOneBelow, IsLeastTop, IsSeekable, base_of, inputs_at, joinable, seekable_of, top_status, top_text}
 use Rattle.auction_cmd.specs.SeekPromises.{IsNoTop, IsTopOf, IsTopOpen, SeekPromises, seek_texts, shows_unfit}
 use Rattle.auction_cmd.specs.VerifyPromises.{IsOr}
 use Rattle.auction_cmd.specs.Words.{InputNames, SeekNames, seek_inputs}
@@ -156,7 +156,7 @@ module _ (base : SeekBase) (can : IsSeekable base) (none : start_set base.scenar
   nobody-least : (x : LeastTop) → IsLeastTop base x → (x.top ≡ 14) × (x.is_open ≡ false)
   nobody-least x least = go x.is_open x.below least.lower
     where
-      go : (b : Bool) (below : Option Record) → IsBelow base x.top b below → (x.top ≡ 14) × (b ≡ false)
+      go : (b : Bool) (below : Option Record) → IsOneBelow base x.top b below → (x.top ≡ 14) × (b ≡ false)
       go false None h = (h, refl)
       go false (Some rec) h = absurd (nobody-unfit (x.top - 1) rec h.1)
       go true None h = absurd h
@@ -183,9 +183,9 @@ unfit-start sc book rec of ending = go rec.start of.start (sym of.ending ∙ end
 
 -- of what was found, where no test was left open
 shown-below : (base : SeekBase) (x : LeastTop) → IsLeastTop base x → x.is_open ≡ false → MatchOption x.below (x.top ≡ 14) (λ rec. (14 < x.top) × IsTrue (shows_unfit rec.start))
-shown-below base x least shut = go x.below (subst (λ b. IsBelow base x.top b x.below) shut least.lower)
+shown-below base x least shut = go x.below (subst (λ b. IsOneBelow base x.top b x.below) shut least.lower)
   where
-    go : (below : Option Record) → IsBelow base x.top false below → MatchOption below (x.top ≡ 14) (λ rec. (14 < x.top) × IsTrue (shows_unfit rec.start))
+    go : (below : Option Record) → IsOneBelow base x.top false below → MatchOption below (x.top ≡ 14) (λ rec. (14 < x.top) × IsTrue (shows_unfit rec.start))
     go None h = h
     go (Some rec) h = let of = h.1 in (h.0, unfit-start (start_only base.scenario (x.top - 1)) (book_at base (x.top - 1)) rec of.backed of.ending)
 
@@ -327,7 +327,7 @@ module _ (names : SeekNames) (before after : Outside) (status : ℕ) (found belo
   on : IsReached names before after status found below → IsTrue (is_in (0 ∷ 1 ∷ 4 ∷ 6 ∷ 7 ∷ 8 ∷ []) status)
   on r = within (0 ∷ 1 ∷ 4 ∷ 8 ∷ []) (0 ∷ 1 ∷ 4 ∷ 6 ∷ 7 ∷ 8 ∷ []) status refl (reached-statuses r)
 
-  held : (sources : Sources) → AreSought names before sources → AreHeld (seek_inputs names) before (whole_of sources)
+  held : (sources : Sources) → AreSought names before sources → AreInputsOf (seek_inputs names) before (whole_of sources)
   held sources are files told = sought-inputs files names sources (are files told)
 
   pub seek-reading : SeekEnds names before after status found below → Reading (seek_inputs names) before after status

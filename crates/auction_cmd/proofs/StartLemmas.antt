@@ -22,7 +22,7 @@ use Rattle.auction_cmd.specs.Ends.Concludes.{Unfit, StartOpen, Delivered}
 use Rattle.auction_cmd.specs.Ends.RunEnds.{RunStopped, RunStarved, Concluded}
 use Rattle.auction_cmd.specs.Inputs.{inputs_of}
 use Rattle.auction_cmd.specs.Outside.{Outside, IsSaid}
-use Rattle.auction_cmd.specs.RunPromises.{IsLeftOpen, IsRecordAt}
+use Rattle.auction_cmd.specs.RunPromises.{IsStartLeftOpen, IsRecordAt}
 use Rattle.auction_cmd.specs.Records.{StartFits, StartUnfit, done_status, summary_in}
 use Rattle.auction_cmd.specs.Says.{memory_line, unfit_line}
 use Rattle.auction_cmd.specs.VerifyPromises.{IsOr}
@@ -68,7 +68,7 @@ module _ (order : Order) (names : RunNames) (before after : Outside) (status : �
       let same : own ≡ inputs = same-inputs own inputs (sym (are files told) ∙ is) in
       absurd (true≢false (sym (subst (λ (z : Inputs). fits z.book (start_set z.scenario) ≡ true) same of.starts) ∙ unfit))
 
-  pub run-open : (files : List StoredFile) → RunEnds order names before after status found → before.files ≡ Some files → status ≡ 7 → IsLeftOpen order files names before after found
+  pub run-open : (files : List StoredFile) → RunEnds order names before after status found → before.files ≡ Some files → status ≡ 7 → IsStartLeftOpen order files names before after found
   run-open files (RunStopped s none) told seven = absurd (off (3 ∷ 5 ∷ 8 ∷ []) status 7 (stopped-statuses names.inputs before after status s) seven refl)
   run-open files (RunStarved s) told seven = let eight = s.status_is in absurd (omega arith)
   run-open files (Concluded inputs rec are (Unfit of six kept said same)) told seven = absurd (omega arith)

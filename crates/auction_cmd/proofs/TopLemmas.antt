@@ -30,7 +30,7 @@ use Rattle.auction_cmd.specs.declared.inputs.Inputs.{Inputs}
 use Rattle.auction_cmd.specs.declared.tops.LeastTop.{LeastTop}
 use Rattle.auction_cmd.specs.declared.tops.TopRecord.{TopRecord}
 use Rattle.auction_cmd.specs.Records.{IsRecordBy, IsRecordOf, run_order}
-use Rattle.auction_cmd.specs.Seek.{AreTopRecords, IsBelow, IsLeastTop, IsSeekable, IsTopRecord, Picks, answer_of, asked_of, ending_of, inputs_at, is_same, is_told}
+use Rattle.auction_cmd.specs.Seek.{AreTopRecords, IsOneBelow, IsLeastTop, IsSeekable, IsTopRecord, Picks, answer_of, asked_of, ending_by, inputs_at, same_answer, is_told}
 use Rattle.auction_cmd.proofs.ReadingLemmas.{joined-stations}
 
 -- ---- an auction of the start set alone
@@ -126,15 +126,15 @@ told-there kept top answer h =
     let (x, there, is) = Contains-from_map (λ (x : TopRecord). record { top = x.top; answer = answer_of x.rec.ending }) kept (record { top = top; answer = answer }) h in
     let own : x.top ≡ top = ap (λ (a : AskedTop). a.top) is in
     let says : answer_of x.rec.ending ≡ answer = ap (λ (a : AskedTop). a.answer) is in
-    list_any-from (is_told top answer) kept x there (both_true (eq-eqb x.top top own) (subst (λ a. is_same (answer_of x.rec.ending) a ≡ true) says (self x.rec.ending)))
+    list_any-from (is_told top answer) kept x there (both_true (eq-eqb x.top top own) (subst (λ a. same_answer (answer_of x.rec.ending) a ≡ true) says (self x.rec.ending)))
   where
-    self : (e : Ending) → is_same (answer_of e) (answer_of e) ≡ true
+    self : (e : Ending) → same_answer (answer_of e) (answer_of e) ≡ true
     self Done = refl
     self StartRefuted = refl
     self StartUndecided = refl
 
 -- how the auction of a record ended that answers so
-same-ending : (e : Ending) (answer : TopAnswer) → is_same (answer_of e) answer ≡ true → e ≡ ending_of answer
+same-ending : (e : Ending) (answer : TopAnswer) → same_answer (answer_of e) answer ≡ true → e ≡ ending_by answer
 same-ending Done Fits h = refl
 same-ending Done Unfit h = absurd (false≢true h)
 same-ending Done Open h = absurd (false≢true h)
@@ -155,10 +155,10 @@ second-passes true b h = h
 second-passes false b h = absurd (false≢true h)
 
 -- the next record is the one that is asked for
-pub pick-here : (base : SeekBase) (x : TopRecord) (top : ℕ) (answer : TopAnswer) → IsTopRecord base x → is_told top answer x ≡ true → IsRecordBy (inputs_at base top) x.rec (ending_of answer)
+pub pick-here : (base : SeekBase) (x : TopRecord) (top : ℕ) (answer : TopAnswer) → IsTopRecord base x → is_told top answer x ≡ true → IsRecordBy (inputs_at base top) x.rec (ending_by answer)
 pick-here base x top answer of told =
-    let same : x.top ≡ top = eqb-true x.top top (first-passes (x.top == top) (is_same (answer_of x.rec.ending) answer) told) in
-    let ended : x.rec.ending ≡ ending_of answer = same-ending x.rec.ending answer (second-passes (x.top == top) (is_same (answer_of x.rec.ending) answer) told) in
+    let same : x.top ≡ top = eqb-true x.top top (first-passes (x.top == top) (same_answer (answer_of x.rec.ending) answer) told) in
+    let ended : x.rec.ending ≡ ending_by answer = same-ending x.rec.ending answer (second-passes (x.top == top) (same_answer (answer_of x.rec.ending) answer) told) in
     subst (λ e. IsRecordBy (inputs_at base top) x.rec e) ended (subst (λ t. IsRecordBy (inputs_at base t) x.rec x.rec.ending) same of.auction)
 
 -- it is another one
@@ -178,12 +178,12 @@ pick-past base all left x top answer None other h =
 -- a record of one top channel is none of another
 pub told-apart : (x : TopRecord) (top other : ℕ) (a b : TopAnswer) → top ≢ other → is_told top a x ≡ true → is_told other b x ≡ false
 told-apart x top other a b ne told = false_from_ne_true (is_told other b x) (λ both.
-    ne (sym (eqb-true x.top top (first-passes (x.top == top) (is_same (answer_of x.rec.ending) a) told))
-    ∙ eqb-true x.top other (first-passes (x.top == other) (is_same (answer_of x.rec.ending) b) both)))
+    ne (sym (eqb-true x.top top (first-passes (x.top == top) (same_answer (answer_of x.rec.ending) a) told))
+    ∙ eqb-true x.top other (first-passes (x.top == other) (same_answer (answer_of x.rec.ending) b) both)))
 
 -- once nothing is left, the one that is asked for was picked, where it was there
 pub pick-found : (base : SeekBase) (all : List TopRecord) (top : ℕ) (answer : TopAnswer) (picked : Option Record) → list_any (is_told top answer) all ≡ true → Picks base all [] top answer picked →
-    MatchOption picked ⊥ (λ rec. IsRecordBy (inputs_at base top) rec (ending_of answer))
+    MatchOption picked ⊥ (λ rec. IsRecordBy (inputs_at base top) rec (ending_by answer))
 pick-found base all top answer (Some rec) there h = h
 pick-found base all top answer None there h = absurd (false≢true (h ∙ there))
 
@@ -200,24 +200,24 @@ above-first top least other = elim (cases_lt 14 top) [
 ]
 
 -- the record of one channel less, by what was told of it
-pub below-unfit : (base : SeekBase) (top : ℕ) (o : Option Record) → 14 < top → MatchOption o ⊥ (λ rec. IsRecordBy (inputs_at base (top - 1)) rec StartRefuted) → IsBelow base top false o
+pub below-unfit : (base : SeekBase) (top : ℕ) (o : Option Record) → 14 < top → MatchOption o ⊥ (λ rec. IsRecordBy (inputs_at base (top - 1)) rec StartRefuted) → IsOneBelow base top false o
 below-unfit base top (Some rec) above of = (above, of)
 below-unfit base top None above of = absurd of
 
-pub below-open : (base : SeekBase) (top : ℕ) (o : Option Record) → 14 < top → MatchOption o ⊥ (λ rec. IsRecordBy (inputs_at base (top - 1)) rec StartUndecided) → IsBelow base top true o
+pub below-open : (base : SeekBase) (top : ℕ) (o : Option Record) → 14 < top → MatchOption o ⊥ (λ rec. IsRecordBy (inputs_at base (top - 1)) rec StartUndecided) → IsOneBelow base top true o
 below-open base top (Some rec) above of = (above, of)
 below-open base top None above of = absurd of
 
-pub below-none : (base : SeekBase) (o : Option Record) → o ≡ None → IsBelow base 14 false o
-below-none base o none = subst (λ z. IsBelow base 14 false z) (sym none) refl
+pub below-none : (base : SeekBase) (o : Option Record) → o ≡ None → IsOneBelow base 14 false o
+below-none base o none = subst (λ z. IsOneBelow base 14 false z) (sym none) refl
 
 pub least-top : (base : SeekBase) (x : LeastTop) (top : ℕ) (open_below : Bool) → x.top ≡ top → x.is_open ≡ open_below → 14 ≤ top → top ≤ base.scenario.top →
-    IsRecordOf (inputs_at base top) x.rec → IsBelow base top open_below x.below → (IsFalse open_below → NoneLess base top) → IsLeastTop base x
+    IsRecordOf (inputs_at base top) x.rec → IsOneBelow base top open_below x.below → (IsFalse open_below → NoneLess base top) → IsLeastTop base x
 least-top base x top open_below at is least most of lower none = record {
   least = subst (λ t. 14 ≤ t) (sym at) least;
   most = subst (λ t. t ≤ base.scenario.top) (sym at) most;
   auction = subst (λ t. IsRecordOf (inputs_at base t) x.rec) (sym at) of;
-  lower = subst (λ t. IsBelow base t x.is_open x.below) (sym at) (subst (λ b. IsBelow base top b x.below) (sym is) lower);
+  lower = subst (λ t. IsOneBelow base t x.is_open x.below) (sym at) (subst (λ b. IsOneBelow base top b x.below) (sym is) lower);
   none_less = λ shut less from under. none (sym is ∙ shut) less from (subst (λ t. less < t) at under);
 }
 

@@ -18,7 +18,7 @@ use Rattle.auction_cmd.specs.declared.fault.TranscriptFault.TheVariants.{Unshown
 use Rattle.auction_cmd.specs.declared.inputs.Inputs.{Inputs}
 use Rattle.auction_cmd.specs.declared.shown.Denied.{Denied}
 use Rattle.auction_cmd.specs.declared.shown.Denied.TheVariants.{Fault, NoMemory}
-use Rattle.auction_cmd.specs.Ends.{AreHeld, IsTextHeld, VerifyEnds}
+use Rattle.auction_cmd.specs.Ends.{AreInputsOf, IsTextHeld, VerifyEnds}
 use Rattle.auction_cmd.specs.Ends.IsNotLoaded.{Unloaded, LongText}
 use Rattle.auction_cmd.specs.Ends.VerifyEnds.{NotLoaded, NotSound, VerifyStarved}
 use Rattle.auction_cmd.specs.Outside.{Outside}
@@ -33,7 +33,7 @@ use Rattle.auction_cmd.proofs.SaysLemmas.{rises-before}
 
 -- the end where it was not loaded
 pub unloaded-ends : (names : VerifyNames) (before after : Outside) (status : ℕ) (found : Option Record) (inputs : Inputs) (why : LoadErr) (told : Option (List StoredFile)) (steady : Bool) (faults : ℕ) →
-    AreHeld names.inputs before inputs → told ≡ before.files → steady ≡ before.steady → before.faults ≤ faults →
+    AreInputsOf names.inputs before inputs → told ≡ before.files → steady ≡ before.steady → before.faults ≤ faults →
     IsTextRead inputs told steady faults after.faults names.transcript (Err why) →
     ExplainsLoad names.transcript why before.held after.held before.cuts after.cuts status →
     found ≡ None → after.files ≡ before.files → VerifyEnds names before after status found
@@ -77,7 +77,7 @@ unread-verdict inputs text NoRoom is = tt
 
 -- the end where there is no record
 pub denied-ends : (names : VerifyNames) (before after : Outside) (status : ℕ) (found : Option Record) (inputs : Inputs) (text : List ℕ) (why : Denied) →
-    AreHeld names.inputs before inputs → CanBeNamed inputs → IsTextHeld names before text → IsVerdict inputs (verified inputs text) (Err why) →
+    AreInputsOf names.inputs before inputs → CanBeNamed inputs → IsTextHeld names before text → IsVerdict inputs (verified inputs text) (Err why) →
     ExplainsDenied names.transcript why before.held after.held before.cuts after.cuts status →
     found ≡ None → after.files ≡ before.files → VerifyEnds names before after status found
 denied-ends names before after status found inputs text (Fault fault) are can held is e none files = NotSound inputs text fault are can held is e.0 none e.1 files

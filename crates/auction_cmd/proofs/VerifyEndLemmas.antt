@@ -9,7 +9,7 @@ use Rattle.auction_cmd.specs.declared.fault.TranscriptFault.{TranscriptFault}
 use Rattle.auction_cmd.specs.declared.inputs.Inputs.{Inputs}
 use Rattle.auction_cmd.specs.Delivery.{IsPrinted}
 use Rattle.auction_cmd.specs.Delivery.IsPrinted.{Written, CutShort}
-use Rattle.auction_cmd.specs.Ends.{AreHeld, IsNotLoaded, IsTextHeld}
+use Rattle.auction_cmd.specs.Ends.{AreInputsOf, IsNotLoaded, IsTextHeld}
 use Rattle.auction_cmd.specs.Ends.IsNotLoaded.{Unloaded, LongText}
 use Rattle.auction_cmd.specs.Inputs.{file_limit}
 use Rattle.auction_cmd.specs.Outside.{Outside}
@@ -41,7 +41,7 @@ unloaded-statuses name before after status (LongText five long said) = one-of (3
 
 -- ---- what is given
 
-pub is-given : (files : List StoredFile) (names : VerifyNames) (before : Outside) (inputs : Inputs) (text : List ℕ) → before.files ≡ Some files → AreHeld names.inputs before inputs → IsTextHeld names before text → IsGiven files names inputs text
+pub is-given : (files : List StoredFile) (names : VerifyNames) (before : Outside) (inputs : Inputs) (text : List ℕ) → before.files ≡ Some files → AreInputsOf names.inputs before inputs → IsTextHeld names before text → IsGiven files names inputs text
 is-given files names before inputs text told are held = record { accepted = are files told; told = (held files told).0; within = (held files told).1 }
 
 pub same-text : (a b : List ℕ) → Some a ≡ Some b → a ≡ b

@@ -14,7 +14,7 @@ use Rattle.transcript_text.specs.Spelling.{transcript_text}
 use Rattle.auction_cmd.specs.declared.fault.TranscriptFault.{TranscriptFault}
 use Rattle.auction_cmd.specs.declared.inputs.Inputs.{Inputs}
 use Rattle.auction_cmd.specs.Delivery.IsPrinted.{Written, CutShort}
-use Rattle.auction_cmd.specs.Ends.{AreHeld, VerifyEnds}
+use Rattle.auction_cmd.specs.Ends.{AreInputsOf, VerifyEnds}
 use Rattle.auction_cmd.specs.Ends.IsNotLoaded.{Unloaded, LongText}
 use Rattle.auction_cmd.specs.Ends.VerifyEnds.{VerifyStopped, VerifyStarved, NotLoaded, NotSound, Sound}
 use Rattle.auction_cmd.specs.Inputs.{inputs_of}
@@ -83,7 +83,7 @@ module _ (names : VerifyNames) (before after : Outside) (status : ℕ) (found : 
       (as-verified files inputs text rec (is-given files names before inputs text told are held) kept is of, rises, less, said)
 
   all-printed : VerifyEnds names before after status found → IsTrue (is_in (0 ∷ 1 ∷ []) status) →
-      (inputs : Inputs) × (rec : Record) × AreHeld names.inputs before inputs × (found ≡ Some rec) × IsRecordIn rec.order inputs rec
+      (inputs : Inputs) × (rec : Record) × AreInputsOf names.inputs before inputs × (found ≡ Some rec) × IsRecordIn rec.order inputs rec
       × (status ≡ done_status (undecided_of rec.steps))
       × Writes before.held after.held (result_of rec.order inputs (undecided_of rec.steps)) (Ok tt)
   all-printed (VerifyStopped s none) h = absurd (apart-lists (0 ∷ 1 ∷ []) (3 ∷ 5 ∷ 8 ∷ []) status refl h (stopped-statuses names.inputs before after status s))
@@ -95,7 +95,7 @@ module _ (names : VerifyNames) (before after : Outside) (status : ℕ) (found : 
 
   -- the record where there is one
   all-recorded : VerifyEnds names before after status found → IsTrue (is_in (0 ∷ 1 ∷ 4 ∷ []) status) →
-      (inputs : Inputs) × (rec : Record) × AreHeld names.inputs before inputs × (found ≡ Some rec) × IsRecordIn rec.order inputs rec
+      (inputs : Inputs) × (rec : Record) × AreInputsOf names.inputs before inputs × (found ≡ Some rec) × IsRecordIn rec.order inputs rec
   all-recorded (VerifyStopped s none) h = absurd (apart-lists (0 ∷ 1 ∷ 4 ∷ []) (3 ∷ 5 ∷ 8 ∷ []) status refl h (stopped-statuses names.inputs before after status s))
   all-recorded (VerifyStarved s) h = absurd (off (0 ∷ 1 ∷ 4 ∷ []) status 8 h s.status_is refl)
   all-recorded (NotLoaded inputs are n none same) h = absurd (apart-lists (0 ∷ 1 ∷ 4 ∷ []) (3 ∷ 5 ∷ []) status refl h (unloaded-statuses names.transcript before after status n))

@@ -16,7 +16,7 @@ use Rattle.auction_cmd.specs.Inputs.{file_limit, inputs_of}
 use Rattle.auction_cmd.specs.Outside.{Outside, IsSaid}
 use Rattle.auction_cmd.specs.Promises.{AreThere}
 use Rattle.auction_cmd.specs.Records.{result_of}
-use Rattle.auction_cmd.specs.Refusals.{line_of, name_of}
+use Rattle.auction_cmd.specs.Refusals.{refusal_line, name_of}
 use Rattle.auction_cmd.specs.Says.{long_line, unread_line}
 use Rattle.auction_cmd.specs.VerifyPromises.{AreAllThere, IsOr}
 use Rattle.auction_cmd.specs.Words.{VerifyNames}
@@ -27,7 +27,7 @@ use Rattle.auction_cmd.proofs.VerifyEndLemmas.{is-given, no-text, not-long, prin
 
 module _ (names : VerifyNames) (before after : Outside) (status : ℕ) (found : Option Record) where
   pub all-halted : (files : List StoredFile) → VerifyEnds names before after status found → before.files ≡ Some files → status ≡ 5 →
-      ((why : Refusal) × (inputs_of files names.inputs ≡ Err (Refused why)) × IsSaid before after (line_of names.inputs why))
+      ((why : Refusal) × (inputs_of files names.inputs ≡ Err (Refused why)) × IsSaid before after (refusal_line names.inputs why))
       ⊎ ((inputs : Inputs) × (inputs_of files names.inputs ≡ Ok inputs) × (bytes : List ℕ) × (bytes_of files names.transcript ≡ Some bytes)
       × (file_limit < length bytes) × IsSaid before after (long_line names.transcript))
   all-halted files (VerifyStopped s none) told five = inl (refused-cause names.inputs before after status files (Halted s) told five)

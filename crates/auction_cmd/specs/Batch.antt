@@ -35,8 +35,8 @@ abbrev pub inputs_with : BatchNames → List ℕ → InputNames
 inputs_with names scenario = record { domains = names.domains; rows = names.rows; scenario = scenario; owners = None }
 
 -- the names in the words
-abbrev pub words_of : BatchNames → List (List ℕ)
-words_of names = names.domains ∷ names.rows ∷ names.list ∷ []
+abbrev pub names_in_words : BatchNames → List (List ℕ)
+names_in_words names = names.domains ∷ names.rows ∷ names.list ∷ []
 
 -- what the domains and the rows of these names hold, or the first one that stops the reading
 unfoldable pub constraints_of : List StoredFile → InputNames → Result Constraints Stop
@@ -53,8 +53,8 @@ list_read (Err Empty) = Err (Refused EmptyList)
 list_read (Err NoRoom) = Err NoMemory
 
 -- what the list of this name says
-abbrev pub listed_in : List StoredFile → List ℕ → Result (List ListedNames) Stop
-listed_in files name = and_then (file_of files name ListFile) (λ bytes. list_read (list_of bytes))
+abbrev pub list_named : List StoredFile → List ℕ → Result (List ListedNames) Stop
+list_named files name = and_then (file_of files name ListFile) (λ bytes. list_read (list_of bytes))
 
 -- what the constraint files hold, and the lines of the list
 pub record ListedView : Type 0 where
@@ -66,10 +66,10 @@ abbrev pub listed_seen : Listed → ListedView
 listed_seen l = record { constraints = l.constraints; lines = l.lines.items }
 
 -- The constraint files and the list, which stands in a scenario's place, or the first one that stops the reading.
-unfoldable pub listed_of : List StoredFile → InputNames → Result ListedView Stop
-listed_of files names =
+unfoldable pub listing_of : List StoredFile → InputNames → Result ListedView Stop
+listing_of files names =
     and_then (constraints_of files names) (λ constraints.
-    and_then (listed_in files names.scenario) (λ lines.
+    and_then (list_named files names.scenario) (λ lines.
     Ok (record { constraints = constraints; lines = lines })))
 
 -- the inputs that a scenario of this name makes beside these constraint files, or what stops the reading
@@ -85,9 +85,9 @@ pub data BatchStop : Type 0 where
   Twice : List ℕ → BatchStop
 
 -- a step, and where it doesn't stop the next one
-abbrev pub go_on : {A B : Type 0} → Result A BatchStop → (A → Result B BatchStop) → Result B BatchStop
-go_on (Ok x) f = f x
-go_on (Err e) f = Err e
+abbrev pub unless_stopped : {A B : Type 0} → Result A BatchStop → (A → Result B BatchStop) → Result B BatchStop
+unless_stopped (Ok x) f = f x
+unless_stopped (Err e) f = Err e
 
 -- a reading among these files
 abbrev pub among : {A : Type 0} → InputNames → Result A Stop → Result A BatchStop
@@ -103,8 +103,8 @@ once_each lines (Some name) = Err (Twice name)
 abbrev pub each_inputs : List StoredFile → BatchNames → Constraints → List ListedNames → Result (List Inputs) BatchStop
 each_inputs files names c [] = Ok []
 each_inputs files names c (line ∷ lines) =
-    go_on (among (inputs_with names line.scenario) (inputs_beside files c line.scenario)) (λ inputs.
-    go_on (each_inputs files names c lines) (λ more. Ok (inputs ∷ more)))
+    unless_stopped (among (inputs_with names line.scenario) (inputs_beside files c line.scenario)) (λ inputs.
+    unless_stopped (each_inputs files names c lines) (λ more. Ok (inputs ∷ more)))
 
 -- a batch: the lines of its list, and the inputs of each line's scenario
 pub record HeldBatch : Type 0 where
@@ -115,9 +115,9 @@ pub record HeldBatch : Type 0 where
 -- result's name that is given twice, and then, scenario by scenario, the scenario and the book that it makes.
 unfoldable pub batch_of : List StoredFile → BatchNames → Result HeldBatch BatchStop
 batch_of files names =
-    go_on (among (inputs_with names names.list) (listed_of files (inputs_with names names.list))) (λ listed.
-    go_on (once_each listed.lines (repeated_result (words_of names) listed.lines)) (λ lines.
-    go_on (each_inputs files names listed.constraints lines) (λ inputs.
+    unless_stopped (among (inputs_with names names.list) (listing_of files (inputs_with names names.list))) (λ listed.
+    unless_stopped (once_each listed.lines (repeated_result (names_in_words names) listed.lines)) (λ lines.
+    unless_stopped (each_inputs files names listed.constraints lines) (λ inputs.
     Ok (record { lines = lines; inputs = inputs }))))
 
 -- ---- what becomes of an auction

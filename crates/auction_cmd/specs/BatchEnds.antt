@@ -6,9 +6,9 @@ use Rattle.auction_core.specs.declared.record.Record.{Record}
 use Rattle.auction_cmd.specs.declared.batch_inputs.Constraints.{Constraints}
 use Rattle.auction_cmd.specs.declared.inputs.Inputs.{Inputs}
 use Rattle.auction_cmd.specs.declared.inputs.Stop.TheVariants.{CannotRead, Refused, NoMemory}
-use Rattle.auction_cmd.specs.Batch.{BatchStop, Unread, Twice, HeldBatch, batch_of, batch_status, batch_texts, inputs_with, listed_of, status_lines}
+use Rattle.auction_cmd.specs.Batch.{BatchStop, Unread, Twice, HeldBatch, batch_of, batch_status, batch_texts, inputs_with, listing_of, status_lines}
 use Rattle.auction_cmd.specs.Delivery.{Delivers}
-use Rattle.auction_cmd.specs.Ends.{Explains, IsStarved}
+use Rattle.auction_cmd.specs.Ends.{ExplainsHalt, IsStarved}
 use Rattle.auction_cmd.specs.Inputs.{CountsFault}
 use Rattle.auction_cmd.specs.Outside.{Outside}
 use Rattle.auction_cmd.specs.Records.{IsRecordBy}
@@ -31,7 +31,7 @@ CountsStop before now (Twice name) = now ≡ before
 
 -- the status and the line of what stopped the reading
 abbrev pub ExplainsStop : BatchStop → Option (List ℕ) → Option (List ℕ) → ℕ → ℕ → ℕ → Type 0
-ExplainsStop (Unread names why) held held' cuts cuts' status = Explains names why held held' cuts cuts' status
+ExplainsStop (Unread names why) held held' cuts cuts' status = ExplainsHalt names why held held' cuts cuts' status
 ExplainsStop (Twice name) held held' cuts cuts' status = (status ≡ REFUSED) × Says held held' cuts cuts' (twice_line name)
 
 -- the names were those of the constraint files and the list, or of a scenario of these lines beside them
@@ -42,7 +42,7 @@ IsUnderOneOf names lines own = (own ≡ inputs_with names names.list) ⊎ ((line
 abbrev pub IsUnderList : BatchNames → Outside → InputNames → Type 0
 IsUnderList names before own = (own ≡ inputs_with names names.list) ⊎ ((lines : List ListedNames) × IsUnderOneOf names lines own
     × ((files : List StoredFile) → before.files ≡ Some files →
-    (c : Constraints) × (listed_of files (inputs_with names names.list) ≡ Ok (record { constraints = c; lines = lines }))))
+    (c : Constraints) × (listing_of files (inputs_with names names.list) ≡ Ok (record { constraints = c; lines = lines }))))
 
 -- what was read where it stopped had such names
 abbrev pub StopsUnder : (InputNames → Type 0) → BatchStop → Type 0
@@ -51,7 +51,7 @@ StopsUnder Under (Twice name) = ⊤
 
 -- A reading stopped, at names that it reads under: of a told folder, at what the files hold. The status and a line say so, and no
 -- file is touched.
-pub record IsStopped {A : Type 0} (reads : List StoredFile → Result A BatchStop) (Under : InputNames → Type 0) (before after : Outside) (status : ℕ) : Type 0 where
+pub record IsReadingStopped {A : Type 0} (reads : List StoredFile → Result A BatchStop) (Under : InputNames → Type 0) (before after : Outside) (status : ℕ) : Type 0 where
   pub stop : BatchStop
   pub under : StopsUnder Under stop
   pub told : (files : List StoredFile) → before.files ≡ Some files → StopsAsHeld before.steady (reads files) stop
@@ -61,7 +61,7 @@ pub record IsStopped {A : Type 0} (reads : List StoredFile → Result A BatchSto
 
 -- the reading of a batch stopped
 abbrev pub IsBatchStopped : BatchNames → Outside → Outside → ℕ → Type 0
-IsBatchStopped names before after status = IsStopped (λ files. batch_of files names) (IsUnderList names before) before after status
+IsBatchStopped names before after status = IsReadingStopped (λ files. batch_of files names) (IsUnderList names before) before after status
 
 -- the batch is what the files hold, where the folder tells them
 abbrev pub IsBatchHeld : BatchNames → Outside → HeldBatch → Type 0

@@ -19,7 +19,7 @@ use Rattle.auction_cmd.specs.Delivery.{AllOthersStand, AreStored, AreStoredUpTo}
 use Rattle.auction_cmd.specs.Inputs.{inputs_of}
 use Rattle.auction_cmd.specs.Outside.{Outside, IsSaid}
 use Rattle.auction_cmd.specs.Records.{IsRecordBy, outcome, result_of, run_order}
-use Rattle.auction_cmd.specs.Refusals.{line_of, name_of}
+use Rattle.auction_cmd.specs.Refusals.{refusal_line, name_of}
 use Rattle.auction_cmd.specs.Says.{memory_line, twice_line, unread_line, unwritten_line}
 use Rattle.auction_cmd.specs.Statuses.{DONE, LEFT_OPEN, UNREAD, UNWRITTEN, REFUSED, NO_MEMORY, SOME_UNSTARTED}
 use Rattle.auction_cmd.specs.VerifyPromises.{IsOr}
@@ -47,7 +47,7 @@ pub record IsRunOf (files new : List StoredFile) (names : BatchNames) (line : Li
 -- the line that says what is refused
 abbrev pub refused_line : BatchStop → List ℕ
 refused_line (Unread names (CannotRead input)) = []
-refused_line (Unread names (Refused why)) = line_of names why
+refused_line (Unread names (Refused why)) = refusal_line names why
 refused_line (Unread names NoMemory) = []
 refused_line (Twice name) = twice_line name
 

@@ -23,7 +23,7 @@ use Rattle.auction_cmd.specs.VerifyPromises.{IsGiven, IsOr, VerifyPromises}
 use Rattle.auction_cmd.specs.Words.{ExportNames, VerifyNames}
 
 -- the transcript that the files hold is sound, and its record has this step or none
-pub record IsAsked (files : List StoredFile) (names : VerifyNames) (step : ℕ) (there : Option Step) : Type 0 where
+pub record IsStepAsked (files : List StoredFile) (names : VerifyNames) (step : ℕ) (there : Option Step) : Type 0 where
   pub inputs : Inputs
   pub text : List ℕ
   pub given : IsGiven files names inputs text
@@ -39,15 +39,15 @@ pub record ExportPromises (names : ExportNames) (before after : Outside) (status
   -- At 0 the transcript is sound, its record has the step, and the file holds the packing formula of the stations that the step
   -- asked about. All other files stand, whatever the status.
   pub done : (files : List StoredFile) → before.files ≡ Some files → status ≡ DONE →
-      (x : Step) × (a : IsAsked files names.shown names.step (Some x))
+      (x : Step) × (a : IsStepAsked files names.shown names.step (Some x))
       × MatchOption after.files ⊥ (λ new. AreStored files new (named names.formula (formula_text a.inputs.book a.rec names.step) ∷ []))
   pub others : (files : List StoredFile) → before.files ≡ Some files →
       MatchOption after.files ⊥ (λ new. AllOthersStand files new (names.formula ∷ []))
   pub untouched : IsTrue (is_in (UNREAD ∷ REFUSED ∷ NOT_SHOWN ∷ NOT_SETTLED ∷ []) status) → after.files ≡ before.files
   -- Status 10 comes exactly where the record of a sound transcript has no such step, and the line says so.
   pub missing : (files : List StoredFile) → before.files ≡ Some files → status ≡ NOT_SETTLED →
-      IsAsked files names.shown names.step None × IsSaid before after (step_line names.step NoSuchStep)
-  pub misses : (files : List StoredFile) → before.files ≡ Some files → IsAsked files names.shown names.step None → IsOr NOT_SETTLED before status
+      IsStepAsked files names.shown names.step None × IsSaid before after (step_line names.step NoSuchStep)
+  pub misses : (files : List StoredFile) → before.files ≡ Some files → IsStepAsked files names.shown names.step None → IsOr NOT_SETTLED before status
   -- At 3, 5 and 9 it ended as `verify` ends, and where `verify` would end so it does.
   pub as_verify : IsTrue (is_in (UNREAD ∷ REFUSED ∷ NOT_SHOWN ∷ []) status) → VerifyPromises names.shown before after status found
   pub refuses : (files : List StoredFile) (inputs : Inputs) (text : List ℕ) (fault : TranscriptFault) →
@@ -61,7 +61,7 @@ pub record ExportPromises (names : ExportNames) (before after : Outside) (status
   -- names the file.
   pub unwritten : status ≡ UNWRITTEN → HasRisen before.faults after.faults × (before.steady ≢ true) × IsSaid before after (unwritten_line names.formula)
   pub unstored : (files : List StoredFile) → before.files ≡ Some files → status ≡ UNWRITTEN →
-      (x : Step) × IsAsked files names.shown names.step (Some x)
+      (x : Step) × IsStepAsked files names.shown names.step (Some x)
   -- Of a sound transcript each step's formula is stored, but for want of memory and faults of the outside.
-  pub complete : (files : List StoredFile) (x : Step) → before.files ≡ Some files → IsAsked files names.shown names.step (Some x) →
+  pub complete : (files : List StoredFile) (x : Step) → before.files ≡ Some files → IsStepAsked files names.shown names.step (Some x) →
       IsOr DONE before status ⊎ (status ≡ UNWRITTEN)

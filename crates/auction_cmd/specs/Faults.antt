@@ -6,6 +6,6 @@ use Rattle.auction_cmd.specs.Statuses.{DONE, LEFT_OPEN, UNREAD, UNWRITTEN}
 
 -- At every status but 3 and 4 the folder's count stands, and at 0 and 1 the sink's does too. At 2 and from 5 on a line may have
 -- failed.
-pub record IsCounted (before after : Outside) (status : ℕ) : Type 0 where
+pub record AreFaultsCounted (before after : Outside) (status : ℕ) : Type 0 where
   pub folder : IsFalse (is_in (UNREAD ∷ UNWRITTEN ∷ []) status) → after.faults ≡ before.faults
   pub sink : IsTrue (is_in (DONE ∷ LEFT_OPEN ∷ []) status) → after.cuts ≡ before.cuts

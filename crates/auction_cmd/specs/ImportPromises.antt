@@ -23,12 +23,12 @@ use Rattle.auction_cmd.specs.declared.inputs.Stop.TheVariants.{Refused}
 use Rattle.auction_cmd.specs.declared.refusal.Refusal.{Refusal}
 use Rattle.auction_cmd.specs.declared.settling.StepFault.{StepFault}
 use Rattle.auction_cmd.specs.Delivery.{AllOthersStand, AreStored, AreStoredUpTo, NamedText}
-use Rattle.auction_cmd.specs.Ends.{AreHeld, IsNotLoaded, IsShown, import_texts}
+use Rattle.auction_cmd.specs.Ends.{AreInputsOf, IsNotLoaded, IsShown, import_texts}
 use Rattle.auction_cmd.specs.Inputs.{file_limit, inputs_of}
 use Rattle.auction_cmd.specs.Outside.{Outside, IsSaid}
 use Rattle.auction_cmd.specs.Records.{IsRecordIn, done_status, outcome, summary_in}
 use Rattle.auction_cmd.specs.Says.{unread_line, unwritten_line}
-use Rattle.auction_cmd.specs.Settling.{log_line, open_fault, step_line}
+use Rattle.auction_cmd.specs.Settling.{unsettled_line, open_fault, step_line}
 use Rattle.auction_cmd.specs.Statuses.{DONE, LEFT_OPEN, UNREAD, UNWRITTEN, REFUSED, NO_MEMORY, NOT_SHOWN, NOT_SETTLED}
 use Rattle.auction_cmd.specs.Verified.{verified}
 use Rattle.auction_cmd.specs.VerifyPromises.{AreAllThere, IsGiven, IsOr, VerifyPromises}
@@ -125,7 +125,7 @@ pub record ImportPromises (names : ImportNames) (before after : Outside) (status
   -- At 0, 1 and 4 there is a record, one of the auction of the inputs, also where the folder tells nothing; at 3, 5, 9 and 10 there
   -- is none.
   pub recorded : IsTrue (is_in (DONE ∷ LEFT_OPEN ∷ UNWRITTEN ∷ []) status) →
-      (inputs : Inputs) × (rec : Record) × AreHeld names.shown.inputs before inputs × (found ≡ Some rec) × IsRecordIn rec.order inputs rec
+      (inputs : Inputs) × (rec : Record) × AreInputsOf names.shown.inputs before inputs × (found ≡ Some rec) × IsRecordIn rec.order inputs rec
   pub unrecorded : IsTrue (is_in (UNREAD ∷ REFUSED ∷ NOT_SHOWN ∷ NOT_SETTLED ∷ []) status) → found ≡ None
   -- Also where the folder tells nothing, the sink grew at 0 and 1 by the summary of the record, and the status is 0 exactly
   -- where no test was left open.
@@ -144,7 +144,7 @@ pub record ImportPromises (names : ImportNames) (before after : Outside) (status
       (s : IsSoundIn files names.shown) × (
       ((fault : StepFault) × (open_fault (step_at s.rec.steps names.step) ≡ Some fault) × IsSaid before after (step_line names.step fault))
       ⊎ ((log : List ℕ) × (fault : SettleErr) × IsLogIn files names.proof log × (open_fault (step_at s.rec.steps names.step) ≡ None)
-      × (settled_text s.inputs.book s.rec names.step log ≡ Err fault) × IsSaid before after (log_line names.proof fault)))
+      × (settled_text s.inputs.book s.rec names.step log ≡ Err fault) × IsSaid before after (unsettled_line names.proof fault)))
   pub refuses_step : (files : List StoredFile) (s : IsSoundIn files names.shown) (fault : StepFault) →
       before.files ≡ Some files → open_fault (step_at s.rec.steps names.step) ≡ Some fault → IsOr NOT_SETTLED before status
   pub refuses_log : (files : List StoredFile) (s : IsSoundIn files names.shown) (log : List ℕ) (fault : SettleErr) →

@@ -22,7 +22,7 @@ use Rattle.auction_cmd.specs.MakePromises.{MakePromises}
 use Rattle.auction_cmd.specs.Outside.{Outside, IsSaid}
 use Rattle.auction_cmd.specs.Plan.{Plan, no_command, repeats, runs, checks, verifies, resumes, seeks, batches, makes, exports, imports}
 use Rattle.auction_cmd.specs.Records.{outcome, run_order}
-use Rattle.auction_cmd.specs.Refusals.{line_of, name_of}
+use Rattle.auction_cmd.specs.Refusals.{refusal_line, name_of}
 use Rattle.auction_cmd.specs.RunPromises.{RunPromises}
 use Rattle.auction_cmd.specs.Says.{memory_line, twice_line, unread_line}
 use Rattle.auction_cmd.specs.SeekPromises.{SeekPromises}
@@ -169,7 +169,7 @@ pub record Promises (plan : Plan) (before after : Outside) (status : ℕ) (found
   -- fail.
   pub refused : (files : List StoredFile) (names : InputNames) →
       before.files ≡ Some files → inputs_read plan ≡ Some names → status ≡ REFUSED →
-      (why : Refusal) × (inputs_of files names ≡ Err (Refused why)) × IsSaid before after (line_of names why)
+      (why : Refusal) × (inputs_of files names ≡ Err (Refused why)) × IsSaid before after (refusal_line names why)
   pub refuses : (files : List StoredFile) (names : InputNames) (why : Refusal) →
       before.files ≡ Some files → inputs_read plan ≡ Some names → inputs_of files names ≡ Err (Refused why) →
       IsOr REFUSED before status

@@ -83,5 +83,5 @@ refusal_text (BadLine line) = codes ": line " ++ decimal line ++ codes ": " ++ c
 refusal_text EmptyList = codes ": empty list\n"
 
 -- the line of a refusal, of these input files
-abbrev pub line_of : InputNames → Refusal → List ℕ
-line_of names refusal = name_of names (input_of refusal) ++ refusal_text refusal
+abbrev pub refusal_line : InputNames → Refusal → List ℕ
+refusal_line names refusal = name_of names (input_of refusal) ++ refusal_text refusal

@@ -6,7 +6,7 @@ use Rattle.auction_core.specs.Auction.{AuctionView}
 use Rattle.auction_core.specs.NotShown.{order_kept}
 use Rattle.auction_cmd.specs.declared.fault.TranscriptFault.{TranscriptFault}
 use Rattle.auction_cmd.specs.declared.inputs.Inputs.{Inputs}
-use Rattle.auction_cmd.specs.Ends.{AreHeld, Concludes, IsHalted, IsNotLoaded, IsStarved, IsTextHeld}
+use Rattle.auction_cmd.specs.Ends.{AreInputsOf, Concludes, IsHalted, IsNotLoaded, IsStarved, IsTextHeld}
 use Rattle.auction_cmd.specs.Outside.{Outside, IsSaid}
 use Rattle.auction_cmd.specs.Resumption.{GoesOnFrom, StandsBehind, begun}
 use Rattle.auction_cmd.specs.Statuses.{NOT_SHOWN}
@@ -18,18 +18,18 @@ use Rattle.auction_cmd.specs.Words.{ResumeNames, begun_names}
 pub data ResumeEnds (names : ResumeNames) (before after : Outside) (status : ℕ) (found : Option Record) : Type 0 where
   ResumeStopped : IsHalted names.run_files.inputs before after status → found ≡ None → ResumeEnds names before after status found
   ResumeStarved : IsStarved before after status found → ResumeEnds names before after status found
-  PrefixNotLoaded : (inputs : Inputs) → AreHeld names.run_files.inputs before inputs → IsNotLoaded names.prefix before after status →
+  PrefixNotLoaded : (inputs : Inputs) → AreInputsOf names.run_files.inputs before inputs → IsNotLoaded names.prefix before after status →
       found ≡ None → after.files ≡ before.files → ResumeEnds names before after status found
-  NotBegun : (inputs : Inputs) (text : List ℕ) (fault : TranscriptFault) → AreHeld names.run_files.inputs before inputs →
+  NotBegun : (inputs : Inputs) (text : List ℕ) (fault : TranscriptFault) → AreInputsOf names.run_files.inputs before inputs →
       CanBeNamed inputs → IsTextHeld (begun_names names) before text → begun inputs text ≡ Err fault → status ≡ NOT_SHOWN → found ≡ None →
       IsSaid before after (fault_line names.prefix fault) → after.files ≡ before.files → ResumeEnds names before after status found
-  WentOn : (inputs : Inputs) (text : List ℕ) (kept : Prefix) (rec : Record) → AreHeld names.run_files.inputs before inputs →
+  WentOn : (inputs : Inputs) (text : List ℕ) (kept : Prefix) (rec : Record) → AreInputsOf names.run_files.inputs before inputs →
       CanBeNamed inputs → IsTextHeld (begun_names names) before text → begun inputs text ≡ Ok kept → GoesOnFrom kept rec →
       Concludes (order_kept kept) names.run_files inputs rec before after status found → ResumeEnds names before after status found
 
 -- The beginning is one from which an auction goes on: what is read and kept, and the auction that stands behind it.
 pub record IsResumable (names : ResumeNames) (before : Outside) (inputs : Inputs) (auction : AuctionView) : Type 0 where
-  pub accepted : AreHeld names.run_files.inputs before inputs
+  pub accepted : AreInputsOf names.run_files.inputs before inputs
   pub named : CanBeNamed inputs
   pub text : List ℕ
   pub held : IsTextHeld (begun_names names) before text

@@ -13,12 +13,12 @@ use Rattle.auction_cmd.specs.declared.inputs.Stop.TheVariants.{CannotRead, Refus
 use Rattle.auction_cmd.specs.declared.refusal.Input.{Input}
 use Rattle.auction_cmd.specs.declared.refusal.Refusal.{Refusal}
 use Rattle.auction_cmd.specs.Delivery.{AllOthersStand}
-use Rattle.auction_cmd.specs.Ends.{AreHeld, IsTextHeld}
+use Rattle.auction_cmd.specs.Ends.{AreInputsOf, IsTextHeld}
 use Rattle.auction_cmd.specs.Inputs.{file_limit, inputs_of}
 use Rattle.auction_cmd.specs.Outside.{Outside, IsSaid}
 use Rattle.auction_cmd.specs.Promises.{IsSomeRecord}
 use Rattle.auction_cmd.specs.Records.{IsEndedRecordIn, StartFits, StartUnfit, done_status}
-use Rattle.auction_cmd.specs.Refusals.{line_of, name_of}
+use Rattle.auction_cmd.specs.Refusals.{refusal_line, name_of}
 use Rattle.auction_cmd.specs.Resumption.{GoesOnFrom, begun}
 use Rattle.auction_cmd.specs.RunPromises.{RunPromises}
 use Rattle.auction_cmd.specs.Says.{long_line, memory_line, unread_line}
@@ -33,7 +33,7 @@ use Rattle.auction_cmd.specs.Words.{ResumeNames, begun_names, output_names}
 -- is kept has no verdict on it.
 pub record IsResumed (names : ResumeNames) (before after : Outside) (status : ℕ) (found : Option Record) : Type 0 where
   pub inputs : Inputs
-  pub accepted : AreHeld names.run_files.inputs before inputs
+  pub accepted : AreInputsOf names.run_files.inputs before inputs
   pub text : List ℕ
   pub held : IsTextHeld (begun_names names) before text
   pub kept : Prefix
@@ -83,7 +83,7 @@ pub record ResumePromises (names : ResumeNames) (before after : Outside) (status
       IsOr START_UNFIT before status ⊎ (status ≡ START_OPEN)
   -- Status 5 comes exactly where an input is too long or refused, or the beginning is too long.
   pub halted : (files : List StoredFile) → before.files ≡ Some files → status ≡ REFUSED →
-      ((why : Refusal) × (inputs_of files names.run_files.inputs ≡ Err (Refused why)) × IsSaid before after (line_of names.run_files.inputs why))
+      ((why : Refusal) × (inputs_of files names.run_files.inputs ≡ Err (Refused why)) × IsSaid before after (refusal_line names.run_files.inputs why))
       ⊎ ((inputs : Inputs) × (inputs_of files names.run_files.inputs ≡ Ok inputs) × (bytes : List ℕ) × (bytes_of files names.prefix ≡ Some bytes)
       × (file_limit < length bytes) × IsSaid before after (long_line names.prefix))
   pub refuses_input : (files : List StoredFile) (why : Refusal) →

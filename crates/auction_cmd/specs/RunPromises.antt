@@ -15,7 +15,7 @@ use Rattle.auction_core.specs.declared.record.Record.{Record}
 use Rattle.auction_core.specs.Backed.{undecided_of}
 use Rattle.transcript_text.specs.Spelling.{transcript_text}
 use Rattle.auction_cmd.specs.Delivery.{AllOthersStand, AreStored, AreStoredUpTo}
-use Rattle.auction_cmd.specs.Ends.{AreHeld, auction_texts}
+use Rattle.auction_cmd.specs.Ends.{AreInputsOf, auction_texts}
 use Rattle.auction_cmd.specs.Inputs.{inputs_of}
 use Rattle.auction_cmd.specs.LivePromises.{IsLive}
 use Rattle.auction_cmd.specs.Outside.{Outside, IsSaid}
@@ -30,7 +30,7 @@ use Rattle.auction_cmd.specs.Words.{RunNames, output_names}
 -- with the tests left open that the record shows undecided, CHANNELS that of the record's map, which violates no row, and
 -- TRANSCRIPT that of the record; every other file stands, and the sink grew by the summary. The status is 0 exactly where no
 -- test was left open. Whoever verifies the transcript beside the same inputs gets the record.
-pub record IsDone (order : Order) (files : List StoredFile) (names : RunNames) (before after : Outside) (status : ℕ) (found : Option Record) : Type 0 where
+pub record IsRunDone (order : Order) (files : List StoredFile) (names : RunNames) (before after : Outside) (status : ℕ) (found : Option Record) : Type 0 where
   pub inputs : Inputs
   pub accepted : inputs_of files names.inputs ≡ Ok inputs
   pub rec : Record
@@ -92,13 +92,13 @@ IsUnwritten order files names before after found = IsUnstored order files names 
 -- The record is that of the auction of the inputs that the files hold, where the folder tells them, and it ended so.
 pub record IsRecordAt (order : Order) (names : RunNames) (before : Outside) (ending : Ending) (found : Option Record) : Type 0 where
   pub inputs : Inputs
-  pub held : AreHeld names.inputs before inputs
+  pub held : AreInputsOf names.inputs before inputs
   pub rec : Record
   pub recorded : found ≡ Some rec
   pub auction : IsEndedRecordIn order inputs rec ending
 
 -- The test of the start set of these inputs was left open: the record has a receipt of every worker, and the line says so.
-pub record IsLeftOpen (order : Order) (files : List StoredFile) (names : RunNames) (before after : Outside) (found : Option Record) : Type 0 where
+pub record IsStartLeftOpen (order : Order) (files : List StoredFile) (names : RunNames) (before after : Outside) (found : Option Record) : Type 0 where
   pub inputs : Inputs
   pub accepted : inputs_of files names.inputs ≡ Ok inputs
   pub rec : Record
@@ -109,14 +109,14 @@ pub record IsLeftOpen (order : Order) (files : List StoredFile) (names : RunName
 -- Of a folder that tells its files.
 pub record ToldRun (order : Order) (files : List StoredFile) (names : RunNames) (before after : Outside) (status : ℕ) (found : Option Record) : Type 0 where
   -- At status 0 and 1 the auction of the inputs that the files hold was carried out, at 0 with every test decided.
-  pub done : IsTrue (is_in (DONE ∷ LEFT_OPEN ∷ []) status) → IsDone order files names before after status found
+  pub done : IsTrue (is_in (DONE ∷ LEFT_OPEN ∷ []) status) → IsRunDone order files names before after status found
   pub decided : status ≡ DONE → IsDecided order files names before after
   -- Status 6 comes only where the start set of accepted inputs doesn't fit, and 7 only where the record has a receipt of
   -- every worker that its budget was spent on that set. Where it doesn't fit one of them comes, but for want of memory and a
   -- folder that isn't steady; where nobody starts on air neither does.
   pub unfit : status ≡ START_UNFIT → (inputs : Inputs) × (inputs_of files names.inputs ≡ Ok inputs) × StartUnfit inputs × IsSaid before after unfit_line
   pub unfits : (inputs : Inputs) → inputs_of files names.inputs ≡ Ok inputs → StartUnfit inputs → IsOr START_UNFIT before status ⊎ (status ≡ START_OPEN)
-  pub left_open : status ≡ START_OPEN → IsLeftOpen order files names before after found
+  pub left_open : status ≡ START_OPEN → IsStartLeftOpen order files names before after found
   pub nobody : (inputs : Inputs) → inputs_of files names.inputs ≡ Ok inputs → start_set inputs.scenario ≡ [] → IsFalse (is_in (START_UNFIT ∷ START_OPEN ∷ []) status)
   -- At status 4 a store failed, or the three texts are stored and the summary was written, or some of it from the first byte on.
   -- It never comes over a steady folder and a sink that surely takes the summary, whatever is undecided. Where memory runs out at

@@ -57,10 +57,10 @@ answer_of StartRefuted = Unfit
 answer_of StartUndecided = Open
 
 -- how an auction ends that says so
-abbrev pub ending_of : TopAnswer → Ending
-ending_of Fits = Done
-ending_of Unfit = StartRefuted
-ending_of Open = StartUndecided
+abbrev pub ending_by : TopAnswer → Ending
+ending_by Fits = Done
+ending_by Unfit = StartRefuted
+ending_by Open = StartUndecided
 
 -- the record is of the auction up to a top channel from 14 to 51
 pub record IsTopRecord (base : SeekBase) (x : TopRecord) : Type 0 where
@@ -82,34 +82,34 @@ pub record AreTopRecords (base : SeekBase) (xs : List TopRecord) : Type 0 where
   pub each : All (IsTopRecord base) xs
 
 -- the two answers are one
-abbrev pub is_same : TopAnswer → TopAnswer → Bool
-is_same Fits Fits = true
-is_same Fits Unfit = false
-is_same Fits Open = false
-is_same Unfit Fits = false
-is_same Unfit Unfit = true
-is_same Unfit Open = false
-is_same Open Fits = false
-is_same Open Unfit = false
-is_same Open Open = true
+abbrev pub same_answer : TopAnswer → TopAnswer → Bool
+same_answer Fits Fits = true
+same_answer Fits Unfit = false
+same_answer Fits Open = false
+same_answer Unfit Fits = false
+same_answer Unfit Unfit = true
+same_answer Unfit Open = false
+same_answer Open Fits = false
+same_answer Open Unfit = false
+same_answer Open Open = true
 
 -- the record is of this top channel and answers so
 abbrev pub is_told : ℕ → TopAnswer → TopRecord → Bool
-is_told top answer x = (x.top == top) && is_same (answer_of x.rec.ending) answer
+is_told top answer x = (x.top == top) && same_answer (answer_of x.rec.ending) answer
 
 -- Of what is left of some records, after others were looked at: a record of this top was picked that answers so; or what is left
 -- has one exactly where all of them have one.
 abbrev pub Picks : SeekBase → List TopRecord → List TopRecord → ℕ → TopAnswer → Option Record → Type 0
 Picks base all left top answer picked =
     MatchOption picked (list_any (is_told top answer) left ≡ list_any (is_told top answer) all)
-    (λ rec. IsRecordBy (inputs_at base top) rec (ending_of answer))
+    (λ rec. IsRecordBy (inputs_at base top) rec (ending_by answer))
 
 -- ---- what is found
 
 -- the record of the auction up to one channel less: refuted, where the top is above 14, or of an open start test
-abbrev pub IsBelow : SeekBase → ℕ → Bool → Option Record → Type 0
-IsBelow base top false below = MatchOption below (top ≡ 14) (λ rec. (14 < top) × IsRefutedRecordOf (inputs_at base (top - 1)) rec)
-IsBelow base top true below = MatchOption below ⊥ (λ rec. (14 < top) × IsOpenRecordOf (inputs_at base (top - 1)) rec)
+abbrev pub IsOneBelow : SeekBase → ℕ → Bool → Option Record → Type 0
+IsOneBelow base top false below = MatchOption below (top ≡ 14) (λ rec. (14 < top) × IsRefutedRecordOf (inputs_at base (top - 1)) rec)
+IsOneBelow base top true below = MatchOption below ⊥ (λ rec. (14 < top) × IsOpenRecordOf (inputs_at base (top - 1)) rec)
 
 -- The start set fits up to this top channel. Up to one channel less it doesn't, and then up to none from 14 on that is less; or
 -- whether it does was left open.
@@ -117,7 +117,7 @@ pub record IsLeastTop (base : SeekBase) (x : LeastTop) : Type 0 where
   pub least : 14 ≤ x.top
   pub most : x.top ≤ base.scenario.top
   pub auction : IsRecordOf (inputs_at base x.top) x.rec
-  pub lower : IsBelow base x.top x.is_open x.below
+  pub lower : IsOneBelow base x.top x.is_open x.below
   pub none_less : IsFalse x.is_open → (less : ℕ) → 14 ≤ less → less < x.top → IsFalse (fits_at base less)
 
 -- The start set doesn't fit up to the scenario's own top channel; whether it does was left open; or a least one was found.

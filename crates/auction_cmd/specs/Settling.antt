@@ -44,5 +44,5 @@ log_why (Unread why) = unlogged_text why
 log_why NoRefutation = codes ": not a refutation\n"
 log_why NoRoom = codes ": out of memory\n"
 
-abbrev pub log_line : List ℕ → SettleErr → List ℕ
-log_line name fault = name ++ log_why fault
+abbrev pub unsettled_line : List ℕ → SettleErr → List ℕ
+unsettled_line name fault = name ++ log_why fault

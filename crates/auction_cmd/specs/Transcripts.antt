@@ -21,7 +21,7 @@ use Rattle.auction_cmd.specs.declared.shown.Denied.TheVariants.{Fault, NoMemory}
 use Rattle.auction_cmd.specs.Inputs.{file_limit}
 use Rattle.auction_cmd.specs.Records.{IsRecordIn}
 use Rattle.auction_cmd.specs.Says.{Says, long_line, memory_line, unread_line}
-use Rattle.auction_cmd.specs.Settling.{log_line}
+use Rattle.auction_cmd.specs.Settling.{unsettled_line}
 use Rattle.auction_cmd.specs.Statuses.{UNREAD, REFUSED, NO_MEMORY, NOT_SHOWN, NOT_SETTLED}
 use Rattle.auction_cmd.specs.Verified.{fault_line}
 
@@ -81,9 +81,9 @@ IsVerdict inputs wanted (Err NoMemory) = ⊤
 -- the status and the line of a log that settled nothing
 abbrev pub ExplainsLog : List ℕ → SettleErr → Option (List ℕ) → Option (List ℕ) → ℕ → ℕ → ℕ → Type 0
 ExplainsLog name (settle.Unread why) held held' cuts cuts' status =
-    (status ≡ NOT_SETTLED) × Says held held' cuts cuts' (log_line name (settle.Unread why))
+    (status ≡ NOT_SETTLED) × Says held held' cuts cuts' (unsettled_line name (settle.Unread why))
 ExplainsLog name settle.NoRefutation held held' cuts cuts' status =
-    (status ≡ NOT_SETTLED) × Says held held' cuts cuts' (log_line name settle.NoRefutation)
+    (status ≡ NOT_SETTLED) × Says held held' cuts cuts' (unsettled_line name settle.NoRefutation)
 ExplainsLog name settle.NoMemory held held' cuts cuts' status = (status ≡ NO_MEMORY) × Says held held' cuts cuts' memory_line
 
 -- The answer is what the definitions make of the log: the record with the step settled, which is one of the auction of the

@@ -16,11 +16,11 @@ use Rattle.auction_cmd.specs.declared.inputs.Inputs.{Inputs}
 use Rattle.auction_cmd.specs.declared.inputs.Stop.TheVariants.{CannotRead, Refused}
 use Rattle.auction_cmd.specs.declared.refusal.Input.{Input}
 use Rattle.auction_cmd.specs.declared.refusal.Refusal.{Refusal}
-use Rattle.auction_cmd.specs.Ends.{AreHeld}
+use Rattle.auction_cmd.specs.Ends.{AreInputsOf}
 use Rattle.auction_cmd.specs.Inputs.{file_limit, inputs_of}
 use Rattle.auction_cmd.specs.Outside.{Outside, IsSaid}
 use Rattle.auction_cmd.specs.Records.{IsRecordIn, done_status, outcome, result_of}
-use Rattle.auction_cmd.specs.Refusals.{line_of, name_of}
+use Rattle.auction_cmd.specs.Refusals.{refusal_line, name_of}
 use Rattle.auction_cmd.specs.Says.{long_line, unread_line}
 use Rattle.auction_cmd.specs.Statuses.{DONE, LEFT_OPEN, UNREAD, UNWRITTEN, REFUSED, NO_MEMORY, NOT_SHOWN}
 use Rattle.auction_cmd.specs.Verified.{fault_line, verified}
@@ -74,7 +74,7 @@ pub record VerifyPromises (names : VerifyNames) (before after : Outside) (status
       (v : IsVerified files names found) × HasRisen before.cuts after.cuts × (before.sure < length (verified_text v))
       × IsSaid before after (verified_text v)
   pub recorded : IsTrue (is_in (DONE ∷ LEFT_OPEN ∷ UNWRITTEN ∷ []) status) →
-      (inputs : Inputs) × (rec : Record) × AreHeld names.inputs before inputs × (found ≡ Some rec) × IsRecordIn rec.order inputs rec
+      (inputs : Inputs) × (rec : Record) × AreInputsOf names.inputs before inputs × (found ≡ Some rec) × IsRecordIn rec.order inputs rec
   pub unrecorded : IsTrue (is_in (UNREAD ∷ REFUSED ∷ NO_MEMORY ∷ NOT_SHOWN ∷ []) status) → found ≡ None
   -- Where every test was decided and the values stand for the owners, each station that is bought is paid the greatest
   -- admissible value with which it would have been bought, by the rule in the transcript's order.
@@ -84,7 +84,7 @@ pub record VerifyPromises (names : VerifyNames) (before after : Outside) (status
   -- Also where the folder tells nothing, the record is one of the auction of some inputs, carried through, and its result was
   -- printed.
   pub printed : IsTrue (is_in (DONE ∷ LEFT_OPEN ∷ []) status) →
-      (inputs : Inputs) × (rec : Record) × AreHeld names.inputs before inputs × (found ≡ Some rec) × IsRecordIn rec.order inputs rec
+      (inputs : Inputs) × (rec : Record) × AreInputsOf names.inputs before inputs × (found ≡ Some rec) × IsRecordIn rec.order inputs rec
       × (status ≡ done_status (undecided_of rec.steps))
       × Writes before.held after.held (result_of rec.order inputs (undecided_of rec.steps)) (Ok tt)
   -- Status 9 comes exactly where the text of the transcript is refused, or a step of it is the first that isn't shown, and the
@@ -105,7 +105,7 @@ pub record VerifyPromises (names : VerifyNames) (before after : Outside) (status
       IsOr (done_status (undecided_of rec.steps)) before status ⊎ (status ≡ UNWRITTEN)
   -- Status 5 comes exactly where an input is too long or refused, or the transcript is too long.
   pub halted : (files : List StoredFile) → before.files ≡ Some files → status ≡ REFUSED →
-      ((why : Refusal) × (inputs_of files names.inputs ≡ Err (Refused why)) × IsSaid before after (line_of names.inputs why))
+      ((why : Refusal) × (inputs_of files names.inputs ≡ Err (Refused why)) × IsSaid before after (refusal_line names.inputs why))
       ⊎ ((inputs : Inputs) × (inputs_of files names.inputs ≡ Ok inputs) × (bytes : List ℕ) × (bytes_of files names.transcript ≡ Some bytes)
       × (file_limit < length bytes) × IsSaid before after (long_line names.transcript))
   pub refuses_input : (files : List StoredFile) (why : Refusal) →

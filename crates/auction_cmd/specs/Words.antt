@@ -207,35 +207,35 @@ program_app = with_subcommand (with_subcommand (with_subcommand batching_app mak
 -- ---- what was read
 
 -- what is made of the first value of this argument, where it has one
-abbrev pub with_value : {X : Type 0} → List Row → Text → (Text → Option X) → Option X
-with_value rows id build = option_and_then build (first_of id rows)
+abbrev pub given_value : {X : Type 0} → List Row → Text → (Text → Option X) → Option X
+given_value rows id build = option_and_then build (first_of id rows)
 
 -- the names of the input files, where each is there; none names an owners' file
 abbrev pub input_names : List Row → Option InputNames
 input_names rows =
-    with_value rows (codes "DOMAINS") (λ domains.
-    with_value rows (codes "ROWS") (λ pairs.
-    with_value rows (codes "SCENARIO") (λ scenario.
+    given_value rows (codes "DOMAINS") (λ domains.
+    given_value rows (codes "ROWS") (λ pairs.
+    given_value rows (codes "SCENARIO") (λ scenario.
     Some (record { domains = domains; rows = pairs; scenario = scenario; owners = None }))))
 
 -- the names of the input files of a live auction, where each is there
 abbrev pub live_names : List Row → Option InputNames
 live_names rows =
     option_and_then (λ inputs.
-    with_value rows (codes "OWNERS") (λ owners. Some (record inputs { owners = Some owners })))
+    given_value rows (codes "OWNERS") (λ owners. Some (record inputs { owners = Some owners })))
     (input_names rows)
 
 -- the names of these input files and of the files that a run stores, where each is there
 abbrev pub run_names : List Row → InputNames → Option RunNames
 run_names rows inputs =
-    with_value rows (codes "RESULT") (λ result.
-    with_value rows (codes "CHANNELS") (λ channels.
-    with_value rows (codes "TRANSCRIPT") (λ transcript.
+    given_value rows (codes "RESULT") (λ result.
+    given_value rows (codes "CHANNELS") (λ channels.
+    given_value rows (codes "TRANSCRIPT") (λ transcript.
     Some (record { inputs = inputs; result = result; channels = channels; transcript = transcript }))))
 
 -- the names of these input files and of a transcript, where it is there
 abbrev pub shown_by_names : List Row → InputNames → Option VerifyNames
-shown_by_names rows inputs = with_value rows (codes "TRANSCRIPT") (λ transcript. Some (record { inputs = inputs; transcript = transcript }))
+shown_by_names rows inputs = given_value rows (codes "TRANSCRIPT") (λ transcript. Some (record { inputs = inputs; transcript = transcript }))
 
 -- the names of the files of `verify`, where each is there
 abbrev pub verify_names : List Row → Option VerifyNames
@@ -245,23 +245,23 @@ verify_names rows = option_and_then (shown_by_names rows) (input_names rows)
 abbrev pub resume_names : List Row → Option ResumeNames
 resume_names rows =
     option_and_then (λ run_files.
-    with_value rows (codes "PREFIX") (λ prefix. Some (record { run_files = run_files; prefix = prefix })))
+    given_value rows (codes "PREFIX") (λ prefix. Some (record { run_files = run_files; prefix = prefix })))
     (option_and_then (run_names rows) (input_names rows))
 
 -- the names of the files of `seek`, where each is there
 abbrev pub seek_names : List Row → Option SeekNames
 seek_names rows =
     option_and_then (λ (inputs : InputNames).
-    with_value rows (codes "CHANNELS") (λ channels.
+    given_value rows (codes "CHANNELS") (λ channels.
     Some (record { domains = inputs.domains; rows = inputs.rows; scenario = inputs.scenario; channels = channels })))
     (input_names rows)
 
 -- the names of the files of `batch`, where each is there
 abbrev pub batch_names : List Row → Option BatchNames
 batch_names rows =
-    with_value rows (codes "DOMAINS") (λ domains.
-    with_value rows (codes "ROWS") (λ pairs.
-    with_value rows (codes "LIST") (λ list.
+    given_value rows (codes "DOMAINS") (λ domains.
+    given_value rows (codes "ROWS") (λ pairs.
+    given_value rows (codes "LIST") (λ list.
     Some (record { domains = domains; rows = pairs; list = list }))))
 
 -- The number that the text is, where it is one from the least to the most: decimal digits, behind a plus or behind none.
@@ -276,19 +276,19 @@ make_names rows =
     option_and_then (λ size.
     option_and_then (λ outputs. Some (record { seed = seed; size = size; outputs = outputs }))
     (input_names rows))
-    (with_value rows (codes "SIZE") (number_within 1 size_limit)))
-    (with_value rows (codes "SEED") (number_within 0 seed_limit))
+    (given_value rows (codes "SIZE") (number_within 1 size_limit)))
+    (given_value rows (codes "SEED") (number_within 0 seed_limit))
 
 -- the step of `export` and `import`, where it is there and in its bounds
 abbrev pub step_named : List Row → Option ℕ
-step_named rows = with_value rows (codes "STEP") (number_within 1 step_limit)
+step_named rows = given_value rows (codes "STEP") (number_within 1 step_limit)
 
 -- the names of the files of `export` and its step, where each is there
 abbrev pub export_names : List Row → Option ExportNames
 export_names rows =
     option_and_then (λ shown.
     option_and_then (λ step.
-    with_value rows (codes "CNF") (λ formula. Some (record { shown = shown; step = step; formula = formula })))
+    given_value rows (codes "CNF") (λ formula. Some (record { shown = shown; step = step; formula = formula })))
     (step_named rows))
     (verify_names rows)
 
@@ -297,9 +297,9 @@ abbrev pub import_names : List Row → Option ImportNames
 import_names rows =
     option_and_then (λ shown.
     option_and_then (λ step.
-    with_value rows (codes "LRAT") (λ proof.
-    with_value rows (codes "RESULT") (λ result.
-    with_value rows (codes "NEWTRANSCRIPT") (λ transcript.
+    given_value rows (codes "LRAT") (λ proof.
+    given_value rows (codes "RESULT") (λ result.
+    given_value rows (codes "NEWTRANSCRIPT") (λ transcript.
     Some (record { shown = shown; step = step; proof = proof; result = result; transcript = transcript })))))
     (step_named rows))
     (verify_names rows)
@@ -333,8 +333,8 @@ owners_given None = []
 owners_given (Some owners) = owners ∷ []
 
 -- the names of the files of `run` or `live`: those that are stored, and those that are read
-abbrev pub names_given : RunNames → List (List ℕ)
-names_given names = names.result ∷ names.channels ∷ names.transcript
+abbrev pub run_names_given : RunNames → List (List ℕ)
+run_names_given names = names.result ∷ names.channels ∷ names.transcript
     ∷ names.inputs.domains ∷ names.inputs.rows ∷ names.inputs.scenario ∷ owners_given names.inputs.owners
 
 -- those that are stored, in the order of the arguments
@@ -343,7 +343,7 @@ output_names names = names.result ∷ names.channels ∷ names.transcript ∷ []
 
 -- the name is given more than once
 abbrev pub is_repeated_in : List ℕ → RunNames → Bool
-is_repeated_in name names = nat_lt 1 (count_by (bytes_eq name) (names_given names))
+is_repeated_in name names = nat_lt 1 (count_by (bytes_eq name) (run_names_given names))
 
 -- the first output name that is given more than once
 unfoldable pub repeated_output : RunNames → Option (List ℕ)

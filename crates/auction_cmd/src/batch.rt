@@ -6,7 +6,7 @@ ghost use Rattle.auction_core.specs.Setup.{IsOfAuction};
 ghost use Rattle.auction_cmd.specs.Batch.{batch_status, ends_at_start, own_status, own_texts, status_lines, texts_under};
 ghost use Rattle.auction_cmd.specs.BatchEnds.{AreRecordsOf, BatchEnds};
 ghost use Rattle.auction_cmd.specs.Delivery.{Delivers};
-ghost use Rattle.auction_cmd.specs.Faults.{IsCounted};
+ghost use Rattle.auction_cmd.specs.Faults.{AreFaultsCounted};
 ghost use Rattle.auction_cmd.specs.Outside.{outside};
 ghost use Rattle.auction_cmd.specs.Statuses.{LEFT_OPEN};
 ghost use Rattle.auction_cmd.specs.Words.{batch_seen};
@@ -152,7 +152,7 @@ fn deliver<F: Folder, K: Sink>(
         (outside (F.files folder.old) (F.faults folder.old) (F.steady folder.old) (K.held out.old) (K.faults out.old) (K.sure out.old))
         (outside (F.files folder.new) (F.faults folder.new) (F.steady folder.new) (K.held out.new) (K.faults out.new) (K.sure out.new))
         result }
-    ensures counted { IsCounted
+    ensures counted { AreFaultsCounted
         (outside (F.files folder.old) (F.faults folder.old) (F.steady folder.old) (K.held out.old) (K.faults out.old) (K.sure out.old))
         (outside (F.files folder.new) (F.faults folder.new) (F.steady folder.new) (K.held out.new) (K.faults out.new) (K.sure out.new))
         result }
@@ -226,7 +226,7 @@ pub fn batch<F: Folder, K: Sink, G: Gate + Sync, W: Threads + Wait + Sync>(
         result.status result.batch }
     ensures none { result.result ≡ None }
     ensures no_other { result.below ≡ None }
-    ensures counted { IsCounted
+    ensures counted { AreFaultsCounted
         (outside (F.files folder.old) (F.faults folder.old) (F.steady folder.old) (K.held out.old) (K.faults out.old) (K.sure out.old))
         (outside (F.files folder.new) (F.faults folder.new) (F.steady folder.new) (K.held out.new) (K.faults out.new) (K.sure out.new))
         result.status }

@@ -5,9 +5,9 @@ ghost use Rattle.outside_io.specs.Files.{StoredFile};
 ghost use Rattle.pack_defs.specs.Book.{stations_of};
 ghost use Rattle.pack_defs.specs.Scenario.{IsWithinLimits, facilities};
 ghost use Rattle.auction_core.specs.Setup.{IsOfAuction};
-ghost use Rattle.auction_cmd.specs.Batch.{constraints_of, each_inputs, inputs_beside, listed_in, listed_of, listed_seen};
-ghost use Rattle.auction_cmd.specs.BatchEnds.{IsStopped, IsUnderOneOf};
-ghost use Rattle.auction_cmd.specs.Ends.{Explains};
+ghost use Rattle.auction_cmd.specs.Batch.{constraints_of, each_inputs, inputs_beside, list_named, listing_of, listed_seen};
+ghost use Rattle.auction_cmd.specs.BatchEnds.{IsReadingStopped, IsUnderOneOf};
+ghost use Rattle.auction_cmd.specs.Ends.{ExplainsHalt};
 ghost use Rattle.auction_cmd.specs.Inputs.{Agrees, CountsFault};
 ghost use Rattle.auction_cmd.specs.Outside.{outside};
 ghost use Rattle.auction_cmd.specs.Words.{batch_seen, inputs_seen};
@@ -63,7 +63,7 @@ fn read_constraints<F: Folder>(
 // The lines of the list of this name.
 fn list_from<F: Folder>(alloc: Global, folder: &mut F, name: &str) -> Result<Vec<BatchLine>, Stop>
     ensures told { (files : List StoredFile) → F.files folder.old ≡ Some files →
-        Agrees (λ v. v.items) (F.steady folder.old) (listed_in files name.now) result }
+        Agrees (λ v. v.items) (F.steady folder.old) (list_named files name.now) result }
     ensures few { IfOk result (λ v. length v.items ≤ 256) }
     ensures files { F.files folder.new ≡ F.files folder.old }
     ensures steady { F.steady folder.new ≡ F.steady folder.old }
@@ -79,14 +79,14 @@ fn list_from<F: Folder>(alloc: Global, folder: &mut F, name: &str) -> Result<Vec
 }
 
 /// What the constraint files and the list hold, read in this order. The list's name stands in the place of a scenario's.
-#[tactic(auto, unfolding(crate::specs::Batch::listed_of))]
+#[tactic(auto, unfolding(crate::specs::Batch::listing_of))]
 pub fn read_listed<F: Folder>(
     alloc: Global,
     folder: &mut F,
     names: &InputArgs<'_>,
 ) -> Result<Listed, Stop>
     ensures told { (files : List StoredFile) → F.files folder.old ≡ Some files →
-        Agrees listed_seen (F.steady folder.old) (listed_of files (inputs_seen names.now)) result }
+        Agrees listed_seen (F.steady folder.old) (listing_of files (inputs_seen names.now)) result }
     ensures few { IfOk result (λ l. length l.lines.items ≤ 256) }
     ensures files { F.files folder.new ≡ F.files folder.old }
     ensures steady { F.steady folder.new ≡ F.steady folder.old }
@@ -134,7 +134,7 @@ fn explain_beside<'p, K: Sink>(
     scenario: &'p str,
     stop: Stop,
 ) -> u8
-    ensures explains { Explains (record { domains = domains.now; rows = rows.now; scenario = scenario.now; owners = None }) stop (K.held out.old) (K.held out.new) (K.faults out.old) (K.faults out.new) result }
+    ensures explains { ExplainsHalt (record { domains = domains.now; rows = rows.now; scenario = scenario.now; owners = None }) stop (K.held out.old) (K.held out.new) (K.faults out.old) (K.faults out.new) result }
     ensures counted { K.faults out.old ≤ K.faults out.new }
 {
     let names = InputArgs {
@@ -169,7 +169,7 @@ pub fn read_each<F: Folder, K: Sink>(
     ensures auctions { IfOk result (λ b. All (λ i. IsOfAuction i.scenario i.book) b.inputs.items) }
     ensures same { OnOk result (outside (F.files folder.new) (F.faults folder.new) (F.steady folder.new) (K.held out.new) (K.faults out.new) (K.sure out.new)
         ≡ outside (F.files folder.old) (F.faults folder.old) (F.steady folder.old) (K.held out.old) (K.faults out.old) (K.sure out.old)) }
-    ensures stopped { IfErr result (IsStopped (λ held. each_inputs held (batch_seen files.now) listed.constraints listed.lines.items) (IsUnderOneOf (batch_seen files.now) listed.lines.items)
+    ensures stopped { IfErr result (IsReadingStopped (λ held. each_inputs held (batch_seen files.now) listed.constraints listed.lines.items) (IsUnderOneOf (batch_seen files.now) listed.lines.items)
         (outside (F.files folder.old) (F.faults folder.old) (F.steady folder.old) (K.held out.old) (K.faults out.old) (K.sure out.old))
         (outside (F.files folder.new) (F.faults folder.new) (F.steady folder.new) (K.held out.new) (K.faults out.new) (K.sure out.new))) }
 {

@@ -3,7 +3,7 @@
 ghost use Rattle.std.specs.Prelude.{◌≡◌, [], IfOk, None};
 ghost use Rattle.auction_cmd.specs.Counts.{counts_text};
 ghost use Rattle.auction_cmd.specs.Ends.{CheckEnds};
-ghost use Rattle.auction_cmd.specs.Faults.{IsCounted};
+ghost use Rattle.auction_cmd.specs.Faults.{AreFaultsCounted};
 ghost use Rattle.auction_cmd.specs.Outside.{outside};
 ghost use Rattle.auction_cmd.specs.Words.{inputs_seen};
 
@@ -44,7 +44,7 @@ pub fn check<F: Folder, K: Sink>(
         result.status result.result }
     ensures no_other { result.below ≡ None }
     ensures no_batch { result.batch ≡ [] }
-    ensures counted { IsCounted
+    ensures counted { AreFaultsCounted
         (outside (F.files folder.old) (F.faults folder.old) (F.steady folder.old) (K.held out.old) (K.faults out.old) (K.sure out.old))
         (outside (F.files folder.new) (F.faults folder.new) (F.steady folder.new) (K.held out.new) (K.faults out.new) (K.sure out.new))
         result.status }

@@ -1,7 +1,7 @@
 //! The lines of a reading that stopped, and of want of memory.
 
 ghost use Rattle.std.specs.Prelude.{◌≡◌, ◌≤◌, [], None};
-ghost use Rattle.auction_cmd.specs.Ends.{Explains};
+ghost use Rattle.auction_cmd.specs.Ends.{ExplainsHalt};
 ghost use Rattle.auction_cmd.specs.Says.{Says, memory_line};
 ghost use Rattle.auction_cmd.specs.Statuses.{NO_MEMORY};
 ghost use Rattle.auction_cmd.specs.Words.{inputs_seen};
@@ -16,7 +16,7 @@ use outside_io::sink::Sink;
 
 /// Says why these inputs were not read, and gives the status for it. It takes no memory.
 pub fn explain<K: Sink>(out: &mut K, files: &InputArgs<'_>, stop: Stop) -> u8
-    ensures explains { Explains (inputs_seen files.now) stop (K.held out.old) (K.held out.new) (K.faults out.old) (K.faults out.new) result }
+    ensures explains { ExplainsHalt (inputs_seen files.now) stop (K.held out.old) (K.held out.new) (K.faults out.old) (K.faults out.new) result }
     ensures counted { K.faults out.old ≤ K.faults out.new }
 {
     match stop {

@@ -9,7 +9,7 @@ ghost use Rattle.auction_core.specs.Setup.{IsOfAuction};
 ghost use Rattle.scenario_make.specs.Accepted.{AreAccepted};
 ghost use Rattle.auction_cmd.specs.Delivery.{AreAllStored, StopsAtOne};
 ghost use Rattle.auction_cmd.specs.Ends.{MakeEnds};
-ghost use Rattle.auction_cmd.specs.Faults.{IsCounted};
+ghost use Rattle.auction_cmd.specs.Faults.{AreFaultsCounted};
 ghost use Rattle.auction_cmd.specs.Made.{HasRun, inputs_in, texts_under};
 ghost use Rattle.auction_cmd.specs.Outside.{outside};
 ghost use Rattle.auction_cmd.specs.Records.{IsRecordOf, summary_of};
@@ -125,7 +125,7 @@ fn store_files<F: Folder, K: Sink>(
         (outside (F.files folder.new) (F.faults folder.new) (F.steady folder.new) (K.held out.new) (K.faults out.new) (K.sure out.new))) }
     ensures uncounted { OnOk result (F.faults folder.new ≡ F.faults folder.old) }
     ensures unsaid { OnOk result (K.faults out.new ≡ K.faults out.old) }
-    ensures counted { IfErr result (IsCounted
+    ensures counted { IfErr result (AreFaultsCounted
         (outside (F.files folder.old) (F.faults folder.old) (F.steady folder.old) (K.held out.old) (K.faults out.old) (K.sure out.old))
         (outside (F.files folder.new) (F.faults folder.new) (F.steady folder.new) (K.held out.new) (K.faults out.new) (K.sure out.new))) }
     ensures stopped { IfErr result (StopsAtOne (texts_under (inputs_seen names.now) made.now.domains.items made.now.rows.items made.now.scenario.items)
@@ -163,7 +163,7 @@ pub fn make<F: Folder, K: Sink, G: Gate + Sync, W: Threads + Wait + Sync>(
         result.status result.result }
     ensures no_other { result.below ≡ None }
     ensures no_batch { result.batch ≡ [] }
-    ensures counted { IsCounted
+    ensures counted { AreFaultsCounted
         (outside (F.files folder.old) (F.faults folder.old) (F.steady folder.old) (K.held out.old) (K.faults out.old) (K.sure out.old))
         (outside (F.files folder.new) (F.faults folder.new) (F.steady folder.new) (K.held out.new) (K.faults out.new) (K.sure out.new))
         result.status }

@@ -1,7 +1,7 @@
 //! Why an input is refused, and the line that says so.
 
 ghost use Rattle.std.specs.Prelude.{◌≡◌, ◌≤◌, ◌++◌, codes, decimal};
-ghost use Rattle.auction_cmd.specs.Refusals.{input_of, line_of, owner_text, place_text, refusal_text, row_text, scenario_text};
+ghost use Rattle.auction_cmd.specs.Refusals.{input_of, refusal_line, owner_text, place_text, refusal_text, row_text, scenario_text};
 ghost use Rattle.auction_cmd.specs.Says.{Says};
 ghost use Rattle.auction_cmd.specs.Words.{inputs_seen};
 
@@ -198,7 +198,7 @@ fn say_refusal<K: Sink>(out: &mut K, file: &str, refusal: Refusal)
 /// Says which of these files is refused, and why. It takes no memory.
 pub fn say_refused<K: Sink>(out: &mut K, files: &InputArgs<'_>, refusal: Refusal)
     ensures says { Says (K.held out.old) (K.held out.new) (K.faults out.old) (K.faults out.new)
-        (line_of (inputs_seen files.now) refusal) }
+        (refusal_line (inputs_seen files.now) refusal) }
     ensures counted { K.faults out.old ≤ K.faults out.new }
 {
     say_refusal(out, files.of(refusal.input()), refusal);

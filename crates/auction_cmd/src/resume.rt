@@ -6,7 +6,7 @@
 ghost use Rattle.std.specs.Prelude.{◌≡◌, [], IfErr, IfOk, None, Ok, OnOk};
 ghost use Rattle.auction_core.specs.declared.prefix.Prefix.{Prefix};
 ghost use Rattle.auction_core.specs.Setup.{IsOfAuction};
-ghost use Rattle.auction_cmd.specs.Faults.{IsCounted};
+ghost use Rattle.auction_cmd.specs.Faults.{AreFaultsCounted};
 ghost use Rattle.auction_cmd.specs.Outside.{outside};
 ghost use Rattle.auction_cmd.specs.Records.{IsEndedRecordIn};
 ghost use Rattle.auction_cmd.specs.ResumeEnds.{IsResumable, ResumeEnds};
@@ -85,7 +85,7 @@ fn resumable<F: Folder, K: Sink>(
         finish.status finish.result) }
     ensures no_other { IfErr result (λ finish. finish.below ≡ None) }
     ensures no_batch { IfErr result (λ finish. finish.batch ≡ []) }
-    ensures counted { IfErr result (λ finish. IsCounted
+    ensures counted { IfErr result (λ finish. AreFaultsCounted
         (outside (F.files folder.old) (F.faults folder.old) (F.steady folder.old) (K.held out.old) (K.faults out.old) (K.sure out.old))
         (outside (F.files folder.new) (F.faults folder.new) (F.steady folder.new) (K.held out.new) (K.faults out.new) (K.sure out.new))
         finish.status) }
@@ -144,7 +144,7 @@ pub fn resume<F: Folder, K: Sink, G: Gate + Sync, W: Threads + Wait + Sync>(
         result.status result.result }
     ensures no_other { result.below ≡ None }
     ensures no_batch { result.batch ≡ [] }
-    ensures counted { IsCounted
+    ensures counted { AreFaultsCounted
         (outside (F.files folder.old) (F.faults folder.old) (F.steady folder.old) (K.held out.old) (K.faults out.old) (K.sure out.old))
         (outside (F.files folder.new) (F.faults folder.new) (F.steady folder.new) (K.held out.new) (K.faults out.new) (K.sure out.new))
         result.status }

@@ -9,7 +9,7 @@ ghost use Rattle.result_text.specs.ChannelsText.{channels_text};
 ghost use Rattle.transcript_text.specs.Spelling.{transcript_text};
 ghost use Rattle.auction_cmd.specs.Delivery.{Delivers, IsNotStored, IsStored, named};
 ghost use Rattle.auction_cmd.specs.Ends.{Concludes, IsStarved, RunEnds, output_texts};
-ghost use Rattle.auction_cmd.specs.Faults.{IsCounted};
+ghost use Rattle.auction_cmd.specs.Faults.{AreFaultsCounted};
 ghost use Rattle.auction_cmd.specs.Outside.{outside};
 ghost use Rattle.auction_cmd.specs.Records.{IsEndedRecordIn, IsRecordBy, IsRecordIn, done_status, result_of, run_order, summary_in};
 ghost use Rattle.auction_cmd.specs.Words.{names_seen};
@@ -115,7 +115,7 @@ pub fn store<F: Folder, K: Sink>(
         (outside (F.files folder.old) (F.faults folder.old) (F.steady folder.old) (K.held out.old) (K.faults out.old) (K.sure out.old))
         (outside (F.files folder.new) (F.faults folder.new) (F.steady folder.new) (K.held out.new) (K.faults out.new) (K.sure out.new))) }
     ensures uncounted { OnOk result (F.faults folder.new ≡ F.faults folder.old) }
-    ensures counted { IfErr result (IsCounted
+    ensures counted { IfErr result (AreFaultsCounted
         (outside (F.files folder.old) (F.faults folder.old) (F.steady folder.old) (K.held out.old) (K.faults out.old) (K.sure out.old))
         (outside (F.files folder.new) (F.faults folder.new) (F.steady folder.new) (K.held out.new) (K.faults out.new) (K.sure out.new))) }
     ensures not_stored { IfErr result (IsNotStored (named name.now text.now)
@@ -149,7 +149,7 @@ fn deliver<F: Folder, K: Sink>(
         (outside (F.files folder.old) (F.faults folder.old) (F.steady folder.old) (K.held out.old) (K.faults out.old) (K.sure out.old))
         (outside (F.files folder.new) (F.faults folder.new) (F.steady folder.new) (K.held out.new) (K.faults out.new) (K.sure out.new))
         result }
-    ensures counted { IsCounted
+    ensures counted { AreFaultsCounted
         (outside (F.files folder.old) (F.faults folder.old) (F.steady folder.old) (K.held out.old) (K.faults out.old) (K.sure out.old))
         (outside (F.files folder.new) (F.faults folder.new) (F.steady folder.new) (K.held out.new) (K.faults out.new) (K.sure out.new))
         result }
@@ -191,7 +191,7 @@ pub fn conclude<F: Folder, K: Sink>(
         result.status result.result }
     ensures no_other { result.below ≡ None }
     ensures no_batch { result.batch ≡ [] }
-    ensures counted { IsCounted
+    ensures counted { AreFaultsCounted
         (outside (F.files folder.old) (F.faults folder.old) (F.steady folder.old) (K.held out.old) (K.faults out.old) (K.sure out.old))
         (outside (F.files folder.new) (F.faults folder.new) (F.steady folder.new) (K.held out.new) (K.faults out.new) (K.sure out.new))
         result.status }
@@ -235,7 +235,7 @@ pub fn run<F: Folder, K: Sink, G: Gate + Sync, W: Threads + Wait + Sync>(
         result.status result.result }
     ensures no_other { result.below ≡ None }
     ensures no_batch { result.batch ≡ [] }
-    ensures counted { IsCounted
+    ensures counted { AreFaultsCounted
         (outside (F.files folder.old) (F.faults folder.old) (F.steady folder.old) (K.held out.old) (K.faults out.old) (K.sure out.old))
         (outside (F.files folder.new) (F.faults folder.new) (F.steady folder.new) (K.held out.new) (K.faults out.new) (K.sure out.new))
         result.status }

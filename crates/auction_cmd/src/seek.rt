@@ -5,7 +5,7 @@ ghost use Rattle.outside_io.specs.Files.{StoredFile};
 ghost use Rattle.result_text.specs.ChannelsText.{channels_text};
 ghost use Rattle.auction_cmd.specs.Delivery.{Delivers, named};
 ghost use Rattle.auction_cmd.specs.Ends.{SeekEnds};
-ghost use Rattle.auction_cmd.specs.Faults.{IsCounted};
+ghost use Rattle.auction_cmd.specs.Faults.{AreFaultsCounted};
 ghost use Rattle.auction_cmd.specs.Inputs.{Agrees, CountsFault, inputs_of};
 ghost use Rattle.auction_cmd.specs.Outside.{outside};
 ghost use Rattle.auction_cmd.specs.Seek.{IsSeekable, base_of, seekable_of, top_status, top_text};
@@ -103,7 +103,7 @@ fn deliver<F: Folder, K: Sink>(
         (outside (F.files folder.old) (F.faults folder.old) (F.steady folder.old) (K.held out.old) (K.faults out.old) (K.sure out.old))
         (outside (F.files folder.new) (F.faults folder.new) (F.steady folder.new) (K.held out.new) (K.faults out.new) (K.sure out.new))
         result }
-    ensures counted { IsCounted
+    ensures counted { AreFaultsCounted
         (outside (F.files folder.old) (F.faults folder.old) (F.steady folder.old) (K.held out.old) (K.faults out.old) (K.sure out.old))
         (outside (F.files folder.new) (F.faults folder.new) (F.steady folder.new) (K.held out.new) (K.faults out.new) (K.sure out.new))
         result }
@@ -133,7 +133,7 @@ pub fn seek<F: Folder, K: Sink, G: Gate + Sync, W: Threads + Wait + Sync>(
         (outside (F.files folder.new) (F.faults folder.new) (F.steady folder.new) (K.held out.new) (K.faults out.new) (K.sure out.new))
         result.status result.result result.below }
     ensures no_batch { result.batch ≡ [] }
-    ensures counted { IsCounted
+    ensures counted { AreFaultsCounted
         (outside (F.files folder.old) (F.faults folder.old) (F.steady folder.old) (K.held out.old) (K.faults out.old) (K.sure out.old))
         (outside (F.files folder.new) (F.faults folder.new) (F.steady folder.new) (K.held out.new) (K.faults out.new) (K.sure out.new))
         result.status }

@@ -2,7 +2,7 @@
 
 ghost use Rattle.std.specs.Prelude.{◌≡◌, ◌≤◌, ◌++◌, decimal, option_map};
 ghost use Rattle.auction_cmd.specs.Says.{Says};
-ghost use Rattle.auction_cmd.specs.Settling.{log_line, missing_fault, open_fault, step_line, step_why, unlogged_text};
+ghost use Rattle.auction_cmd.specs.Settling.{unsettled_line, missing_fault, open_fault, step_line, step_why, unlogged_text};
 ghost use Rattle.open_tests.specs.Queries.{step_at};
 
 use crate::says::{say, say_at};
@@ -89,7 +89,7 @@ fn say_unread<K: Sink>(out: &mut K, name: &str, why: LratErr)
 /// Says why the log of this name doesn't settle the step. It takes no memory.
 #[tactic(auto, unfolding(crate::specs::Settling::log_why))]
 pub fn say_log<K: Sink>(out: &mut K, name: &str, fault: SettleErr)
-    ensures says { Says (K.held out.old) (K.held out.new) (K.faults out.old) (K.faults out.new) (log_line name.now fault) }
+    ensures says { Says (K.held out.old) (K.held out.new) (K.faults out.old) (K.faults out.new) (unsettled_line name.now fault) }
     ensures counted { K.faults out.old ≤ K.faults out.new }
 {
     match fault {

@@ -6,7 +6,7 @@ ghost use Rattle.pack_defs.specs.Scenario.{IsWithinLimits};
 ghost use Rattle.auction_core.specs.Setup.{IsOfAuction};
 ghost use Rattle.transcript_text.specs.Pieces.{HasRead};
 ghost use Rattle.auction_cmd.specs.Ends.{IsShown, VerifyEnds};
-ghost use Rattle.auction_cmd.specs.Faults.{IsCounted};
+ghost use Rattle.auction_cmd.specs.Faults.{AreFaultsCounted};
 ghost use Rattle.auction_cmd.specs.Outside.{outside};
 ghost use Rattle.auction_cmd.specs.Transcripts.{ExplainsDenied, ExplainsLoad, IsFileRead, IsTextRead, IsVerdict, not_read};
 ghost use Rattle.auction_cmd.specs.Verified.{record_by, verified};
@@ -184,7 +184,7 @@ pub fn shown_by<F: Folder, K: Sink>(
     ensures none { IfErr result (λ finish. finish.result ≡ None) }
     ensures no_other { IfErr result (λ finish. finish.below ≡ None) }
     ensures no_batch { IfErr result (λ finish. finish.batch ≡ []) }
-    ensures counted { IfErr result (λ finish. IsCounted
+    ensures counted { IfErr result (λ finish. AreFaultsCounted
         (outside (F.files folder.old) (F.faults folder.old) (F.steady folder.old) (K.held out.old) (K.faults out.old) (K.sure out.old))
         (outside (F.files folder.new) (F.faults folder.new) (F.steady folder.new) (K.held out.new) (K.faults out.new) (K.sure out.new))
         finish.status) }

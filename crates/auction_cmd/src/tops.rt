@@ -6,7 +6,7 @@ ghost use Rattle.std.specs.List.{list_any};
 ghost use Rattle.auction_core.specs.Setup.{IsOfAuction};
 ghost use Rattle.target_seek.specs.Tops.{IsSought, IsTruth, SeekBase};
 ghost use Rattle.auction_cmd.specs.Records.{IsRecordBy};
-ghost use Rattle.auction_cmd.specs.Seek.{AreTopRecords, IsFoundTop, IsSeekable, IsTopRecord, Picks, answer_of, asked_of, base_of, ending_of, inputs_at, is_same, is_told};
+ghost use Rattle.auction_cmd.specs.Seek.{AreTopRecords, IsFoundTop, IsSeekable, IsTopRecord, Picks, answer_of, asked_of, base_of, ending_by, inputs_at, same_answer, is_told};
 
 use crate::inputs::Inputs;
 use crate::run::auction_of;
@@ -207,7 +207,7 @@ struct Told {
 
 // Whether the two answers are one.
 fn is_same(one: TopAnswer, other: TopAnswer) -> bool
-    ensures { result ≡ is_same one other }
+    ensures { result ≡ same_answer one other }
 {
     match one {
         TopAnswer::Fits => matches!(other, TopAnswer::Fits),
@@ -277,7 +277,7 @@ fn picked(records: TopRecords, first: Told, second: Told) -> TwoRecords
 fn the_one(records: TopRecords, top: u8, answer: TopAnswer) -> Record
     requires least { 14 ≤ top }
     requires told { list_any (is_told top answer) records.kept ≡ true }
-    ensures { IsRecordBy (inputs_at records.base top) result (ending_of answer) }
+    ensures { IsRecordBy (inputs_at records.base top) result (ending_by answer) }
 {
     let told = Told { top, answer };
     let other = Told { top: 0, answer };
@@ -295,8 +295,8 @@ fn both(records: TopRecords, top: u8, below: TopAnswer) -> LeastTop
     requires told_below { list_any (is_told (top - 1) below) records.kept ≡ true }
     ensures top { result.top ≡ top }
     ensures rec { IsRecordBy (inputs_at records.base top) result.rec Ending.Done }
-    ensures below { MatchOption result.below ⊥ (λ rec. IsRecordBy (inputs_at records.base (top - 1)) rec (ending_of below)) }
-    ensures is_open { result.is_open ≡ is_same below TopAnswer.Open }
+    ensures below { MatchOption result.below ⊥ (λ rec. IsRecordBy (inputs_at records.base (top - 1)) rec (ending_by below)) }
+    ensures is_open { result.is_open ≡ same_answer below TopAnswer.Open }
 {
     let at = Told {
         top,

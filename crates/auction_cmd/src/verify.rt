@@ -4,7 +4,7 @@ ghost use Rattle.std.specs.Prelude.{◌≡◌, [], IfOk, None};
 ghost use Rattle.pack_defs.specs.Scenario.{IsWithinLimits};
 ghost use Rattle.auction_core.specs.Backed.{undecided_of};
 ghost use Rattle.auction_cmd.specs.Ends.{VerifyEnds};
-ghost use Rattle.auction_cmd.specs.Faults.{IsCounted};
+ghost use Rattle.auction_cmd.specs.Faults.{AreFaultsCounted};
 ghost use Rattle.auction_cmd.specs.Outside.{outside};
 ghost use Rattle.auction_cmd.specs.Records.{IsRecordIn, result_of};
 ghost use Rattle.auction_cmd.specs.Words.{verify_seen};
@@ -46,7 +46,7 @@ pub fn verify<F: Folder, K: Sink>(
         result.status result.result }
     ensures no_other { result.below ≡ None }
     ensures no_batch { result.batch ≡ [] }
-    ensures counted { IsCounted
+    ensures counted { AreFaultsCounted
         (outside (F.files folder.old) (F.faults folder.old) (F.steady folder.old) (K.held out.old) (K.faults out.old) (K.sure out.old))
         (outside (F.files folder.new) (F.faults folder.new) (F.steady folder.new) (K.held out.new) (K.faults out.new) (K.sure out.new))
         result.status }

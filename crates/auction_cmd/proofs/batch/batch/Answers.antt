@@ -2,7 +2,7 @@
 use Rattle.std.proofs.Common.{◌≡◌, ◌∙◌, Some, refl, ap, subst, inl}
 use Rattle.std.specs.Prelude.{Err, None}
 use Rattle.batch_list.specs.Repeated.{repeated_result}
-use Rattle.auction_cmd.specs.Batch.{HeldBatch, Twice, Unread, batch_status, batch_texts, inputs_with, listed_of, listed_seen, status_lines, words_of}
+use Rattle.auction_cmd.specs.Batch.{HeldBatch, Twice, Unread, batch_status, batch_texts, inputs_with, listing_of, listed_seen, status_lines, names_in_words}
 use Rattle.auction_cmd.specs.BatchEnds.{AreRecordsOf}
 use Rattle.auction_cmd.specs.BatchEnds.BatchEnds.{BatchStopped, BatchRan}
 use Rattle.auction_cmd.specs.Delivery.{Delivers}
@@ -23,7 +23,7 @@ returns-in-Err-clause-ends g c =
       stop = Unread (inputs_with names names.list) stop;
       under = inl refl;
       told = λ files told. stops-listing files names (g.F.Folder.steady c.args.folder.now) stop
-          (subst (λ own. Agrees {A = Listed} listed_seen (g.F.Folder.steady c.args.folder.now) (listed_of files own) (Err stop)) c.inputs_with-names.ensures (c.in-Err.ensures.told files told));
+          (subst (λ own. Agrees {A = Listed} listed_seen (g.F.Folder.steady c.args.folder.now) (listing_of files own) (Err stop)) c.inputs_with-names.ensures (c.in-Err.ensures.told files told));
       counted = listing-counts (g.F.Folder.faults c.args.folder.now) (g.F.Folder.faults c.read_listed.new.folder) stop c.in-Err.ensures.counted;
       explains = rw c.inputs_with-names.ensures at c.explain.ensures.explains;
       files = c.in-Err.ensures.files;
@@ -34,7 +34,7 @@ returns-in-Some-clause-ends g c =
     let names = batch_seen c.args.files.now in
     let listed = listed_seen c.in-Ok.listed in
     let name = c.in-Some.name.now in
-    let twice : Some name ≡ repeated_result (words_of names) listed.lines = rw c.deref.ensures.value at c.in-Some.ensures in
+    let twice : Some name ≡ repeated_result (names_in_words names) listed.lines = rw c.deref.ensures.value at c.in-Some.ensures in
     rw c.without_record-in-Some.ensures.status
     (BatchStopped (record {
       stop = Twice name;
@@ -49,7 +49,7 @@ pub returns-in-Err-read_each-clause-ends : goal.returns-in-Err-read_each-clause-
 returns-in-Err-read_each-clause-ends g c =
     let names = batch_seen c.args.files.now in
     let listed = listed_seen c.in-Ok.listed in
-    let once : None ≡ repeated_result (words_of names) listed.lines = rw c.deref.ensures.value at c.in_default.ensures in
+    let once : None ≡ repeated_result (names_in_words names) listed.lines = rw c.deref.ensures.value at c.in_default.ensures in
     rw c.without_record-in-Err-read_each.ensures.status
     (BatchStopped
     (stopped-each names listed _ _ _ c.in-Err-read_each.status
@@ -68,7 +68,7 @@ returns-clause-ends g c =
     let held : HeldBatch = record { lines = listed.lines; inputs = inputs } in
     let after = outside (g.F.Folder.files c.deliver-status.new.folder) (g.F.Folder.faults c.deliver-status.new.folder) (g.F.Folder.steady c.deliver-status.new.folder)
     (g.K.Sink.held c.deliver-status.new.out) (g.K.Sink.faults c.deliver-status.new.out) (g.K.Sink.sure c.deliver-status.new.out) in
-    let once : None ≡ repeated_result (words_of names) listed.lines = rw c.deref.ensures.value at c.in_default.ensures in
+    let once : None ≡ repeated_result (names_in_words names) listed.lines = rw c.deref.ensures.value at c.in_default.ensures in
     let listed-lines : c.in-Ok-read_each.read.lines.items ≡ listed.lines = ap (λ v. v.items) c.in-Ok-read_each.ensures.lines in
     let auctions : AreRecordsOf held records = rw (c.deref-2.ensures.value, listed-lines) at c.in-Ok-carry_all_out.ensures.auctions in
     rw (c.with_batch.ensures.status, c.with_batch.ensures.kept)
