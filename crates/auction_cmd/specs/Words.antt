@@ -13,11 +13,11 @@ use Rattle.auction_cmd.specs.declared.proof_words.ExportArgs.{ExportArgs}
 use Rattle.auction_cmd.specs.declared.proof_words.ImportArgs.{ImportArgs}
 use Rattle.auction_cmd.specs.declared.resume_words.ResumeArgs.{ResumeArgs}
 use Rattle.auction_cmd.specs.declared.seek_words.SeekArgs.{SeekArgs}
-use Rattle.auction_cmd.specs.declared.words.InputArgs.{InputArgs}
-use Rattle.auction_cmd.specs.declared.words.RunArgs.{RunArgs}
-use Rattle.auction_cmd.specs.declared.words.VerifyArgs.{VerifyArgs}
-use Rattle.auction_cmd.specs.declared.words.Order.{Order}
-use Rattle.auction_cmd.specs.declared.words.Order.TheVariants.{Run, Check, Verify, Resume, Seek, Batch, Make, Export, Import}
+use Rattle.auction_cmd.specs.declared.run_words.InputArgs.{InputArgs}
+use Rattle.auction_cmd.specs.declared.run_words.RunArgs.{RunArgs}
+use Rattle.auction_cmd.specs.declared.run_words.VerifyArgs.{VerifyArgs}
+use Rattle.auction_cmd.specs.declared.words.CommandArgs.{CommandArgs}
+use Rattle.auction_cmd.specs.declared.words.CommandArgs.TheVariants.{Run, Check, Verify, Resume, Seek, Batch, Make, Export, Import}
 use Rattle.auction_cmd.specs.declared.words.WordsFault.{WordsFault}
 use Rattle.auction_cmd.specs.declared.words.WordsFault.TheVariants.{NoMemory, Refused}
 
@@ -456,16 +456,16 @@ seek_seen args = record {
 abbrev pub batch_seen : BatchArgs → BatchNames
 batch_seen args = record { domains = args.domains.now; rows = args.rows.now; list = args.list.now }
 
-abbrev pub order_seen : Order → Command
-order_seen (Run args) = run (names_seen args)
-order_seen (Check args) = check (inputs_seen args)
-order_seen (Verify args) = verify (verify_seen args)
-order_seen (Resume args) = resume (resume_seen args)
-order_seen (Seek args) = seek (seek_seen args)
-order_seen (Batch args) = batch (batch_seen args)
-order_seen (Make args) = make (make_seen args)
-order_seen (Export args) = export (export_seen args)
-order_seen (Import args) = import (import_seen args)
+abbrev pub command_seen : CommandArgs → Command
+command_seen (Run args) = run (names_seen args)
+command_seen (Check args) = check (inputs_seen args)
+command_seen (Verify args) = verify (verify_seen args)
+command_seen (Resume args) = resume (resume_seen args)
+command_seen (Seek args) = seek (seek_seen args)
+command_seen (Batch args) = batch (batch_seen args)
+command_seen (Make args) = make (make_seen args)
+command_seen (Export args) = export (export_seen args)
+command_seen (Import args) = import (import_seen args)
 
 -- the words have a fault
 abbrev pub IsRefused : WordsFault → Type 0

@@ -22,7 +22,7 @@ use crate::says::say;
 use crate::seek::seek;
 use crate::status::{NO_COMMAND, REFUSED};
 use crate::verify::verify;
-use crate::words::{Order, WordsFault, read_words};
+use crate::words::{CommandArgs, WordsFault, read_words};
 use outside_io::folder::Folder;
 use outside_io::sink::Sink;
 use solver_gate::gate::Gate;
@@ -61,30 +61,30 @@ fn carry_out<F: Folder, K: Sink, G: Gate + Sync, W: Threads + Wait + Sync>(
         result.status }
 {
     match read_words(alloc, words) {
-        Ok(Order::Run(files)) => match files.given_twice() {
+        Ok(CommandArgs::Run(files)) => match files.given_twice() {
             Some(name) => refuse_twice(out, name),
             None => run(rt, alloc, &files, folder, out, gate),
         },
-        Ok(Order::Check(files)) => check(alloc, &files, folder, out),
-        Ok(Order::Verify(files)) => verify(alloc, &files, folder, out),
-        Ok(Order::Resume(files)) => match files.given_twice() {
+        Ok(CommandArgs::Check(files)) => check(alloc, &files, folder, out),
+        Ok(CommandArgs::Verify(files)) => verify(alloc, &files, folder, out),
+        Ok(CommandArgs::Resume(files)) => match files.given_twice() {
             Some(name) => refuse_twice(out, name),
             None => resume(rt, alloc, &files, folder, out, gate),
         },
-        Ok(Order::Seek(files)) => match files.given_twice() {
+        Ok(CommandArgs::Seek(files)) => match files.given_twice() {
             Some(name) => refuse_twice(out, name),
             None => seek(rt, alloc, &files, folder, out, gate),
         },
-        Ok(Order::Batch(files)) => batch(rt, alloc, &files, folder, out, gate),
-        Ok(Order::Make(files)) => match files.given_twice() {
+        Ok(CommandArgs::Batch(files)) => batch(rt, alloc, &files, folder, out, gate),
+        Ok(CommandArgs::Make(files)) => match files.given_twice() {
             Some(name) => refuse_twice(out, name),
             None => make(rt, alloc, &files, folder, out, gate),
         },
-        Ok(Order::Export(files)) => match files.given_twice() {
+        Ok(CommandArgs::Export(files)) => match files.given_twice() {
             Some(name) => refuse_twice(out, name),
             None => export(alloc, &files, folder, out),
         },
-        Ok(Order::Import(files)) => match files.given_twice() {
+        Ok(CommandArgs::Import(files)) => match files.given_twice() {
             Some(name) => refuse_twice(out, name),
             None => import(alloc, &files, folder, out),
         },

@@ -17,7 +17,7 @@ use crate::constraints::{domains_from, pairs_from};
 use crate::explain::explain;
 use crate::inputs::{Inputs, Stop, load, scenario_from};
 use crate::refusal::{Input, Refusal};
-use crate::words::InputArgs;
+use crate::run_words::InputArgs;
 use batch_list::error::ListErr;
 use batch_list::line::BatchLine;
 use batch_list::read::read_list;

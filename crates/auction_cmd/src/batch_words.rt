@@ -6,7 +6,7 @@ ghost use Rattle.clap.specs.declared.builder.command.Command.TheViews.{out-Comma
 ghost use Rattle.auction_cmd.specs.Batch.{inputs_with};
 ghost use Rattle.auction_cmd.specs.Words.{batch_app, batch_names, batch_seen, inputs_seen};
 
-use crate::words::{InputArgs, constraint_command, required, value_of};
+use crate::run_words::{InputArgs, constraint_command, required, value_of};
 use clap::{ArgMatches, Command};
 use std::alloc::{AllocError, Global};
 

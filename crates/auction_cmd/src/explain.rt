@@ -9,9 +9,9 @@ ghost use Rattle.auction_cmd.specs.Words.{inputs_seen};
 use crate::finish::Finish;
 use crate::inputs::Stop;
 use crate::refusal::say_refused;
+use crate::run_words::InputArgs;
 use crate::says::say;
 use crate::status::{NO_MEMORY, REFUSED, UNREAD};
-use crate::words::InputArgs;
 use outside_io::sink::Sink;
 
 /// Says why these inputs were not read, and gives the status for it. It takes no memory.

@@ -10,8 +10,8 @@ ghost use Rattle.auction_cmd.specs.Inputs.{Agrees, CountsFault, and_then, file_o
 ghost use Rattle.auction_cmd.specs.Words.{inputs_seen};
 
 use crate::refusal::{Input, Refusal};
+use crate::run_words::InputArgs;
 use crate::sources::{book_of, read_sources};
-use crate::words::InputArgs;
 use offer_sched::offers::last_round;
 use outside_io::folder::{Folder, LoadErr};
 use owner_line::error::OwnerErr;

@@ -2,10 +2,11 @@
 //!
 //! It may call every crate below. `auction_cli`, which is the program, and the crates of trials call it; no other knows of it.
 //!
-//! Read `words` and `auction` first: which command the words are, and who carries it out. Then `run`, with `inputs`, `sources` and
-//! `constraints`, which read, and `conclude`, which stores and writes. The others are like it: `check`; `verify`, with `shown`;
-//! `resume`; `seek`, with `tops`; `batch`, with `batch_inputs` and `batch_run`; `make`; `export` and `import`, with `settling`. How a
-//! command ends is in `finish` and `status`, and what it says in `says`, `explain`, `refusal` and `fault`.
+//! Read `words`, with `run_words`, and `auction` first: which command the words are, and who carries it out. Then `run`, with
+//! `inputs`, `sources` and `constraints`, which read, and `conclude`, which stores and writes. The others are like it: `check`;
+//! `verify`, with `shown`; `resume`; `seek`, with `tops`; `batch`, with `batch_inputs` and `batch_run`; `make`; `export` and
+//! `import`, with `settling`. How a command ends is in `finish` and `status`, and what it says in `says`, `explain`, `refusal` and
+//! `fault`.
 #![tactic(auto)]
 
 pub mod auction;
@@ -28,6 +29,7 @@ pub mod refusal;
 mod resume;
 pub mod resume_words;
 mod run;
+pub mod run_words;
 mod says;
 mod seek;
 pub mod seek_words;

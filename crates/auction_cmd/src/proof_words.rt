@@ -6,7 +6,7 @@ ghost use Rattle.clap.specs.declared.builder.command.Command.TheViews.{out-Comma
 ghost use Rattle.auction_cmd.specs.Words.{export_app, export_names, export_seen, exported_names, import_app, import_names, import_seen, imported_names, is_repeated_among, repeated_export, repeated_import, step_app, step_named};
 
 use crate::make_words::{count_in, number};
-use crate::words::{VerifyArgs, required, shown_command, times_in, value_of, verify_args};
+use crate::run_words::{VerifyArgs, required, shown_command, times_in, value_of, verify_args};
 use clap::{ArgMatches, Command};
 use std::alloc::{AllocError, Global};
 

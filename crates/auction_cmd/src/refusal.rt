@@ -5,8 +5,8 @@ ghost use Rattle.auction_cmd.specs.Refusals.{input_of, refusal_line, owner_text,
 ghost use Rattle.auction_cmd.specs.Says.{Says};
 ghost use Rattle.auction_cmd.specs.Words.{inputs_seen};
 
+use crate::run_words::InputArgs;
 use crate::says::say;
-use crate::words::InputArgs;
 use constraint_files::error::RowWhy;
 use itoa::Buffer;
 use outside_io::sink::Sink;

@@ -10,7 +10,7 @@ ghost use Rattle.auction_cmd.specs.Words.{inputs_seen};
 use crate::constraints::{domains_from, pairs_from};
 use crate::inputs::{Stop, scenario_from};
 use crate::refusal::Refusal;
-use crate::words::InputArgs;
+use crate::run_words::InputArgs;
 use constraint_files::domains::Domains;
 use constraint_files::pairs::Pairs;
 use outside_io::folder::Folder;

@@ -1,0 +1,331 @@
+//! The words of `run`, `live`, `check`, `verify` and `verify-live`: the names of an auction's files, and the arguments that more
+//! commands take.
+
+ghost use Rattle.std.specs.Prelude.{◌≡◌, IfOk, codes, count_by, false, map, option_map};
+ghost use Rattle.std.specs.Str.{bytes_eq};
+ghost use Rattle.clap.specs.Words.{app_of, first_of, found_of, new_app, rows_of, rule_of};
+ghost use Rattle.clap.specs.declared.builder.command.Command.TheViews.{out-Command};
+ghost use Rattle.auction_cmd.specs.Refusals.{name_of};
+ghost use Rattle.auction_cmd.specs.Words.{check_app, constraint_ids, input_ids, input_names, inputs_seen, is_repeated_in, live_app, live_ids, live_names, names_seen, repeated_output, required_rule, run_app, run_names, shown_by_names, shown_ids, verify_app, verify_live_app, verify_names, verify_seen, with_required};
+
+use crate::refusal::Input;
+use clap::{Arg, ArgMatches, Command};
+use std::alloc::{AllocError, Global};
+
+/// The names of the input files, as they are given.
+#[derive(Clone, Copy, Debug, PartialEq, Eq)]
+pub struct InputArgs<'a> {
+    /// The domains file.
+    pub domains: &'a str,
+    /// The rows file.
+    pub rows: &'a str,
+    /// The scenario file.
+    pub scenario: &'a str,
+    /// The owners' file, where the auction is live.
+    pub owners: Option<&'a str>,
+}
+
+/// The names of the files of `run` or `live`, as they are given.
+#[derive(Clone, Copy, Debug, PartialEq, Eq)]
+pub struct RunArgs<'a> {
+    /// The input files.
+    pub inputs: InputArgs<'a>,
+    /// The file for the result.
+    pub result: &'a str,
+    /// The file for the channel map.
+    pub channels: &'a str,
+    /// The file for the transcript.
+    pub transcript: &'a str,
+}
+
+/// The names of the files of an auction that was carried out, as they are given.
+#[derive(Clone, Copy, Debug, PartialEq, Eq)]
+pub struct VerifyArgs<'a> {
+    /// The input files of the auction.
+    pub inputs: InputArgs<'a>,
+    /// The transcript file.
+    pub transcript: &'a str,
+}
+
+impl<'a> InputArgs<'a> {
+    /// The name of an input file. Where no owners' file is named it is the scenario's, which has what stands for it; and a batch's
+    /// list stands in the place of a scenario.
+    pub fn of(&self, input: Input) -> &'a str
+        ensures { result.now ≡ name_of (inputs_seen self.now) input }
+    {
+        match input {
+            Input::Domains => self.domains,
+            Input::Rows => self.rows,
+            Input::Scenario => self.scenario,
+            Input::Owners => self.owners.unwrap_or(self.scenario),
+            Input::List => self.scenario,
+        }
+    }
+}
+
+impl<'a> RunArgs<'a> {
+    /// The first output name, in the order of the arguments, that equals another name given. Names are compared byte by
+    /// byte, so `a` and `./a` differ. Two input names may be equal.
+    #[tactic(auto, unfolding(crate::specs::Words::repeated_output))]
+    pub fn given_twice(&self) -> Option<&'a str>
+        ensures { option_map (λ name. name.now) result ≡ repeated_output (names_seen self.now) }
+    {
+        if self.is_repeated(self.result) {
+            Some(self.result)
+        } else if self.is_repeated(self.channels) {
+            Some(self.channels)
+        } else if self.is_repeated(self.transcript) {
+            Some(self.transcript)
+        } else {
+            None
+        }
+    }
+
+    // Whether this name is given more than once.
+    fn is_repeated(&self, name: &str) -> bool
+        ensures { result ≡ is_repeated_in name.now (names_seen self.now) }
+    {
+        let InputArgs {
+            domains,
+            rows,
+            scenario,
+            owners,
+        } = self.inputs;
+        let (result, channels, transcript) = (self.result, self.channels, self.transcript);
+        let times = match owners {
+            Some(owners) => times_in(
+                &[
+                    result, channels, transcript, domains, rows, scenario, owners,
+                ],
+                name,
+            ),
+            None => times_in(
+                &[result, channels, transcript, domains, rows, scenario],
+                name,
+            ),
+        };
+        times > 1
+    }
+}
+
+// How often the name stands among these.
+pub(crate) fn times_in(names: &[&str], name: &str) -> usize
+    ensures { result ≡ count_by (bytes_eq name.now) (map (λ n. n.now) names.now) }
+{
+    names.iter().filter(|other| name == **other).count()
+}
+
+// An argument that has to be given, with its line of help.
+pub(crate) fn required<'a>(alloc: Global, name: &'a str, help: &'a str) -> Arg<'a>
+    ensures rule { rule_of result ≡ required_rule name.entry.now }
+    ensures local { result.global ≡ false }
+{
+    Arg::new(alloc, name).required(true).help(help)
+}
+
+// A command of this name that takes the names of the constraint files.
+pub(crate) fn constraint_command<'a>(
+    alloc: Global,
+    name: &'a str,
+    about: &'a str,
+) -> Result<Command<'a>, AllocError>
+    ensures app { IfOk result (λ c. app_of c ≡ with_required (new_app name.entry.now) constraint_ids) }
+    ensures local { IfOk result (λ c. (out-Command c).has_globals ≡ false) }
+{
+    Command::new(alloc, name)
+        .about(about)
+        .arg(required(
+            alloc,
+            "DOMAINS",
+            "The channels of each station, as in the FCC's Domain.csv",
+        ))?
+        .arg(required(
+            alloc,
+            "ROWS",
+            "What interferes, as in the FCC's Interference_Paired.csv",
+        ))
+}
+
+// A command of this name that takes the names of the input files.
+pub(crate) fn input_command<'a>(
+    alloc: Global,
+    name: &'a str,
+    about: &'a str,
+) -> Result<Command<'a>, AllocError>
+    ensures app { IfOk result (λ c. app_of c ≡ with_required (new_app name.entry.now) input_ids) }
+    ensures local { IfOk result (λ c. (out-Command c).has_globals ≡ false) }
+{
+    constraint_command(alloc, name, about)?.arg(required(
+        alloc,
+        "SCENARIO",
+        "The auction, as JSON: top channel, prices, stations, workers",
+    ))
+}
+
+// A command of this name that takes the names of the input files of a live auction.
+fn live_input_command<'a>(
+    alloc: Global,
+    name: &'a str,
+    about: &'a str,
+) -> Result<Command<'a>, AllocError>
+    ensures app { IfOk result (λ c. app_of c ≡ with_required (new_app name.entry.now) live_ids) }
+    ensures local { IfOk result (λ c. (out-Command c).has_globals ≡ false) }
+{
+    input_command(alloc, name, about)?.arg(required(
+        alloc,
+        "OWNERS",
+        "What the owners say: lines of round, facility, stay or leave",
+    ))
+}
+
+// The name of the file for the result of a run.
+pub(crate) fn result_name<'a>(alloc: Global) -> Arg<'a>
+    ensures rule { rule_of result ≡ required_rule (codes "RESULT") }
+    ensures local { result.global ≡ false }
+{
+    let help = "Where to store what became of each station and what it is paid";
+    required(alloc, "RESULT", help)
+}
+
+// The name of the file for its channels.
+pub(crate) fn channels_name<'a>(alloc: Global) -> Arg<'a>
+    ensures rule { rule_of result ≡ required_rule (codes "CHANNELS") }
+    ensures local { result.global ≡ false }
+{
+    let help = "Where to store the channel of each station on air";
+    required(alloc, "CHANNELS", help)
+}
+
+// The name of the file for its transcript.
+pub(crate) fn transcript_name<'a>(alloc: Global) -> Arg<'a>
+    ensures rule { rule_of result ≡ required_rule (codes "TRANSCRIPT") }
+    ensures local { result.global ≡ false }
+{
+    let help = "Where to store the transcript, which shows the result";
+    required(alloc, "TRANSCRIPT", help)
+}
+
+pub(crate) fn run_command<'a>(alloc: Global) -> Result<Command<'a>, AllocError>
+    ensures app { IfOk result (λ c. app_of c ≡ run_app) }
+    ensures local { IfOk result (λ c. (out-Command c).has_globals ≡ false) }
+{
+    let about = "Runs the auction, stores its three outputs and prints the summary";
+    input_command(alloc, "run", about)?
+        .arg(result_name(alloc))?
+        .arg(channels_name(alloc))?
+        .arg(transcript_name(alloc))
+}
+
+pub(crate) fn live_command<'a>(alloc: Global) -> Result<Command<'a>, AllocError>
+    ensures app { IfOk result (λ c. app_of c ≡ live_app) }
+    ensures local { IfOk result (λ c. (out-Command c).has_globals ≡ false) }
+{
+    let about = "Runs the auction by what the owners say in each round";
+    live_input_command(alloc, "live", about)?
+        .arg(result_name(alloc))?
+        .arg(channels_name(alloc))?
+        .arg(transcript_name(alloc))
+}
+
+pub(crate) fn check_command<'a>(alloc: Global) -> Result<Command<'a>, AllocError>
+    ensures app { IfOk result (λ c. app_of c ≡ check_app) }
+    ensures local { IfOk result (λ c. (out-Command c).has_globals ≡ false) }
+{
+    let about = "Checks the input files and prints their counts; stores nothing";
+    input_command(alloc, "check", about)
+}
+
+// A command of this name that takes the names of the files of an auction that was carried out.
+pub(crate) fn shown_command<'a>(
+    alloc: Global,
+    name: &'a str,
+    about: &'a str,
+) -> Result<Command<'a>, AllocError>
+    ensures app { IfOk result (λ c. app_of c ≡ with_required (new_app name.entry.now) shown_ids) }
+    ensures local { IfOk result (λ c. (out-Command c).has_globals ≡ false) }
+{
+    input_command(alloc, name, about)?.arg(required(
+        alloc,
+        "TRANSCRIPT",
+        "The transcript of an auction of these inputs",
+    ))
+}
+
+pub(crate) fn verify_command<'a>(alloc: Global) -> Result<Command<'a>, AllocError>
+    ensures app { IfOk result (λ c. app_of c ≡ verify_app) }
+    ensures local { IfOk result (λ c. (out-Command c).has_globals ≡ false) }
+{
+    let about = "Checks a transcript and prints its result; stores nothing";
+    shown_command(alloc, "verify", about)
+}
+
+pub(crate) fn verify_live_command<'a>(alloc: Global) -> Result<Command<'a>, AllocError>
+    ensures app { IfOk result (λ c. app_of c ≡ verify_live_app) }
+    ensures local { IfOk result (λ c. (out-Command c).has_globals ≡ false) }
+{
+    let about = "Checks a live auction's transcript and prints its result";
+    live_input_command(alloc, "verify-live", about)?.arg(required(
+        alloc,
+        "TRANSCRIPT",
+        "The transcript of a live auction of these inputs",
+    ))
+}
+
+// The first value of an argument.
+pub(crate) fn value_of<'a>(matches: &ArgMatches<'a>, id: &str) -> Option<&'a str>
+    ensures { option_map (λ s. s.now) result ≡ first_of id.now (rows_of (found_of matches.now)) }
+{
+    matches.get_str(id)
+}
+
+pub(crate) fn input_args<'a>(matches: &ArgMatches<'a>) -> Option<InputArgs<'a>>
+    ensures { option_map inputs_seen result ≡ input_names (rows_of (found_of matches.now)) }
+{
+    let domains = value_of(matches, "DOMAINS")?;
+    let rows = value_of(matches, "ROWS")?;
+    let scenario = value_of(matches, "SCENARIO")?;
+    Some(InputArgs {
+        domains,
+        rows,
+        scenario,
+        owners: None,
+    })
+}
+
+pub(crate) fn live_args<'a>(matches: &ArgMatches<'a>) -> Option<InputArgs<'a>>
+    ensures { option_map inputs_seen result ≡ live_names (rows_of (found_of matches.now)) }
+{
+    let inputs = input_args(matches)?;
+    let owners = value_of(matches, "OWNERS")?;
+    Some(InputArgs {
+        owners: Some(owners),
+        ..inputs
+    })
+}
+
+pub(crate) fn run_args<'a>(matches: &ArgMatches<'a>, inputs: InputArgs<'a>) -> Option<RunArgs<'a>>
+    ensures { option_map names_seen result ≡ run_names (rows_of (found_of matches.now)) (inputs_seen inputs.entry) }
+{
+    let result = value_of(matches, "RESULT")?;
+    let channels = value_of(matches, "CHANNELS")?;
+    let transcript = value_of(matches, "TRANSCRIPT")?;
+    Some(RunArgs {
+        inputs,
+        result,
+        channels,
+        transcript,
+    })
+}
+
+pub(crate) fn shown_args<'a>(matches: &ArgMatches<'a>, inputs: InputArgs<'a>) -> Option<VerifyArgs<'a>>
+    ensures { option_map verify_seen result ≡ shown_by_names (rows_of (found_of matches.now)) (inputs_seen inputs.entry) }
+{
+    let transcript = value_of(matches, "TRANSCRIPT")?;
+    Some(VerifyArgs { inputs, transcript })
+}
+
+pub(crate) fn verify_args<'a>(matches: &ArgMatches<'a>) -> Option<VerifyArgs<'a>>
+    ensures { option_map verify_seen result ≡ verify_names (rows_of (found_of matches.now)) }
+{
+    shown_args(matches, input_args(matches)?)
+}
