@@ -20,7 +20,7 @@ use Rattle.turn_lock.specs.Turns.{StartsWith}
 use Rattle.answer_board.specs.Boards.{beginning_of}
 use Rattle.answer_board.specs.Entries.{entries_of, numbered}
 use Rattle.answer_board.proofs.PostLemmas.{entries-numbered}
-use Rattle.race_wave.specs.Turns.{IsIdle, MovesOn, NearsEnd}
+use Rattle.race_wave.specs.Turns.{RestsAtEnd, MovesOn, NearsEnd}
 
 goes-then : (sc : Scenario) (a b c : CoreState) → NearsEnd sc a b → NearsEnd sc b c → NearsEnd sc a c
 goes-then sc a b c (inl h) (inl k) = inl (omega (arith, h, k))
@@ -113,7 +113,7 @@ board-starts made old new tail over more = (
 )
 
 -- a wave and a serial turn leave fewer queries
-pub turn-fewer : (sc : Scenario) (old mid new : AuctionView) → has_ended old.state ≡ false → NearsEnd sc old.state mid.state → IsIdle mid new → MovesOn sc mid.state new.state → queries_left sc new.state < queries_left sc old.state
+pub turn-fewer : (sc : Scenario) (old mid new : AuctionView) → has_ended old.state ≡ false → NearsEnd sc old.state mid.state → RestsAtEnd mid new → MovesOn sc mid.state new.state → queries_left sc new.state < queries_left sc old.state
 turn-fewer sc old mid new begun goes idle moves =
     elim (cases_Bool (has_ended mid.state)) [
       | inl ended ↦ let same : queries_left sc new.state ≡ queries_left sc mid.state = ap (λ (a : AuctionView). queries_left sc a.state) (idle ended) in elim goes [

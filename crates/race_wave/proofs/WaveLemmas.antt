@@ -23,7 +23,7 @@ use Rattle.answer_board.specs.declared.look.Look.TheVariants as Look
 use Rattle.answer_board.specs.Boards.{raised}
 use Rattle.answer_board.specs.Posts.{LookIs, Sees, is_faultless}
 use Rattle.race_wave.specs.Watches.{IsNumberAfter}
-use Rattle.race_wave.specs.Waves.{HasPosted, IsAtRest, SaysValid, is_last}
+use Rattle.race_wave.specs.Waves.{HasPosted, HasNothingLeft, SaysValid, is_last}
 
 turned-last : (a b c : Bool) (n : ℕ) (reply : Reply) → (if a then Some Ended else (if not b then Some (WrongQuery n) else (if c then Some Stranger else None))) ≡ Some reply → is_last reply ≡ true → a ≡ true
 turned-last true b c n reply e l = refl
@@ -39,9 +39,9 @@ noted-now x (n ∷ ns) = elim (cases_Bool (nat_lt x.worker n.worker)) [
 ]
 
 -- a posting that is told so leaves its worker nothing to do
-pub rests : (sc : Scenario) (book : BookView) (state : CoreState) (p : PostingView) → is_last (take sc book state p).0 ≡ true → IsAtRest p.worker (take sc book state p).1
+pub rests : (sc : Scenario) (book : BookView) (state : CoreState) (p : PostingView) → is_last (take sc book state p).0 ≡ true → HasNothingLeft p.worker (take sc book state p).1
 rests sc book state p =
-    take-cases sc book state p (λ out. take sc book state p ≡ out → is_last out.0 ≡ true → IsAtRest p.worker out.1) (record {
+    take-cases sc book state p (λ out. take sc book state p ≡ out → is_last out.0 ≡ true → HasNothingLeft p.worker out.1) (record {
       turned = λ reply t e l. inl (turned-last (has_ended state) (p.number == state.number) (nat_le (length sc.workers) p.worker) state.number reply t l);
       rejected = λ place t f e l. absurd (false≢true l);
       fit = λ delta t f a e l. absurd (false≢true l);

@@ -20,8 +20,8 @@ module _ {N : Type 0} {G : Ghosts Kept ClockworkView EntryView} where
   pub goes_nowhere : (board : Board) (name : N) (pass : Pass Kept ClockworkView EntryView G) → Goes board name pass board name pass
   goes_nowhere board name pass = record { board_is = refl; name_is = refl; stands = refl; seen = starts-itself (seen_of pass); mine = refl; legal = λ l. l }
 
-  pub goes_on : {b1 b2 b3 : Board} {n1 n2 n3 : N} {p1 p2 p3 : Pass Kept ClockworkView EntryView G} → Goes b1 n1 p1 b2 n2 p2 → Goes b2 n2 p2 b3 n3 p3 → Goes b1 n1 p1 b3 n3 p3
-  goes_on {p1 = p1} {p2 = p2} {p3 = p3} h k = record {
+  pub goes_after : {b1 b2 b3 : Board} {n1 n2 n3 : N} {p1 p2 p3 : Pass Kept ClockworkView EntryView G} → Goes b1 n1 p1 b2 n2 p2 → Goes b2 n2 p2 b3 n3 p3 → Goes b1 n1 p1 b3 n3 p3
+  goes_after {p1 = p1} {p2 = p2} {p3 = p3} h k = record {
     board_is = k.board_is ∙ h.board_is;
     name_is = k.name_is ∙ h.name_is;
     stands = k.stands ∙ h.stands;

@@ -28,8 +28,8 @@ SaysValid book task worker (Said answer) = IsValid book task worker answer
 SaysValid book task worker (Moved now) = ⊤
 
 -- in this state the worker has nothing left to do: the auction has ended, or its receipt stands noted on the standing query
-abbrev pub IsAtRest : ℕ → CoreState → Type 0
-IsAtRest w state = (has_ended state ≡ true) ⊎ (is_noted state.noted w ≡ true)
+abbrev pub HasNothingLeft : ℕ → CoreState → Type 0
+HasNothingLeft w state = (has_ended state ≡ true) ⊎ (is_noted state.noted w ≡ true)
 
 -- the worker has nothing left to do after a posting that was told this
 abbrev pub is_last : Reply → Bool
@@ -49,8 +49,8 @@ pub record HasPosted (old new : List (ℕ × EntryView)) : Type 0 where
 
 module _ {G : Ghosts Kept ClockworkView EntryView} where
   -- what the worker has seen leaves nothing for it to do
-  abbrev pub IsDone : Board → Pass Kept ClockworkView EntryView G → Type 0
-  IsDone board pass = Sees (raised board) (seen_of pass) (IsAtRest (number_of pass))
+  abbrev pub SeesNothingLeft : Board → Pass Kept ClockworkView EntryView G → Type 0
+  SeesNothingLeft board pass = Sees (raised board) (seen_of pass) (HasNothingLeft (number_of pass))
 
   -- a pass to the board, outside a turn, and the worker that its number is of
   pub record IsRunner (board : Board) (pass : Pass Kept ClockworkView EntryView G) (worker : Worker) : Type 0 where
@@ -71,4 +71,4 @@ pub record HasRaced {R : Type 0} (worker_of : R → Worker) (board : Board) (old
   pub same : IsSamePass old.pass new.pass
   pub legal : IsLegal new.pass
   pub worker : worker_of new.racer ≡ worker_of old.racer
-  pub done : new.refused ≡ false → IsDone board new.pass
+  pub done : new.refused ≡ false → SeesNothingLeft board new.pass

@@ -11,7 +11,7 @@ use std::sync::Wait;
 /// A pass that asks its board which query stands. It waits for its turn. The latest answer is the number that the history leaves
 /// which the pass has seen.
 #[derive(Drop)]
-pub struct Watch<'a, R: Wait> {
+pub struct BoardPoll<'a, R: Wait> {
     pub(crate) rt: &'a R,
     pub(crate) board: &'a Board,
     pub(crate) pass: &'a mut Pass,

@@ -12,10 +12,10 @@ ghost use Rattle.answer_board.specs.Posts.{HasStood, Sees};
 ghost use Rattle.cert_types.specs.Valid.{IsValid};
 ghost use Rattle.pack_defs.specs.declared.worker.Worker.{Worker};
 ghost use Rattle.race_wave.specs.Watches.{IsNumberAfter};
-ghost use Rattle.race_wave.specs.Waves.{HasRaced, IsDone, IsRunner, IsSamePass, SaysValid, is_last};
+ghost use Rattle.race_wave.specs.Waves.{HasRaced, SeesNothingLeft, IsRunner, IsSamePass, SaysValid, is_last};
 
 use crate::runner::Runner;
-use crate::watch::Watch;
+use crate::watch::BoardPoll;
 use answer_board::board::{Board, Pass};
 use answer_board::look::Look;
 use auction_core::posting::Reply;
@@ -123,7 +123,7 @@ fn race<R: Racer, G: Gate, W: Wait>(
     ensures same { IsSamePass pass.old pass.new }
     ensures legal { IsLegal pass.new }
     ensures worker { R.worker racer.new ≡ R.worker racer.old }
-    ensures done { IfOk result (λ _. IsDone board.now pass.new) }
+    ensures done { IfOk result (λ _. SeesNothingLeft board.now pass.new) }
 {
     for _ in rt.forever() {
         match one_look(rt, alloc, board, book, pass, racer, gate)? {
@@ -150,7 +150,7 @@ fn one_look<R: Racer, G: Gate, W: Wait>(
     ensures same { IsSamePass pass.old pass.new }
     ensures legal { IsLegal pass.new }
     ensures worker { R.worker racer.new ≡ R.worker racer.old }
-    ensures done { IfOk result (λ onward. onward ≡ Onward.Rests → IsDone board.now pass.new) }
+    ensures done { IfOk result (λ onward. onward ≡ Onward.Rests → SeesNothingLeft board.now pass.new) }
 {
     match board.look(rt, alloc, pass) {
         Ok(Look::Task(task)) => tries(rt, alloc, board, book, pass, racer, gate, &task),
@@ -180,7 +180,7 @@ fn tries<R: Racer, G: Gate, W: Wait>(
     ensures same { IsSamePass pass.old pass.new }
     ensures legal { IsLegal pass.new }
     ensures worker { R.worker racer.new ≡ R.worker racer.old }
-    ensures done { IfOk result (λ onward. onward ≡ Onward.Rests → IsDone board.now pass.new) }
+    ensures done { IfOk result (λ onward. onward ≡ Onward.Rests → SeesNothingLeft board.now pass.new) }
 {
     match attempted(rt, alloc, board, book, pass, racer, task) {
         Ok(Attempt::Said(answer)) => {
@@ -226,7 +226,7 @@ fn attempted<R: Racer, W: Wait>(
     ensures worker { R.worker racer.new ≡ R.worker racer.old }
     ensures said { IfOk result (SaysValid book.now task.now (R.worker racer.old)) }
 {
-    let mut watch = Watch {
+    let mut watch = BoardPoll {
         rt,
         board,
         pass,
@@ -254,7 +254,7 @@ fn posts<G: Gate, W: Wait>(
     ensures idle { IsIdle pass.new }
     ensures same { IsSamePass pass.old pass.new }
     ensures legal { IsLegal pass.new }
-    ensures done { IfOk result (λ onward. onward ≡ Onward.Rests → IsDone board.now pass.new) }
+    ensures done { IfOk result (λ onward. onward ≡ Onward.Rests → SeesNothingLeft board.now pass.new) }
 {
     let worker = pass.number();
     gate.at(Spot::BeforePost, worker, number);

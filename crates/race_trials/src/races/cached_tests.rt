@@ -11,7 +11,7 @@ use pack_defs::channel_map::ChannelMap;
 use pack_defs::items::Items;
 use pack_defs::worker::Worker;
 use race_wave::cached::Cached;
-use race_wave::standing::Standing;
+use race_wave::standing::SerialPoll;
 use solver_gate::racer::{Racer, RacerKind};
 use std::alloc::{AllocError as NoMemory, Global};
 use std::sync::atomic::{AtomicU64, Ordering};
@@ -65,7 +65,7 @@ fn says<R: Racer>(
     if !is_query(book, &task) {
         return Ok(false);
     }
-    let said = racer.attempt(alloc, book, &task, &mut Standing { number: 1 })?;
+    let said = racer.attempt(alloc, book, &task, &mut SerialPoll { number: 1 })?;
     Ok(match said {
         Attempt::Said(Answer::Fit(_)) => fits,
         Attempt::Said(Answer::Refuted(_)) => !fits,
