@@ -133,7 +133,22 @@ fn carry_out<F: Folder, K: Sink, G: Gate + Sync, W: Threads + Wait + Sync>(
 /// worker decides whether it does; 8 for want of memory; 9 where the transcript's text is refused or a step of it isn't shown;
 /// 10 where it has no step STEP or, for `import`, that isn't undecided, or the log's text is refused or it refutes nothing; 11
 /// where all of a batch is done, and an auction of it ended at its start, as at 6 or 7. At each but 0, 1 and 11 a line says so;
-/// where the sink fails at the summary, the counts, the result, the top channel or a batch's lines there is none.
+/// where the sink fails at the summary, the counts, the result, the top channel or a batch's lines there is none. Each has its
+/// name in `status`.
+///
+/// # Example
+///
+/// Over files in memory, where `files` holds the three inputs and `words` are those of
+/// `repack run domains.csv rows.csv scenario.json result.csv channels.csv transcript.txt`:
+///
+/// ```
+/// let mut folder = MemoryFolder::new(files, Vec::new(alloc));
+/// let mut printed = MemorySink::new(alloc, 9_999, Vec::new(alloc))?;
+/// let finish = auction_main(&rt, alloc, &words, &mut folder, &mut printed, &EmptyGate);
+/// assert_eq!(finish.status, status::DONE);
+/// // What became of each station, and what is kept of the auction: how each of its tests was settled.
+/// let (result, record) = (folder.bytes("result.csv"), finish.result);
+/// ```
 pub fn auction_main<F: Folder, K: Sink, G: Gate + Sync, W: Threads + Wait + Sync>(
     rt: &W,
     alloc: Global,
