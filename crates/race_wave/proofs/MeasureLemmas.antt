@@ -20,6 +20,7 @@ use Rattle.turn_lock.specs.Turns.{StartsWith}
 use Rattle.answer_board.specs.Boards.{beginning_of}
 use Rattle.answer_board.specs.Entries.{entries_of, numbered}
 use Rattle.answer_board.proofs.PostLemmas.{entries-numbered}
+use Rattle.auction_core.proofs.Replays.{if-some}
 use Rattle.race_wave.specs.Turns.{RestsAtEnd, MovesOn, NearsEnd}
 
 goes-then : (sc : Scenario) (a b c : CoreState) → NearsEnd sc a b → NearsEnd sc b c → NearsEnd sc a c
@@ -47,10 +48,6 @@ take-goes sc book state p =
       last = λ receipt t f a n k. inl (answered-fewer sc book state (Undecided (all_spent state (noted_as p.worker receipt))) (on sc state p.worker p.number t));
       more = λ receipt t f a n k. inr refl;
     })
-
-if-some : {A : Type 0} (b : Bool) (x y : A) → (if b then Some x else None) ≡ Some y → x ≡ y
-if-some true x y e = cc
-if-some false x y e = cc
 
 entry-goes : (sc : Scenario) (book : BookView) (state new : CoreState) (e : EntryView) (o : Option Answer) → after_entry sc book state e o ≡ Some new → NearsEnd sc state new
 entry-goes sc book state new e (Some answer) s =

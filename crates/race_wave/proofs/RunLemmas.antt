@@ -18,15 +18,13 @@ use Rattle.turn_lock.specs.declared.lock.Pass.{Pass}
 use Rattle.auction_core.specs.Auction.{AuctionView}
 use Rattle.answer_board.specs.Boards.{AreAllOn, IsPassOn, kept_base, kept_entries, raised}
 use Rattle.answer_board.specs.Entries.{numbered}
+use Rattle.turn_lock.proofs.Lists.{length_map}
+use Rattle.turn_lock.proofs.Makes.{map_again}
+use Rattle.answer_board.proofs.PassLemmas.{all-at}
 use Rattle.race_wave.specs.declared.runner.Runner.{Runner}
 use Rattle.race_wave.specs.Waves.{HasRaced, IsRunner}
 
 -- ---- lists
-
-all-at : {X : Type 0} (P : X → Type 0) (xs : List X) (i : ℕ) (d : X) → AllOf P xs → i < length xs → P (get_or xs i d)
-all-at P [] i d h lt = absurd (omega arith)
-all-at P (x ∷ xs) zero d h lt = h.0
-all-at P (x ∷ xs) (suc i) d h lt = all-at P xs i d h.1 (omega arith)
 
 get-map : {X Y : Type 0} (f : X → Y) (xs : List X) (i : ℕ) (d : X) → get_or (map f xs) i (f d) ≡ f (get_or xs i d)
 get-map f [] i d = refl
@@ -37,14 +35,6 @@ get-map f (x ∷ xs) (suc i) d = get-map f xs i d
 pub image-at : {X Y : Type 0} (f : X → Y) (xs : List X) (ys : List Y) (i : ℕ) (d : X) → map f xs ≡ ys → i < length ys → slice_get ys i ≡ Some (f (get_or xs i d))
 image-at f xs ys i d e lt =
     subst (λ l. slice_get l i ≡ Some (f (get_or xs i d))) e (slice_get-get_or (map f xs) i (f d) (subst (λ l. i < length l) (sym e) lt) ∙ ap (λ x. Some x) (get-map f xs i d))
-
-long-map : {X Y : Type 0} (f : X → Y) (xs : List X) → length (map f xs) ≡ length xs
-long-map f [] = refl
-long-map f (x ∷ xs) = ap suc (long-map f xs)
-
-map-map : {X Y Z : Type 0} (f : X → Y) (g : Y → Z) (xs : List X) → map g (map f xs) ≡ map (λ x. g (f x)) xs
-map-map f g [] = refl
-map-map f g (x ∷ xs) = ap (λ l. g (f x) ∷ l) (map-map f g xs)
 
 get-left : {X : Type 0} (xs ys : List X) (i : ℕ) (d : X) → i < length xs → get_or (xs ++ ys) i d ≡ get_or xs i d
 get-left [] ys i d lt = absurd (omega arith)
@@ -64,7 +54,7 @@ long-new start (suc n) = long-more (each_new start n) (known n start []) ∙ ap 
     long-more (y ∷ ys) x = ap suc (long-more ys x)
 
 pub new-many : {X : Type 0} (f : X → Known EntryView) (xs : List X) (start : List (ℕ × EntryView)) (n : ℕ) → map f xs ≡ each_new start n → length xs ≡ n
-new-many f xs start n e = sym (long-map f xs) ∙ (ap length e ∙ long-new start n)
+new-many f xs start n e = sym (length_map f xs) ∙ (ap length e ∙ long-new start n)
 
 -- the new pass at a place has that number
 new-at : (start : List (ℕ × EntryView)) (n i : ℕ) (d : Known EntryView) → i < n → (get_or (each_new start n) i d).number ≡ i
@@ -85,7 +75,7 @@ spliced n xs ys zs e f = ap (λ k. take k (ys ++ zs)) (e ∙ sym f) ∙ take-lef
 
 -- a list that was lent, whose elements come back as others of the same image
 pub turned-list : {X Y : Type 0} (f : X → Y) (n : ℕ) (xs ys : List X) → n ≡ length xs → map f ys ≡ map f xs → take n (ys ++ drop (length ys) xs) ≡ ys
-turned-list f n xs ys e h = spliced n xs ys (drop (length ys) xs) e (sym (long-map f ys) ∙ (ap (λ l. length l) h ∙ long-map f xs))
+turned-list f n xs ys e h = spliced n xs ys (drop (length ys) xs) e (sym (length_map f ys) ∙ (ap (λ l. length l) h ∙ length_map f xs))
 
 module _ {R : Type 0} (w : R → Worker) (board : Board) where
   -- the passes of a new board, each with the racer of its worker
@@ -96,11 +86,11 @@ module _ {R : Type 0} (w : R → Worker) (board : Board) where
       let r : Runner R = get_or xs k d in
       let own : AllOf (λ (x : Runner R). IsPassOn board x.pass) xs = all-from xs all.own in
       let rest : AllOf (λ (x : Runner R). IsIdle x.pass) xs = idle-from xs idle in
-      let knowns : map (λ (x : Runner R). known_of x.pass) xs ≡ each_new start n = sym (map-map (λ (x : Runner R). x.pass) known_of xs) ∙ new in
-      let many : length xs ≡ n = sym (long-map (λ (x : Runner R). known_of x.pass) xs) ∙ (ap length knowns ∙ long-new start n) in
+      let knowns : map (λ (x : Runner R). known_of x.pass) xs ≡ each_new start n = sym (map_again (λ (x : Runner R). x.pass) known_of xs) ∙ new in
+      let many : length xs ≡ n = sym (length_map (λ (x : Runner R). known_of x.pass) xs) ∙ (ap length knowns ∙ long-new start n) in
       let number : number_of r.pass ≡ k = ap (λ (x : Known EntryView). x.number) (sym (get-map (λ (x : Runner R). known_of x.pass) xs k d)) ∙ (ap (λ l. (get_or l k (known_of d.pass)).number) knowns ∙ new-at start n k (known_of d.pass) (omega arith)) in
-      let mine : map (λ (x : Runner R). w x.racer) xs ≡ (raised board).scenario.workers = sym (map-map (λ (x : Runner R). x.racer) w xs) ∙ (racers ∙ sym of) in
-      let at : slice_get (map (λ (x : Runner R). w x.racer) xs) k ≡ Some (w r.racer) = slice_get-get_or (map (λ (x : Runner R). w x.racer) xs) k (w d.racer) (let long = long-map (λ (x : Runner R). w x.racer) xs in omega arith) ∙ ap (λ x. Some x) (get-map (λ (x : Runner R). w x.racer) xs k d) in
+      let mine : map (λ (x : Runner R). w x.racer) xs ≡ (raised board).scenario.workers = sym (map_again (λ (x : Runner R). x.racer) w xs) ∙ (racers ∙ sym of) in
+      let at : slice_get (map (λ (x : Runner R). w x.racer) xs) k ≡ Some (w r.racer) = slice_get-get_or (map (λ (x : Runner R). w x.racer) xs) k (w d.racer) (let long = length_map (λ (x : Runner R). w x.racer) xs in omega arith) ∙ ap (λ x. Some x) (get-map (λ (x : Runner R). w x.racer) xs k d) in
       record {
         own = all-at (λ (x : Runner R). IsPassOn board x.pass) xs k d own lt;
         idle = all-at (λ (x : Runner R). IsIdle x.pass) xs k d rest lt;
@@ -194,7 +184,7 @@ module _ {R : Type 0} (w : R → Worker) (board : Board) where
   -- as many workers after it
   pub after-many : (rs : List R) (xs ys : List (Runner R)) → map (λ (r : Runner R). r.racer) xs ≡ rs → AllZip (HasRaced w board) xs ys → length ys ≡ length rs
   after-many rs xs ys solvers raced =
-      raced-long w board xs ys raced ∙ (sym (long-map (λ (r : Runner R). r.racer) xs) ∙ ap (λ (l : List R). length l) solvers)
+      raced-long w board xs ys raced ∙ (sym (length_map (λ (r : Runner R). r.racer) xs) ∙ ap (λ (l : List R). length l) solvers)
 
   -- all passes are there after it
   pub after-all : (ps ls : List BoardPass) (xs ys : List (Runner R)) → AreAllOn board (map standing ps)
@@ -218,4 +208,4 @@ new-passes made auction ks n m e same over = e ∙ (ap (λ k. each_new (numbered
 
 -- there are as many workers as racers
 pub as-many-workers : {R : Type 0} (w : R → Worker) (rs : List R) (workers : List Worker) → map w rs ≡ workers → length workers ≡ length rs
-as-many-workers w rs workers e = sym (ap (λ (l : List Worker). length l) e) ∙ long-map w rs
+as-many-workers w rs workers e = sym (ap (λ (l : List Worker). length l) e) ∙ length_map w rs

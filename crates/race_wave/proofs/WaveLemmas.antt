@@ -22,6 +22,7 @@ use Rattle.answer_board.specs.declared.board.Board.{Board}
 use Rattle.answer_board.specs.declared.look.Look.TheVariants as Look
 use Rattle.answer_board.specs.Boards.{raised}
 use Rattle.answer_board.specs.Posts.{LookIs, Sees, is_faultless}
+use Rattle.turn_lock.proofs.Lists.{all_more}
 use Rattle.race_wave.specs.Watches.{IsNumberAfter}
 use Rattle.race_wave.specs.Waves.{HasPosted, HasNothingLeft, SaysValid, is_last}
 
@@ -31,7 +32,7 @@ turned-last false false c n reply e l = let same : WrongQuery n ≡ reply = cc i
 turned-last false true true n reply e l = let same : Stranger ≡ reply = cc in absurd (false≢true (ap is_last same ∙ l))
 turned-last false true false n reply e l = cc
 
-noted-now : (x : NotedSpent) (ns : List NotedSpent) → is_noted (noted_with x ns) x.worker ≡ true
+pub noted-now : (x : NotedSpent) (ns : List NotedSpent) → is_noted (noted_with x ns) x.worker ≡ true
 noted-now x [] = rw (eq-eqb x.worker x.worker refl) refl
 noted-now x (n ∷ ns) = elim (cases_Bool (nat_lt x.worker n.worker)) [
   | inl lt ↦ rw (lt, eq-eqb x.worker x.worker refl) refl
@@ -65,10 +66,6 @@ says-valid book task worker last (Moved now) h = tt
 
 -- ---- what a worker posts
 
-pub all-on : {X : Type 0} (P : X → Type 0) (xs ys : List X) → AllOf P xs → AllOf P ys → AllOf P (xs ++ ys)
-all-on P [] ys h k = k
-all-on P (x ∷ xs) ys h k = (h.0, all-on P xs ys h.1 k)
-
 pub posted-none : (old new : List (ℕ × EntryView)) → new ≡ old → HasPosted old new
 posted-none old new e = record { more = []; is = e ∙ sym (append-nil old); faultless = tt }
 
@@ -79,7 +76,7 @@ pub posted-on : (a b c : List (ℕ × EntryView)) → HasPosted a b → HasPoste
 posted-on a b c h k = record {
   more = h.more ++ k.more;
   is = k.is ∙ (ap (λ l. l ++ k.more) h.is ∙ append_assoc a h.more k.more);
-  faultless = all-on (λ e. is_faultless e.1.reply ≡ true) h.more k.more h.faultless k.faultless;
+  faultless = all_more (λ e. is_faultless e.1.reply ≡ true) h.more k.more h.faultless k.faultless;
 }
 
 -- ---- which query stands
