@@ -47,7 +47,7 @@ use Rattle.auction_cmd.proofs.ReadingLemmas.{accepted-ascend, accepted-values}
 use Rattle.auction_cmd.proofs.RunLemmas.{absent, ended-statuses, never, some-record}
 use Rattle.auction_cmd.proofs.Statuses.{apart-lists, off, one-of, within}
 use Rattle.auction_cmd.proofs.VerifyCases.{verify-memory}
-use Rattle.auction_cmd.proofs.VerifyEndLemmas.{no-text, same-text, unloaded-statuses}
+use Rattle.auction_cmd.proofs.VerifyEndLemmas.{no-text, over, same-text, unloaded-statuses}
 use Rattle.auction_cmd.proofs.VerifyLemmas.{verify-promises}
 use Rattle.auction_cmd.proofs.VerifyReadings.{is-there}
 
@@ -66,9 +66,6 @@ ok-not-err r a b ok err = cc (sym ok ∙ err)
 
 same-ok : {A B : Type 0} (r : Result A B) (a b : A) → r ≡ Ok a → r ≡ Ok b → a ≡ b
 same-ok r a b p q = cc (sym p ∙ q)
-
-over : (limit n : ℕ) → limit < n → n ≤ limit → ⊥
-over limit n more most = omega arith
 
 -- where there is a record, no output name is given twice
 abbrev pub IsOnce : ImportNames → Option Record → Type 0

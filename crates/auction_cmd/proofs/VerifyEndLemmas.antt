@@ -50,7 +50,7 @@ same-text a b e = cc
 pub no-text : (text : List ℕ) (held : Option (List ℕ)) → held ≡ None → held ≡ Some text → ⊥
 no-text text held none is = cc (sym none ∙ is)
 
-over : (limit n : ℕ) → limit < n → n ≤ limit → ⊥
+pub over : (limit n : ℕ) → limit < n → n ≤ limit → ⊥
 over limit n more most = omega arith
 
 -- the given text isn't too long
