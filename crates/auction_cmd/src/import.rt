@@ -23,7 +23,7 @@ use crate::proof_words::ImportArgs;
 use crate::run::{done_status, store};
 use crate::settling::{open_fault, say_log, say_step};
 use crate::shown::{ShownAuction, file_bytes, say_unloaded, shown_by};
-use crate::status::{NOT_SETTLED, NO_MEMORY, UNWRITTEN};
+use crate::status::{NO_MEMORY, NOT_SETTLED, UNWRITTEN};
 use crate::verify::result_text;
 use auction_core::record::Record;
 use open_tests::settle::{SettleErr, settle_by_text};

@@ -317,7 +317,10 @@ pub(crate) fn run_args<'a>(matches: &ArgMatches<'a>, inputs: InputArgs<'a>) -> O
     })
 }
 
-pub(crate) fn shown_args<'a>(matches: &ArgMatches<'a>, inputs: InputArgs<'a>) -> Option<VerifyArgs<'a>>
+pub(crate) fn shown_args<'a>(
+    matches: &ArgMatches<'a>,
+    inputs: InputArgs<'a>,
+) -> Option<VerifyArgs<'a>>
     ensures { option_map verify_seen result ≡ shown_by_names (rows_of (found_of matches.now)) (inputs_seen inputs.entry) }
 {
     let transcript = value_of(matches, "TRANSCRIPT")?;

@@ -18,7 +18,7 @@ use crate::finish::Finish;
 use crate::inputs::{FILE_LIMIT, Inputs, read_inputs};
 use crate::run_words::VerifyArgs;
 use crate::says::say;
-use crate::status::{NOT_SHOWN, NO_MEMORY, REFUSED, UNREAD};
+use crate::status::{NO_MEMORY, NOT_SHOWN, REFUSED, UNREAD};
 use auction_core::record::Record;
 use auction_core::transcript::Transcript;
 use outside_io::folder::{Folder, LoadErr};
