@@ -3,10 +3,10 @@
 ghost use Rattle.std.specs.Prelude.{◌≡◌, [], None, map};
 ghost use Rattle.std.specs.String.{string_bytes};
 ghost use Rattle.auction_cmd.specs.Faults.{AreFaultsCounted};
-ghost use Rattle.auction_cmd.specs.Outside.{outside};
+ghost use Rattle.auction_cmd.specs.Outside.{Takes, outside};
 ghost use Rattle.auction_cmd.specs.Plan.{plan_of};
 ghost use Rattle.auction_cmd.specs.Program.{ProgramEnds, ProgramPromises};
-ghost use Rattle.auction_cmd.specs.Says.{Says, twice_line};
+ghost use Rattle.auction_cmd.specs.Says.{twice_line};
 ghost use Rattle.auction_cmd.specs.Statuses.{REFUSED};
 
 use crate::batch::batch;
@@ -36,7 +36,7 @@ fn refuse_twice<K: Sink>(out: &mut K, name: &str) -> Finish
     ensures none { result.result ≡ None }
     ensures no_other { result.below ≡ None }
     ensures no_batch { result.batch ≡ [] }
-    ensures says { Says (K.held out.old) (K.held out.new) (K.faults out.old) (K.faults out.new) (twice_line name.now) }
+    ensures says { Takes (K.told out.old) (K.told out.new) (twice_line name.now) }
 {
     say(out, &[name, ": given twice\n"]);
     Finish::without_record(REFUSED)
@@ -52,13 +52,10 @@ fn carry_out<F: Folder, K: Sink, G: Gate + Sync, W: Threads + Wait + Sync>(
     gate: &G,
 ) -> Finish
     ensures ends { ProgramEnds (plan_of (map string_bytes words.now))
-        (outside (F.files folder.old) (F.faults folder.old) (F.steady folder.old) (K.held out.old) (K.faults out.old) (K.sure out.old))
-        (outside (F.files folder.new) (F.faults folder.new) (F.steady folder.new) (K.held out.new) (K.faults out.new) (K.sure out.new))
+        (outside (F.told folder.old) (K.told out.old)) (outside (F.told folder.new) (K.told out.new))
         result.status result.result result.below result.batch }
     ensures counted { AreFaultsCounted
-        (outside (F.files folder.old) (F.faults folder.old) (F.steady folder.old) (K.held out.old) (K.faults out.old) (K.sure out.old))
-        (outside (F.files folder.new) (F.faults folder.new) (F.steady folder.new) (K.held out.new) (K.faults out.new) (K.sure out.new))
-        result.status }
+        (outside (F.told folder.old) (K.told out.old)) (outside (F.told folder.new) (K.told out.new)) result.status }
 {
     match read_words(alloc, words) {
         Ok(CommandArgs::Run(files)) => match files.given_twice() {
@@ -159,21 +156,17 @@ pub fn auction_main<F: Folder, K: Sink, G: Gate + Sync, W: Threads + Wait + Sync
 ) -> Finish
     // How it ends, case by case.
     ensures ends { ProgramEnds (plan_of (map string_bytes words.now))
-        (outside (F.files folder.old) (F.faults folder.old) (F.steady folder.old) (K.held out.old) (K.faults out.old) (K.sure out.old))
-        (outside (F.files folder.new) (F.faults folder.new) (F.steady folder.new) (K.held out.new) (K.faults out.new) (K.sure out.new))
+        (outside (F.told folder.old) (K.told out.old)) (outside (F.told folder.new) (K.told out.new))
         result.status result.result result.below result.batch }
 
     // What may be relied on, a clause each.
     ensures promises { ProgramPromises (plan_of (map string_bytes words.now))
-        (outside (F.files folder.old) (F.faults folder.old) (F.steady folder.old) (K.held out.old) (K.faults out.old) (K.sure out.old))
-        (outside (F.files folder.new) (F.faults folder.new) (F.steady folder.new) (K.held out.new) (K.faults out.new) (K.sure out.new))
+        (outside (F.told folder.old) (K.told out.old)) (outside (F.told folder.new) (K.told out.new))
         result.status result.result result.below result.batch }
 
     // At which statuses the outside's counts of faults stand.
     ensures counted { AreFaultsCounted
-        (outside (F.files folder.old) (F.faults folder.old) (F.steady folder.old) (K.held out.old) (K.faults out.old) (K.sure out.old))
-        (outside (F.files folder.new) (F.faults folder.new) (F.steady folder.new) (K.held out.new) (K.faults out.new) (K.sure out.new))
-        result.status }
+        (outside (F.told folder.old) (K.told out.old)) (outside (F.told folder.new) (K.told out.new)) result.status }
 {
     carry_out(rt, alloc, words, folder, out, gate)
 }

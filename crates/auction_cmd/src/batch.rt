@@ -149,13 +149,9 @@ fn deliver<F: Folder, K: Sink>(
 ) -> u8
     requires { length texts.now ≡ length lines.now }
     ensures delivers { Delivers (texts_under lines.now (map (option_map (λ v. v.items)) texts.now)) printed.now done
-        (outside (F.files folder.old) (F.faults folder.old) (F.steady folder.old) (K.held out.old) (K.faults out.old) (K.sure out.old))
-        (outside (F.files folder.new) (F.faults folder.new) (F.steady folder.new) (K.held out.new) (K.faults out.new) (K.sure out.new))
-        result }
+        (outside (F.told folder.old) (K.told out.old)) (outside (F.told folder.new) (K.told out.new)) result }
     ensures counted { AreFaultsCounted
-        (outside (F.files folder.old) (F.faults folder.old) (F.steady folder.old) (K.held out.old) (K.faults out.old) (K.sure out.old))
-        (outside (F.files folder.new) (F.faults folder.new) (F.steady folder.new) (K.held out.new) (K.faults out.new) (K.sure out.new))
-        result }
+        (outside (F.told folder.old) (K.told out.old)) (outside (F.told folder.new) (K.told out.new)) result }
 {
     let Some((line, lines_left)) = lines.split_first() else {
         return match out.write(printed) {
@@ -221,15 +217,11 @@ pub fn batch<F: Folder, K: Sink, G: Gate + Sync, W: Threads + Wait + Sync>(
     gate: &G,
 ) -> Finish
     ensures ends { BatchEnds (batch_seen files.now)
-        (outside (F.files folder.old) (F.faults folder.old) (F.steady folder.old) (K.held out.old) (K.faults out.old) (K.sure out.old))
-        (outside (F.files folder.new) (F.faults folder.new) (F.steady folder.new) (K.held out.new) (K.faults out.new) (K.sure out.new))
-        result.status result.batch }
+        (outside (F.told folder.old) (K.told out.old)) (outside (F.told folder.new) (K.told out.new)) result.status result.batch }
     ensures none { result.result ≡ None }
     ensures no_other { result.below ≡ None }
     ensures counted { AreFaultsCounted
-        (outside (F.files folder.old) (F.faults folder.old) (F.steady folder.old) (K.held out.old) (K.faults out.old) (K.sure out.old))
-        (outside (F.files folder.new) (F.faults folder.new) (F.steady folder.new) (K.held out.new) (K.faults out.new) (K.sure out.new))
-        result.status }
+        (outside (F.told folder.old) (K.told out.old)) (outside (F.told folder.new) (K.told out.new)) result.status }
 {
     let names = files.inputs_with(files.list);
     let listed = match read_listed(alloc, folder, &names) {

@@ -49,11 +49,11 @@ fn read_constraints<F: Folder>(
     folder: &mut F,
     names: &InputArgs<'_>,
 ) -> Result<Constraints, Stop>
-    ensures told { (files : List StoredFile) → F.files folder.old ≡ Some files →
-        Agrees (λ c. c) (F.steady folder.old) (constraints_of files (inputs_seen names.now)) result }
-    ensures files { F.files folder.new ≡ F.files folder.old }
-    ensures steady { F.steady folder.new ≡ F.steady folder.old }
-    ensures counted { CountsFault (F.faults folder.old) (F.faults folder.new) result }
+    ensures told { (files : List StoredFile) → (F.told folder.old).files ≡ Some files →
+        Agrees (λ c. c) (F.told folder.old).steady (constraints_of files (inputs_seen names.now)) result }
+    ensures files { (F.told folder.new).files ≡ (F.told folder.old).files }
+    ensures steady { (F.told folder.new).steady ≡ (F.told folder.old).steady }
+    ensures counted { CountsFault (F.told folder.old).faults (F.told folder.new).faults result }
 {
     let domains = domains_from(alloc, folder, names.domains)?;
     let pairs = pairs_from(alloc, folder, names.rows, &domains)?;
@@ -62,12 +62,12 @@ fn read_constraints<F: Folder>(
 
 // The lines of the list of this name.
 fn list_from<F: Folder>(alloc: Global, folder: &mut F, name: &str) -> Result<Vec<BatchLine>, Stop>
-    ensures told { (files : List StoredFile) → F.files folder.old ≡ Some files →
-        Agrees (λ v. v.items) (F.steady folder.old) (list_named files name.now) result }
+    ensures told { (files : List StoredFile) → (F.told folder.old).files ≡ Some files →
+        Agrees (λ v. v.items) (F.told folder.old).steady (list_named files name.now) result }
     ensures few { IfOk result (λ v. length v.items ≤ 256) }
-    ensures files { F.files folder.new ≡ F.files folder.old }
-    ensures steady { F.steady folder.new ≡ F.steady folder.old }
-    ensures counted { CountsFault (F.faults folder.old) (F.faults folder.new) result }
+    ensures files { (F.told folder.new).files ≡ (F.told folder.old).files }
+    ensures steady { (F.told folder.new).steady ≡ (F.told folder.old).steady }
+    ensures counted { CountsFault (F.told folder.old).faults (F.told folder.new).faults result }
 {
     let bytes = load(alloc, folder, name, Input::List)?;
     match read_list(alloc, &bytes) {
@@ -85,12 +85,12 @@ pub fn read_listed<F: Folder>(
     folder: &mut F,
     names: &InputArgs<'_>,
 ) -> Result<Listed, Stop>
-    ensures told { (files : List StoredFile) → F.files folder.old ≡ Some files →
-        Agrees listed_seen (F.steady folder.old) (listing_of files (inputs_seen names.now)) result }
+    ensures told { (files : List StoredFile) → (F.told folder.old).files ≡ Some files →
+        Agrees listed_seen (F.told folder.old).steady (listing_of files (inputs_seen names.now)) result }
     ensures few { IfOk result (λ l. length l.lines.items ≤ 256) }
-    ensures files { F.files folder.new ≡ F.files folder.old }
-    ensures steady { F.steady folder.new ≡ F.steady folder.old }
-    ensures counted { CountsFault (F.faults folder.old) (F.faults folder.new) result }
+    ensures files { (F.told folder.new).files ≡ (F.told folder.old).files }
+    ensures steady { (F.told folder.new).steady ≡ (F.told folder.old).steady }
+    ensures counted { CountsFault (F.told folder.old).faults (F.told folder.new).faults result }
 {
     let constraints = read_constraints(alloc, folder, names)?;
     let lines = list_from(alloc, folder, names.scenario)?;
@@ -105,13 +105,13 @@ fn inputs_beside<F: Folder>(
     constraints: &Constraints,
     name: &str,
 ) -> Result<Inputs, Stop>
-    ensures told { (files : List StoredFile) → F.files folder.old ≡ Some files →
-        Agrees (λ i. i) (F.steady folder.old) (inputs_beside files constraints.now name.now) result }
+    ensures told { (files : List StoredFile) → (F.told folder.old).files ≡ Some files →
+        Agrees (λ i. i) (F.told folder.old).steady (inputs_beside files constraints.now name.now) result }
     ensures limits { IfOk result (λ i. IsWithinLimits i.scenario) }
     ensures stations { IfOk result (λ i. stations_of i.book ≡ facilities i.scenario) }
-    ensures files { F.files folder.new ≡ F.files folder.old }
-    ensures steady { F.steady folder.new ≡ F.steady folder.old }
-    ensures counted { CountsFault (F.faults folder.old) (F.faults folder.new) result }
+    ensures files { (F.told folder.new).files ≡ (F.told folder.old).files }
+    ensures steady { (F.told folder.new).steady ≡ (F.told folder.old).steady }
+    ensures counted { CountsFault (F.told folder.old).faults (F.told folder.new).faults result }
 {
     let scenario = scenario_from(alloc, folder, name)?;
     match join(alloc, &scenario, &constraints.domains, &constraints.pairs) {
@@ -134,8 +134,9 @@ fn explain_beside<'p, K: Sink>(
     scenario: &'p str,
     stop: Stop,
 ) -> u8
-    ensures explains { ExplainsHalt (record { domains = domains.now; rows = rows.now; scenario = scenario.now; owners = None }) stop (K.held out.old) (K.held out.new) (K.faults out.old) (K.faults out.new) result }
-    ensures counted { K.faults out.old ≤ K.faults out.new }
+    ensures explains { ExplainsHalt (record { domains = domains.now; rows = rows.now; scenario = scenario.now; owners = None }) stop
+        (K.told out.old).held (K.told out.new).held (K.told out.old).faults (K.told out.new).faults result }
+    ensures counted { (K.told out.old).faults ≤ (K.told out.new).faults }
 {
     let names = InputArgs {
         domains,
@@ -162,16 +163,14 @@ pub fn read_each<F: Folder, K: Sink>(
     files: &BatchArgs<'_>,
     listed: Listed,
 ) -> Result<ReadBatch, u8>
-    ensures told { IfOk result (λ b. (held : List StoredFile) → F.files folder.old ≡ Some held →
+    ensures told { IfOk result (λ b. (held : List StoredFile) → (F.told folder.old).files ≡ Some held →
         each_inputs held (batch_seen files.now) listed.constraints listed.lines.items ≡ Ok b.inputs.items) }
     ensures lines { IfOk result (λ b. b.lines ≡ listed.lines) }
     ensures many { IfOk result (λ b. length b.inputs.items ≡ length listed.lines.items) }
     ensures auctions { IfOk result (λ b. All (λ i. IsOfAuction i.scenario i.book) b.inputs.items) }
-    ensures same { OnOk result (outside (F.files folder.new) (F.faults folder.new) (F.steady folder.new) (K.held out.new) (K.faults out.new) (K.sure out.new)
-        ≡ outside (F.files folder.old) (F.faults folder.old) (F.steady folder.old) (K.held out.old) (K.faults out.old) (K.sure out.old)) }
+    ensures same { OnOk result (outside (F.told folder.new) (K.told out.new) ≡ outside (F.told folder.old) (K.told out.old)) }
     ensures stopped { IfErr result (IsReadingStopped (λ held. each_inputs held (batch_seen files.now) listed.constraints listed.lines.items) (IsUnderOneOf (batch_seen files.now) listed.lines.items)
-        (outside (F.files folder.old) (F.faults folder.old) (F.steady folder.old) (K.held out.old) (K.faults out.old) (K.sure out.old))
-        (outside (F.files folder.new) (F.faults folder.new) (F.steady folder.new) (K.held out.new) (K.faults out.new) (K.sure out.new))) }
+        (outside (F.told folder.old) (K.told out.old)) (outside (F.told folder.new) (K.told out.new))) }
 {
     let Ok(mut inputs) = Vec::with_capacity(alloc, listed.lines.len()) else {
         return Err(explain(out, &files.inputs_with(files.list), Stop::NoMemory));

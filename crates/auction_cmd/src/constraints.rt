@@ -29,11 +29,11 @@ fn refused_by(input: Input, why: ReadErr) -> Stop
 
 // Begins an input file.
 fn begin<F: Folder>(folder: &mut F, name: &str, input: Input) -> Result<(), Stop>
-    ensures told { (files : List StoredFile) → F.files folder.old ≡ Some files →
-        IsBegun (F.steady folder.old) (file_of files name.now input) (F.left folder.new) result }
-    ensures files { F.files folder.new ≡ F.files folder.old }
-    ensures steady { F.steady folder.new ≡ F.steady folder.old }
-    ensures counted { CountsFault (F.faults folder.old) (F.faults folder.new) result }
+    ensures told { (files : List StoredFile) → (F.told folder.old).files ≡ Some files →
+        IsBegun (F.told folder.old).steady (file_of files name.now input) (F.left folder.new) result }
+    ensures files { (F.told folder.new).files ≡ (F.told folder.old).files }
+    ensures steady { (F.told folder.new).steady ≡ (F.told folder.old).steady }
+    ensures counted { CountsFault (F.told folder.old).faults (F.told folder.new).faults result }
 {
     match folder.begin(name, FILE_LIMIT) {
         Ok(()) => Ok(()),
@@ -44,13 +44,13 @@ fn begin<F: Folder>(folder: &mut F, name: &str, input: Input) -> Result<(), Stop
 // Puts the next piece of the file that is begun in the place of the last one.
 fn next_piece<F: Folder>(folder: &mut F, input: Input, piece: &mut Vec<u8>) -> Result<(), Stop>
     ensures told { (rest : List ℕ) → F.left folder.old ≡ Some rest →
-        IsHandedOut (F.steady folder.old) rest (F.left folder.new) piece.new.items result }
+        IsHandedOut (F.told folder.old).steady rest (F.left folder.new) piece.new.items result }
     ensures come { F.come folder.new ≡ F.come folder.old + length piece.new.items }
     ensures most { F.most folder.new ≡ F.most folder.old }
     ensures within { F.come folder.new ≤ F.most folder.new }
-    ensures files { F.files folder.new ≡ F.files folder.old }
-    ensures steady { F.steady folder.new ≡ F.steady folder.old }
-    ensures counted { CountsFault (F.faults folder.old) (F.faults folder.new) result }
+    ensures files { (F.told folder.new).files ≡ (F.told folder.old).files }
+    ensures steady { (F.told folder.new).steady ≡ (F.told folder.old).steady }
+    ensures counted { CountsFault (F.told folder.old).faults (F.told folder.new).faults result }
 {
     match folder.piece(piece) {
         Ok(()) => Ok(()),
@@ -65,10 +65,10 @@ fn feed_domains<F: Folder>(
     reader: DomainReader,
 ) -> Result<DomainReader, Stop>
     ensures told { (done rest : List ℕ) → F.left folder.old ≡ Some rest → domains_fed done ≡ Ok reader →
-        IsFed (F.steady folder.old) (domains_fed (done ++ rest)) (rows_read Input.Domains (domains_of (done ++ rest))) result }
-    ensures files { F.files folder.new ≡ F.files folder.old }
-    ensures steady { F.steady folder.new ≡ F.steady folder.old }
-    ensures counted { CountsFault (F.faults folder.old) (F.faults folder.new) result }
+        IsFed (F.told folder.old).steady (domains_fed (done ++ rest)) (rows_read Input.Domains (domains_of (done ++ rest))) result }
+    ensures files { (F.told folder.new).files ≡ (F.told folder.old).files }
+    ensures steady { (F.told folder.new).steady ≡ (F.told folder.old).steady }
+    ensures counted { CountsFault (F.told folder.old).faults (F.told folder.new).faults result }
 {
     let mut reader = reader;
     let mut piece = Vec::new(alloc);
@@ -90,11 +90,12 @@ pub(crate) fn domains_from<F: Folder>(
     folder: &mut F,
     name: &str,
 ) -> Result<Domains, Stop>
-    ensures told { (files : List StoredFile) → F.files folder.old ≡ Some files →
-        Agrees (λ d. d) (F.steady folder.old) (and_then (file_of files name.now Input.Domains) (λ bytes. rows_read Input.Domains (domains_of bytes))) result }
-    ensures files { F.files folder.new ≡ F.files folder.old }
-    ensures steady { F.steady folder.new ≡ F.steady folder.old }
-    ensures counted { CountsFault (F.faults folder.old) (F.faults folder.new) result }
+    ensures told { (files : List StoredFile) → (F.told folder.old).files ≡ Some files →
+        Agrees (λ d. d) (F.told folder.old).steady
+        (and_then (file_of files name.now Input.Domains) (λ bytes. rows_read Input.Domains (domains_of bytes))) result }
+    ensures files { (F.told folder.new).files ≡ (F.told folder.old).files }
+    ensures steady { (F.told folder.new).steady ≡ (F.told folder.old).steady }
+    ensures counted { CountsFault (F.told folder.old).faults (F.told folder.new).faults result }
 {
     let Ok(reader) = DomainReader::make(alloc) else {
         return Err(Stop::NoMemory);
@@ -113,10 +114,11 @@ fn feed_pairs<'a, F: Folder>(
     reader: PairReader<'a>,
 ) -> Result<PairReader<'a>, Stop>
     ensures told { (done rest : List ℕ) (domains : List Domain) → F.left folder.old ≡ Some rest → pairs_fed done domains ≡ Ok reader.entry →
-        IsFed (F.steady folder.old) (pairs_fed (done ++ rest) domains) (rows_read Input.Rows (pairs_of (done ++ rest) domains)) result }
-    ensures files { F.files folder.new ≡ F.files folder.old }
-    ensures steady { F.steady folder.new ≡ F.steady folder.old }
-    ensures counted { CountsFault (F.faults folder.old) (F.faults folder.new) result }
+        IsFed (F.told folder.old).steady (pairs_fed (done ++ rest) domains)
+        (rows_read Input.Rows (pairs_of (done ++ rest) domains)) result }
+    ensures files { (F.told folder.new).files ≡ (F.told folder.old).files }
+    ensures steady { (F.told folder.new).steady ≡ (F.told folder.old).steady }
+    ensures counted { CountsFault (F.told folder.old).faults (F.told folder.new).faults result }
 {
     let mut reader = reader;
     let mut piece = Vec::new(alloc);
@@ -139,11 +141,12 @@ pub(crate) fn pairs_from<F: Folder>(
     name: &str,
     domains: &Domains,
 ) -> Result<Pairs, Stop>
-    ensures told { (files : List StoredFile) → F.files folder.old ≡ Some files →
-        Agrees (λ p. p) (F.steady folder.old) (and_then (file_of files name.now Input.Rows) (λ bytes. rows_read Input.Rows (pairs_of bytes domains.now))) result }
-    ensures files { F.files folder.new ≡ F.files folder.old }
-    ensures steady { F.steady folder.new ≡ F.steady folder.old }
-    ensures counted { CountsFault (F.faults folder.old) (F.faults folder.new) result }
+    ensures told { (files : List StoredFile) → (F.told folder.old).files ≡ Some files →
+        Agrees (λ p. p) (F.told folder.old).steady
+        (and_then (file_of files name.now Input.Rows) (λ bytes. rows_read Input.Rows (pairs_of bytes domains.now))) result }
+    ensures files { (F.told folder.new).files ≡ (F.told folder.old).files }
+    ensures steady { (F.told folder.new).steady ≡ (F.told folder.old).steady }
+    ensures counted { CountsFault (F.told folder.old).faults (F.told folder.new).faults result }
 {
     let Ok(reader) = PairReader::make(alloc, domains) else {
         return Err(Stop::NoMemory);

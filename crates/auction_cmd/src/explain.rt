@@ -2,7 +2,8 @@
 
 ghost use Rattle.std.specs.Prelude.{◌≡◌, ◌≤◌, [], None};
 ghost use Rattle.auction_cmd.specs.Ends.{ExplainsHalt};
-ghost use Rattle.auction_cmd.specs.Says.{Says, memory_line};
+ghost use Rattle.auction_cmd.specs.Outside.{Takes};
+ghost use Rattle.auction_cmd.specs.Says.{memory_line};
 ghost use Rattle.auction_cmd.specs.Statuses.{NO_MEMORY};
 ghost use Rattle.auction_cmd.specs.Words.{inputs_seen};
 
@@ -16,8 +17,9 @@ use outside_io::sink::Sink;
 
 /// Says why these inputs were not read, and gives the status for it. It takes no memory.
 pub fn explain<K: Sink>(out: &mut K, files: &InputArgs<'_>, stop: Stop) -> u8
-    ensures explains { ExplainsHalt (inputs_seen files.now) stop (K.held out.old) (K.held out.new) (K.faults out.old) (K.faults out.new) result }
-    ensures counted { K.faults out.old ≤ K.faults out.new }
+    ensures explains { ExplainsHalt (inputs_seen files.now) stop
+        (K.told out.old).held (K.told out.new).held (K.told out.old).faults (K.told out.new).faults result }
+    ensures counted { (K.told out.old).faults ≤ (K.told out.new).faults }
 {
     match stop {
         Stop::CannotRead(input) => {
@@ -37,8 +39,8 @@ pub fn explain<K: Sink>(out: &mut K, files: &InputArgs<'_>, stop: Stop) -> u8
 
 /// Says that memory ran out. It takes none.
 pub fn say_memory<K: Sink>(out: &mut K)
-    ensures says { Says (K.held out.old) (K.held out.new) (K.faults out.old) (K.faults out.new) memory_line }
-    ensures counted { K.faults out.old ≤ K.faults out.new }
+    ensures says { Takes (K.told out.old) (K.told out.new) memory_line }
+    ensures counted { (K.told out.old).faults ≤ (K.told out.new).faults }
 {
     say(out, &["out of memory\n"]);
 }
@@ -49,7 +51,7 @@ pub fn starve<K: Sink>(out: &mut K) -> Finish
     ensures none { result.result ≡ None }
     ensures no_other { result.below ≡ None }
     ensures no_batch { result.batch ≡ [] }
-    ensures line { Says (K.held out.old) (K.held out.new) (K.faults out.old) (K.faults out.new) memory_line }
+    ensures line { Takes (K.told out.old) (K.told out.new) memory_line }
 {
     say_memory(out);
     Finish::without_record(NO_MEMORY)

@@ -62,7 +62,8 @@ fn settled_by(
 
 // Says why the log of this name settled nothing. It gives the status.
 fn say_unsettled<K: Sink>(out: &mut K, name: &str, why: SettleErr) -> u8
-    ensures { ExplainsLog name.now why (K.held out.old) (K.held out.new) (K.faults out.old) (K.faults out.new) result }
+    ensures { ExplainsLog name.now why
+        (K.told out.old).held (K.told out.new).held (K.told out.old).faults (K.told out.new).faults result }
 {
     if let SettleErr::NoMemory = why {
         say_memory(out);
@@ -101,13 +102,9 @@ fn deliver<F: Folder, K: Sink>(
 ) -> u8
     ensures delivers { Delivers (pair_of_texts (import_seen names.now) texts.now.result.items texts.now.transcript.items)
         texts.now.summary.items done
-        (outside (F.files folder.old) (F.faults folder.old) (F.steady folder.old) (K.held out.old) (K.faults out.old) (K.sure out.old))
-        (outside (F.files folder.new) (F.faults folder.new) (F.steady folder.new) (K.held out.new) (K.faults out.new) (K.sure out.new))
-        result }
+        (outside (F.told folder.old) (K.told out.old)) (outside (F.told folder.new) (K.told out.new)) result }
     ensures counted { AreFaultsCounted
-        (outside (F.files folder.old) (F.faults folder.old) (F.steady folder.old) (K.held out.old) (K.faults out.old) (K.sure out.old))
-        (outside (F.files folder.new) (F.faults folder.new) (F.steady folder.new) (K.held out.new) (K.faults out.new) (K.sure out.new))
-        result }
+        (outside (F.told folder.old) (K.told out.old)) (outside (F.told folder.new) (K.told out.new)) result }
 {
     if let Err(status) = store(folder, out, names.result, &texts.result) {
         return status;
@@ -131,15 +128,11 @@ pub fn import<F: Folder, K: Sink>(
     out: &mut K,
 ) -> Finish
     ensures ends { ImportEnds (import_seen files.now)
-        (outside (F.files folder.old) (F.faults folder.old) (F.steady folder.old) (K.held out.old) (K.faults out.old) (K.sure out.old))
-        (outside (F.files folder.new) (F.faults folder.new) (F.steady folder.new) (K.held out.new) (K.faults out.new) (K.sure out.new))
-        result.status result.result }
+        (outside (F.told folder.old) (K.told out.old)) (outside (F.told folder.new) (K.told out.new)) result.status result.result }
     ensures no_other { result.below ≡ None }
     ensures no_batch { result.batch ≡ [] }
     ensures counted { AreFaultsCounted
-        (outside (F.files folder.old) (F.faults folder.old) (F.steady folder.old) (K.held out.old) (K.faults out.old) (K.sure out.old))
-        (outside (F.files folder.new) (F.faults folder.new) (F.steady folder.new) (K.held out.new) (K.faults out.new) (K.sure out.new))
-        result.status }
+        (outside (F.told folder.old) (K.told out.old)) (outside (F.told folder.new) (K.told out.new)) result.status }
 {
     let ShownAuction { inputs, record } = match shown_by(alloc, &files.shown, folder, out) {
         Ok(shown) => shown,

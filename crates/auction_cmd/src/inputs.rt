@@ -75,11 +75,11 @@ pub(crate) fn load<F: Folder>(
     name: &str,
     input: Input,
 ) -> Result<Vec<u8>, Stop>
-    ensures told { (files : List StoredFile) → F.files folder.old ≡ Some files →
-        Agrees (λ v. v.items) (F.steady folder.old) (file_of files name.now input) result }
-    ensures files { F.files folder.new ≡ F.files folder.old }
-    ensures steady { F.steady folder.new ≡ F.steady folder.old }
-    ensures counted { CountsFault (F.faults folder.old) (F.faults folder.new) result }
+    ensures told { (files : List StoredFile) → (F.told folder.old).files ≡ Some files →
+        Agrees (λ v. v.items) (F.told folder.old).steady (file_of files name.now input) result }
+    ensures files { (F.told folder.new).files ≡ (F.told folder.old).files }
+    ensures steady { (F.told folder.new).steady ≡ (F.told folder.old).steady }
+    ensures counted { CountsFault (F.told folder.old).faults (F.told folder.new).faults result }
 {
     let mut bytes = Vec::new(alloc);
     match folder.load(name, FILE_LIMIT, &mut bytes) {
@@ -94,12 +94,13 @@ pub(crate) fn scenario_from<F: Folder>(
     folder: &mut F,
     name: &str,
 ) -> Result<Scenario, Stop>
-    ensures told { (files : List StoredFile) → F.files folder.old ≡ Some files →
-        Agrees (λ sc. sc) (F.steady folder.old) (and_then (file_of files name.now Input.Scenario) (λ bytes. scenario_read (scenario_of bytes))) result }
+    ensures told { (files : List StoredFile) → (F.told folder.old).files ≡ Some files →
+        Agrees (λ sc. sc) (F.told folder.old).steady
+        (and_then (file_of files name.now Input.Scenario) (λ bytes. scenario_read (scenario_of bytes))) result }
     ensures limits { IfOk result IsWithinLimits }
-    ensures files { F.files folder.new ≡ F.files folder.old }
-    ensures steady { F.steady folder.new ≡ F.steady folder.old }
-    ensures counted { CountsFault (F.faults folder.old) (F.faults folder.new) result }
+    ensures files { (F.told folder.new).files ≡ (F.told folder.old).files }
+    ensures steady { (F.told folder.new).steady ≡ (F.told folder.old).steady }
+    ensures counted { CountsFault (F.told folder.old).faults (F.told folder.new).faults result }
 {
     let bytes = load(alloc, folder, name, Input::Scenario)?;
     match read_scenario(alloc, &bytes) {
@@ -115,13 +116,13 @@ fn read_valued<F: Folder>(
     folder: &mut F,
     names: &InputArgs<'_>,
 ) -> Result<Inputs, Stop>
-    ensures told { (files : List StoredFile) → F.files folder.old ≡ Some files →
-        Agrees (λ i. i) (F.steady folder.old) (valued_of files (inputs_seen names.now)) result }
+    ensures told { (files : List StoredFile) → (F.told folder.old).files ≡ Some files →
+        Agrees (λ i. i) (F.told folder.old).steady (valued_of files (inputs_seen names.now)) result }
     ensures limits { IfOk result (λ i. IsWithinLimits i.scenario) }
     ensures stations { IfOk result (λ i. stations_of i.book ≡ facilities i.scenario) }
-    ensures files { F.files folder.new ≡ F.files folder.old }
-    ensures steady { F.steady folder.new ≡ F.steady folder.old }
-    ensures counted { CountsFault (F.faults folder.old) (F.faults folder.new) result }
+    ensures files { (F.told folder.new).files ≡ (F.told folder.old).files }
+    ensures steady { (F.told folder.new).steady ≡ (F.told folder.old).steady }
+    ensures counted { CountsFault (F.told folder.old).faults (F.told folder.new).faults result }
 {
     let sources = read_sources(alloc, folder, names)?;
     let book = book_of(alloc, &sources)?;
@@ -149,11 +150,11 @@ fn owners_from<F: Folder>(
     scenario: &Scenario,
 ) -> Result<Owners, Stop>
     requires { IsWithinLimits scenario.now }
-    ensures told { (files : List StoredFile) → F.files folder.old ≡ Some files →
-        Agrees (λ lines. lines) (F.steady folder.old) (said_in files name.now scenario.now) result }
-    ensures files { F.files folder.new ≡ F.files folder.old }
-    ensures steady { F.steady folder.new ≡ F.steady folder.old }
-    ensures counted { CountsFault (F.faults folder.old) (F.faults folder.new) result }
+    ensures told { (files : List StoredFile) → (F.told folder.old).files ≡ Some files →
+        Agrees (λ lines. lines) (F.told folder.old).steady (said_in files name.now scenario.now) result }
+    ensures files { (F.told folder.new).files ≡ (F.told folder.old).files }
+    ensures steady { (F.told folder.new).steady ≡ (F.told folder.old).steady }
+    ensures counted { CountsFault (F.told folder.old).faults (F.told folder.new).faults result }
 {
     let ids = ids_of(alloc, scenario)?;
     let falls = last_round(scenario) - 1;
@@ -173,13 +174,13 @@ fn with_said<F: Folder>(
     inputs: Inputs,
 ) -> Result<Inputs, Stop>
     requires { IsWithinLimits inputs.scenario }
-    ensures told { (files : List StoredFile) → F.files folder.old ≡ Some files →
-        Agrees (λ i. i) (F.steady folder.old) (with_said files (option_map (λ n. n.now) name.entry) inputs) result }
+    ensures told { (files : List StoredFile) → (F.told folder.old).files ≡ Some files →
+        Agrees (λ i. i) (F.told folder.old).steady (with_said files (option_map (λ n. n.now) name.entry) inputs) result }
     ensures limits { IfOk result (λ i. IsWithinLimits i.scenario) }
     ensures stations { IfOk result (λ i. (i.book ≡ inputs.book) × (facilities i.scenario ≡ facilities inputs.scenario)) }
-    ensures files { F.files folder.new ≡ F.files folder.old }
-    ensures steady { F.steady folder.new ≡ F.steady folder.old }
-    ensures counted { CountsFault (F.faults folder.old) (F.faults folder.new) result }
+    ensures files { (F.told folder.new).files ≡ (F.told folder.old).files }
+    ensures steady { (F.told folder.new).steady ≡ (F.told folder.old).steady }
+    ensures counted { CountsFault (F.told folder.old).faults (F.told folder.new).faults result }
 {
     let Some(name) = name else {
         return Ok(inputs);
@@ -199,13 +200,13 @@ pub fn read_inputs<F: Folder>(
     names: &InputArgs<'_>,
 ) -> Result<Inputs, Stop>
     // The answer is what the files hold.
-    ensures told { (files : List StoredFile) → F.files folder.old ≡ Some files →
-        Agrees (λ i. i) (F.steady folder.old) (inputs_of files (inputs_seen names.now)) result }
+    ensures told { (files : List StoredFile) → (F.told folder.old).files ≡ Some files →
+        Agrees (λ i. i) (F.told folder.old).steady (inputs_of files (inputs_seen names.now)) result }
     ensures limits { IfOk result (λ i. IsWithinLimits i.scenario) }
     ensures stations { IfOk result (λ i. stations_of i.book ≡ facilities i.scenario) }
-    ensures files { F.files folder.new ≡ F.files folder.old }
-    ensures steady { F.steady folder.new ≡ F.steady folder.old }
-    ensures counted { CountsFault (F.faults folder.old) (F.faults folder.new) result }
+    ensures files { (F.told folder.new).files ≡ (F.told folder.old).files }
+    ensures steady { (F.told folder.new).steady ≡ (F.told folder.old).steady }
+    ensures counted { CountsFault (F.told folder.old).faults (F.told folder.new).faults result }
 {
     let inputs = read_valued(alloc, folder, names)?;
     with_said(alloc, folder, names.owners, inputs)

@@ -121,16 +121,13 @@ fn store_files<F: Folder, K: Sink>(
     made: &Made,
 ) -> Result<(), u8>
     ensures stored { OnOk result (AreAllStored (texts_under (inputs_seen names.now) made.now.domains.items made.now.rows.items made.now.scenario.items)
-        (outside (F.files folder.old) (F.faults folder.old) (F.steady folder.old) (K.held out.old) (K.faults out.old) (K.sure out.old))
-        (outside (F.files folder.new) (F.faults folder.new) (F.steady folder.new) (K.held out.new) (K.faults out.new) (K.sure out.new))) }
-    ensures uncounted { OnOk result (F.faults folder.new ≡ F.faults folder.old) }
-    ensures unsaid { OnOk result (K.faults out.new ≡ K.faults out.old) }
+        (outside (F.told folder.old) (K.told out.old)) (outside (F.told folder.new) (K.told out.new))) }
+    ensures uncounted { OnOk result ((F.told folder.new).faults ≡ (F.told folder.old).faults) }
+    ensures unsaid { OnOk result ((K.told out.new).faults ≡ (K.told out.old).faults) }
     ensures counted { IfErr result (AreFaultsCounted
-        (outside (F.files folder.old) (F.faults folder.old) (F.steady folder.old) (K.held out.old) (K.faults out.old) (K.sure out.old))
-        (outside (F.files folder.new) (F.faults folder.new) (F.steady folder.new) (K.held out.new) (K.faults out.new) (K.sure out.new))) }
+        (outside (F.told folder.old) (K.told out.old)) (outside (F.told folder.new) (K.told out.new))) }
     ensures stopped { IfErr result (StopsAtOne (texts_under (inputs_seen names.now) made.now.domains.items made.now.rows.items made.now.scenario.items)
-        (outside (F.files folder.old) (F.faults folder.old) (F.steady folder.old) (K.held out.old) (K.faults out.old) (K.sure out.old))
-        (outside (F.files folder.new) (F.faults folder.new) (F.steady folder.new) (K.held out.new) (K.faults out.new) (K.sure out.new))) }
+        (outside (F.told folder.old) (K.told out.old)) (outside (F.told folder.new) (K.told out.new))) }
 {
     if let Err(status) = store(folder, out, names.domains, &made.domains) {
         return Err(status);
@@ -158,15 +155,11 @@ pub fn make<F: Folder, K: Sink, G: Gate + Sync, W: Threads + Wait + Sync>(
     requires some { 1 ≤ files.now.size }
     requires most { files.now.size ≤ 4096 }
     ensures ends { MakeEnds (make_seen files.now)
-        (outside (F.files folder.old) (F.faults folder.old) (F.steady folder.old) (K.held out.old) (K.faults out.old) (K.sure out.old))
-        (outside (F.files folder.new) (F.faults folder.new) (F.steady folder.new) (K.held out.new) (K.faults out.new) (K.sure out.new))
-        result.status result.result }
+        (outside (F.told folder.old) (K.told out.old)) (outside (F.told folder.new) (K.told out.new)) result.status result.result }
     ensures no_other { result.below ≡ None }
     ensures no_batch { result.batch ≡ [] }
     ensures counted { AreFaultsCounted
-        (outside (F.files folder.old) (F.faults folder.old) (F.steady folder.old) (K.held out.old) (K.faults out.old) (K.sure out.old))
-        (outside (F.files folder.new) (F.faults folder.new) (F.steady folder.new) (K.held out.new) (K.faults out.new) (K.sure out.new))
-        result.status }
+        (outside (F.told folder.old) (K.told out.old)) (outside (F.told folder.new) (K.told out.new)) result.status }
 {
     let Ok(made) = make_files(alloc, files.seed, files.size) else {
         return starve(out);

@@ -44,12 +44,12 @@ fn read_seekable<F: Folder>(
     folder: &mut F,
     names: &InputArgs<'_>,
 ) -> Result<Sources, Stop>
-    ensures told { (files : List StoredFile) → F.files folder.old ≡ Some files →
-        Agrees (λ s. s) (F.steady folder.old) (seekable_of files (inputs_seen names.now)) result }
+    ensures told { (files : List StoredFile) → (F.told folder.old).files ≡ Some files →
+        Agrees (λ s. s) (F.told folder.old).steady (seekable_of files (inputs_seen names.now)) result }
     ensures seekable { IfOk result (λ s. IsSeekable (base_of s)) }
-    ensures files { F.files folder.new ≡ F.files folder.old }
-    ensures steady { F.steady folder.new ≡ F.steady folder.old }
-    ensures counted { CountsFault (F.faults folder.old) (F.faults folder.new) result }
+    ensures files { (F.told folder.new).files ≡ (F.told folder.old).files }
+    ensures steady { (F.told folder.new).steady ≡ (F.told folder.old).steady }
+    ensures counted { CountsFault (F.told folder.old).faults (F.told folder.new).faults result }
 {
     let sources = read_sources(alloc, folder, names)?;
     let _ = book_of(alloc, &sources)?;
@@ -100,13 +100,9 @@ fn deliver<F: Folder, K: Sink>(
     done: u8,
 ) -> u8
     ensures delivers { Delivers (named name.now texts.now.channels.items ∷ []) texts.now.top.items done
-        (outside (F.files folder.old) (F.faults folder.old) (F.steady folder.old) (K.held out.old) (K.faults out.old) (K.sure out.old))
-        (outside (F.files folder.new) (F.faults folder.new) (F.steady folder.new) (K.held out.new) (K.faults out.new) (K.sure out.new))
-        result }
+        (outside (F.told folder.old) (K.told out.old)) (outside (F.told folder.new) (K.told out.new)) result }
     ensures counted { AreFaultsCounted
-        (outside (F.files folder.old) (F.faults folder.old) (F.steady folder.old) (K.held out.old) (K.faults out.old) (K.sure out.old))
-        (outside (F.files folder.new) (F.faults folder.new) (F.steady folder.new) (K.held out.new) (K.faults out.new) (K.sure out.new))
-        result }
+        (outside (F.told folder.old) (K.told out.old)) (outside (F.told folder.new) (K.told out.new)) result }
 {
     if let Err(status) = store(folder, out, name, &texts.channels) {
         return status;
@@ -129,14 +125,11 @@ pub fn seek<F: Folder, K: Sink, G: Gate + Sync, W: Threads + Wait + Sync>(
     gate: &G,
 ) -> Finish
     ensures ends { SeekEnds (seek_seen files.now)
-        (outside (F.files folder.old) (F.faults folder.old) (F.steady folder.old) (K.held out.old) (K.faults out.old) (K.sure out.old))
-        (outside (F.files folder.new) (F.faults folder.new) (F.steady folder.new) (K.held out.new) (K.faults out.new) (K.sure out.new))
+        (outside (F.told folder.old) (K.told out.old)) (outside (F.told folder.new) (K.told out.new))
         result.status result.result result.below }
     ensures no_batch { result.batch ≡ [] }
     ensures counted { AreFaultsCounted
-        (outside (F.files folder.old) (F.faults folder.old) (F.steady folder.old) (K.held out.old) (K.faults out.old) (K.sure out.old))
-        (outside (F.files folder.new) (F.faults folder.new) (F.steady folder.new) (K.held out.new) (K.faults out.new) (K.sure out.new))
-        result.status }
+        (outside (F.told folder.old) (K.told out.old)) (outside (F.told folder.new) (K.told out.new)) result.status }
 {
     let names = files.inputs();
     let sources = match read_seekable(alloc, folder, &names) {

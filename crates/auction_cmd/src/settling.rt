@@ -1,7 +1,7 @@
 //! Which step of a verified record can be exported or settled, and the lines of what is at fault with a step and with a log.
 
 ghost use Rattle.std.specs.Prelude.{◌≡◌, ◌≤◌, ◌++◌, decimal, option_map};
-ghost use Rattle.auction_cmd.specs.Says.{Says};
+ghost use Rattle.auction_cmd.specs.Outside.{Takes};
 ghost use Rattle.auction_cmd.specs.Settling.{unsettled_line, missing_fault, open_fault, step_line, step_why, unlogged_text};
 ghost use Rattle.open_tests.specs.Queries.{step_at};
 
@@ -65,8 +65,8 @@ fn step_why(fault: StepFault) -> &'static str
 
 /// Says why the step of this number isn't exported or settled. It takes no memory.
 pub fn say_step<K: Sink>(out: &mut K, step: u32, fault: StepFault)
-    ensures says { Says (K.held out.old) (K.held out.new) (K.faults out.old) (K.faults out.new) (step_line step fault) }
-    ensures counted { K.faults out.old ≤ K.faults out.new }
+    ensures says { Takes (K.told out.old) (K.told out.new) (step_line step fault) }
+    ensures counted { (K.told out.old).faults ≤ (K.told out.new).faults }
 {
     let mut number = Buffer::new();
     say(out, &["step ", number.format(step), step_why(fault)]);
@@ -75,8 +75,8 @@ pub fn say_step<K: Sink>(out: &mut K, step: u32, fault: StepFault)
 // Says why the text of this name is none of a log.
 #[tactic(auto, unfolding(crate::specs::Settling::unlogged_text))]
 fn say_unread<K: Sink>(out: &mut K, name: &str, why: LratErr)
-    ensures says { Says (K.held out.old) (K.held out.new) (K.faults out.old) (K.faults out.new) (name.now ++ unlogged_text why) }
-    ensures counted { K.faults out.old ≤ K.faults out.new }
+    ensures says { Takes (K.told out.old) (K.told out.new) (name.now ++ unlogged_text why) }
+    ensures counted { (K.told out.old).faults ≤ (K.told out.new).faults }
 {
     match why {
         LratErr::Truncated => say(out, &[name, ": truncated\n"]),
@@ -89,8 +89,8 @@ fn say_unread<K: Sink>(out: &mut K, name: &str, why: LratErr)
 /// Says why the log of this name doesn't settle the step. It takes no memory.
 #[tactic(auto, unfolding(crate::specs::Settling::log_why))]
 pub fn say_log<K: Sink>(out: &mut K, name: &str, fault: SettleErr)
-    ensures says { Says (K.held out.old) (K.held out.new) (K.faults out.old) (K.faults out.new) (unsettled_line name.now fault) }
-    ensures counted { K.faults out.old ≤ K.faults out.new }
+    ensures says { Takes (K.told out.old) (K.told out.new) (unsettled_line name.now fault) }
+    ensures counted { (K.told out.old).faults ≤ (K.told out.new).faults }
 {
     match fault {
         SettleErr::Unread(why) => say_unread(out, name, why),

@@ -53,11 +53,12 @@ fn read_text<F: Folder>(
     name: &str,
 ) -> Result<TranscriptReader, LoadErr>
     requires { IsWithinLimits inputs.now.scenario }
-    ensures read { IsTextRead inputs.now (F.files folder.old) (F.steady folder.old) (F.faults folder.old) (F.faults folder.new) name.now result }
-    ensures files { F.files folder.new ≡ F.files folder.old }
-    ensures steady { F.steady folder.new ≡ F.steady folder.old }
-    ensures counted { F.faults folder.old ≤ F.faults folder.new }
-    ensures uncounted { result ≢ Err LoadErr.Failed → F.faults folder.new ≡ F.faults folder.old }
+    ensures read { IsTextRead inputs.now
+        (F.told folder.old).files (F.told folder.old).steady (F.told folder.old).faults (F.told folder.new).faults name.now result }
+    ensures files { (F.told folder.new).files ≡ (F.told folder.old).files }
+    ensures steady { (F.told folder.new).steady ≡ (F.told folder.old).steady }
+    ensures counted { (F.told folder.old).faults ≤ (F.told folder.new).faults }
+    ensures uncounted { result ≢ Err LoadErr.Failed → (F.told folder.new).faults ≡ (F.told folder.old).faults }
 {
     let mut reader = TranscriptReader::new(alloc);
     let mut piece = Vec::new(alloc);
@@ -77,11 +78,12 @@ pub(crate) fn file_bytes<F: Folder>(
     folder: &mut F,
     name: &str,
 ) -> Result<Vec<u8>, LoadErr>
-    ensures read { IsFileRead (F.files folder.old) (F.steady folder.old) (F.faults folder.old) (F.faults folder.new) name.now result }
-    ensures files { F.files folder.new ≡ F.files folder.old }
-    ensures steady { F.steady folder.new ≡ F.steady folder.old }
-    ensures counted { F.faults folder.old ≤ F.faults folder.new }
-    ensures uncounted { result ≢ Err LoadErr.Failed → F.faults folder.new ≡ F.faults folder.old }
+    ensures read { IsFileRead (F.told folder.old).files (F.told folder.old).steady
+        (F.told folder.old).faults (F.told folder.new).faults name.now result }
+    ensures files { (F.told folder.new).files ≡ (F.told folder.old).files }
+    ensures steady { (F.told folder.new).steady ≡ (F.told folder.old).steady }
+    ensures counted { (F.told folder.old).faults ≤ (F.told folder.new).faults }
+    ensures uncounted { result ≢ Err LoadErr.Failed → (F.told folder.new).faults ≡ (F.told folder.old).faults }
 {
     let mut bytes = Vec::new(alloc);
     folder.load(name, FILE_LIMIT, &mut bytes)?;
@@ -90,7 +92,8 @@ pub(crate) fn file_bytes<F: Folder>(
 
 /// Says why the file of this name was not loaded. It gives the status, and takes no memory.
 pub fn say_unloaded<K: Sink>(out: &mut K, name: &str, why: LoadErr) -> u8
-    ensures { ExplainsLoad name.now why (K.held out.old) (K.held out.new) (K.faults out.old) (K.faults out.new) result }
+    ensures { ExplainsLoad name.now why
+        (K.told out.old).held (K.told out.new).held (K.told out.old).faults (K.told out.new).faults result }
 {
     match why {
         LoadErr::Failed => {
@@ -149,7 +152,8 @@ fn record_of(alloc: Global, inputs: &Inputs, read: TranscriptReader) -> Result<R
 
 /// Says why there is no record of the transcript of this name. It gives the status.
 pub(crate) fn say_denied<K: Sink>(out: &mut K, name: &str, why: Denied) -> u8
-    ensures { ExplainsDenied name.now why (K.held out.old) (K.held out.new) (K.faults out.old) (K.faults out.new) result }
+    ensures { ExplainsDenied name.now why
+        (K.told out.old).held (K.told out.new).held (K.told out.old).faults (K.told out.new).faults result }
 {
     match why {
         Denied::Fault(fault) => {
@@ -172,22 +176,16 @@ pub fn shown_by<F: Folder, K: Sink>(
     out: &mut K,
 ) -> Result<ShownAuction, Finish>
     ensures shown { IfOk result (λ s. IsShown (verify_seen files.now)
-        (outside (F.files folder.old) (F.faults folder.old) (F.steady folder.old) (K.held out.old) (K.faults out.old) (K.sure out.old))
-        s.inputs s.record) }
+        (outside (F.told folder.old) (K.told out.old)) s.inputs s.record) }
     ensures limits { IfOk result (λ s. IsOfAuction s.inputs.scenario s.inputs.book) }
-    ensures same { OnOk result (outside (F.files folder.new) (F.faults folder.new) (F.steady folder.new) (K.held out.new) (K.faults out.new) (K.sure out.new)
-        ≡ outside (F.files folder.old) (F.faults folder.old) (F.steady folder.old) (K.held out.old) (K.faults out.old) (K.sure out.old)) }
+    ensures same { OnOk result (outside (F.told folder.new) (K.told out.new) ≡ outside (F.told folder.old) (K.told out.old)) }
     ensures ends { IfErr result (λ finish. VerifyEnds (verify_seen files.now)
-        (outside (F.files folder.old) (F.faults folder.old) (F.steady folder.old) (K.held out.old) (K.faults out.old) (K.sure out.old))
-        (outside (F.files folder.new) (F.faults folder.new) (F.steady folder.new) (K.held out.new) (K.faults out.new) (K.sure out.new))
-        finish.status finish.result) }
+        (outside (F.told folder.old) (K.told out.old)) (outside (F.told folder.new) (K.told out.new)) finish.status finish.result) }
     ensures none { IfErr result (λ finish. finish.result ≡ None) }
     ensures no_other { IfErr result (λ finish. finish.below ≡ None) }
     ensures no_batch { IfErr result (λ finish. finish.batch ≡ []) }
     ensures counted { IfErr result (λ finish. AreFaultsCounted
-        (outside (F.files folder.old) (F.faults folder.old) (F.steady folder.old) (K.held out.old) (K.faults out.old) (K.sure out.old))
-        (outside (F.files folder.new) (F.faults folder.new) (F.steady folder.new) (K.held out.new) (K.faults out.new) (K.sure out.new))
-        finish.status) }
+        (outside (F.told folder.old) (K.told out.old)) (outside (F.told folder.new) (K.told out.new)) finish.status) }
 {
     let inputs = match read_inputs(alloc, folder, &files.inputs) {
         Ok(inputs) => inputs,

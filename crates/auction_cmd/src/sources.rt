@@ -34,12 +34,12 @@ pub fn read_sources<F: Folder>(
     folder: &mut F,
     names: &InputArgs<'_>,
 ) -> Result<Sources, Stop>
-    ensures told { (files : List StoredFile) → F.files folder.old ≡ Some files →
-        Agrees (λ s. s) (F.steady folder.old) (sources_of files (inputs_seen names.now)) result }
+    ensures told { (files : List StoredFile) → (F.told folder.old).files ≡ Some files →
+        Agrees (λ s. s) (F.told folder.old).steady (sources_of files (inputs_seen names.now)) result }
     ensures limits { IfOk result (λ s. IsWithinLimits s.scenario) }
-    ensures files { F.files folder.new ≡ F.files folder.old }
-    ensures steady { F.steady folder.new ≡ F.steady folder.old }
-    ensures counted { CountsFault (F.faults folder.old) (F.faults folder.new) result }
+    ensures files { (F.told folder.new).files ≡ (F.told folder.old).files }
+    ensures steady { (F.told folder.new).steady ≡ (F.told folder.old).steady }
+    ensures counted { CountsFault (F.told folder.old).faults (F.told folder.new).faults result }
 {
     let domains = domains_from(alloc, folder, names.domains)?;
     let pairs = pairs_from(alloc, folder, names.rows, &domains)?;

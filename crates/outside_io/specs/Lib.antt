@@ -1,4 +1,5 @@
 pub mod Files
+pub mod Told
 pub mod Faults
 pub mod Loads
 pub mod Pieces

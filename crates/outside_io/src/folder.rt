@@ -1,9 +1,10 @@
 //! What a program asks of the files outside: the trait `Folder`, and why a call of it fails.
-ghost use Rattle.std.specs.Prelude.{◌≡◌, ◌≢◌, ◌<◌, ◌≤◌, ◌+◌, ℕ, [], List, Option, Bool, true, Some, OnErr, OnOk, length};
+ghost use Rattle.std.specs.Prelude.{◌≡◌, ◌≢◌, ◌<◌, ◌≤◌, ◌+◌, ℕ, [], List, Option, true, Some, OnErr, OnOk, length};
 ghost use Rattle.outside_io.specs.Files.{StoredFile, bytes_of};
 ghost use Rattle.outside_io.specs.Faults.{HasRisen};
 ghost use Rattle.outside_io.specs.Loads.{Loads, Stores};
 ghost use Rattle.outside_io.specs.Pieces.{Begins, HandsOut, piece_size};
+ghost use Rattle.outside_io.specs.Told.{FolderTold};
 
 use std::alloc::AllocError;
 
@@ -51,14 +52,8 @@ impl From<AllocError> for StoreErr {
 /// Files by name. One file at a time may be read in pieces: it is begun, and then handed out piece by piece. Loads and stores
 /// leave it as it is.
 pub trait Folder {
-    /// The files, where the folder tells them.
-    ghost files: { Self → Option (List StoredFile) };
-
-    /// How often the outside failed. A call that doesn't answer `Failed` leaves it as it is.
-    ghost faults: { Self → ℕ };
-
-    /// The outside never fails: a store and a piece don't, and a load and a beginning do so only for a name that isn't there.
-    ghost steady: { Self → Bool };
+    /// The files, where the folder tells them, how often the outside failed, and whether it never does.
+    ghost told: { Self → FolderTold };
 
     /// The bytes of the file that is begun which are not handed out yet, where the folder tells them. Where no file is begun,
     /// each folder tells that no bytes are left.
@@ -72,49 +67,49 @@ pub trait Folder {
 
     /// Loads a file of at most `limit` bytes into `into`, which is empty after an error.
     fn load(&mut self, name: &str, limit: u64, into: &mut Vec<u8>) -> Result<(), LoadErr>
-        ensures told { Loads (files self.old) name.now limit result into.new.items }
+        ensures told { Loads (told self.old).files name.now limit result into.new.items }
         ensures within { OnOk result (length into.new.items ≤ limit) }
         ensures empty { OnErr result (into.new.items ≡ []) }
-        ensures files { files self.new ≡ files self.old }
-        ensures counted { faults self.old ≤ faults self.new }
-        ensures failed { result ≡ Err LoadErr.Failed → HasRisen (faults self.old) (faults self.new) }
-        ensures uncounted { result ≢ Err LoadErr.Failed → faults self.new ≡ faults self.old }
+        ensures files { (told self.new).files ≡ (told self.old).files }
+        ensures counted { (told self.old).faults ≤ (told self.new).faults }
+        ensures failed { result ≡ Err LoadErr.Failed → HasRisen (told self.old).faults (told self.new).faults }
+        ensures uncounted { result ≢ Err LoadErr.Failed → (told self.new).faults ≡ (told self.old).faults }
         ensures left { left self.new ≡ left self.old }
         ensures come { come self.new ≡ come self.old }
         ensures most { most self.new ≡ most self.old }
-        ensures steady { steady self.new ≡ steady self.old }
-        ensures surely { (told : List StoredFile) (bytes : List ℕ) →
-            steady self.old ≡ true → files self.old ≡ Some told → bytes_of told name.now ≡ Some bytes →
+        ensures steady { (told self.new).steady ≡ (told self.old).steady }
+        ensures surely { (files : List StoredFile) (bytes : List ℕ) →
+            (told self.old).steady ≡ true → (told self.old).files ≡ Some files → bytes_of files name.now ≡ Some bytes →
             result ≢ Err LoadErr.Failed };
 
     /// Stores these bytes under the name, in place of what it held. After an error the name may hold anything, or be gone,
     /// and the other files are what they were.
     fn store(&mut self, name: &str, bytes: &[u8]) -> Result<(), StoreErr>
-        ensures told { Stores (files self.old) (files self.new) name.now bytes.now result }
-        ensures counted { faults self.old ≤ faults self.new }
-        ensures failed { result ≡ Err StoreErr.Failed → HasRisen (faults self.old) (faults self.new) }
-        ensures uncounted { result ≢ Err StoreErr.Failed → faults self.new ≡ faults self.old }
+        ensures told { Stores (told self.old).files (told self.new).files name.now bytes.now result }
+        ensures counted { (told self.old).faults ≤ (told self.new).faults }
+        ensures failed { result ≡ Err StoreErr.Failed → HasRisen (told self.old).faults (told self.new).faults }
+        ensures uncounted { result ≢ Err StoreErr.Failed → (told self.new).faults ≡ (told self.old).faults }
         ensures left { left self.new ≡ left self.old }
         ensures come { come self.new ≡ come self.old }
         ensures most { most self.new ≡ most self.old }
-        ensures steady { steady self.new ≡ steady self.old }
-        ensures surely { steady self.old ≡ true → result ≢ Err StoreErr.Failed };
+        ensures steady { (told self.new).steady ≡ (told self.old).steady }
+        ensures surely { (told self.old).steady ≡ true → result ≢ Err StoreErr.Failed };
 
     /// Begins a file of at most `limit` bytes, in place of the one that was begun. After an error no file is begun: no bytes
     /// are left. Where the folder doesn't tell its files, it doesn't tell this one either, and that it is too long shows only
     /// at a piece.
     fn begin(&mut self, name: &str, limit: u64) -> Result<(), LoadErr>
-        ensures told { Begins (files self.old) name.now limit result (left self.new) }
+        ensures told { Begins (told self.old).files name.now limit result (left self.new) }
         ensures ended { OnErr result (left self.new ≡ Some []) }
         ensures come { come self.new ≡ 0 }
         ensures most { most self.new ≡ limit }
-        ensures files { files self.new ≡ files self.old }
-        ensures counted { faults self.old ≤ faults self.new }
-        ensures failed { result ≡ Err LoadErr.Failed → HasRisen (faults self.old) (faults self.new) }
-        ensures uncounted { result ≢ Err LoadErr.Failed → faults self.new ≡ faults self.old }
-        ensures steady { steady self.new ≡ steady self.old }
-        ensures surely { (told : List StoredFile) (bytes : List ℕ) →
-            steady self.old ≡ true → files self.old ≡ Some told → bytes_of told name.now ≡ Some bytes →
+        ensures files { (told self.new).files ≡ (told self.old).files }
+        ensures counted { (told self.old).faults ≤ (told self.new).faults }
+        ensures failed { result ≡ Err LoadErr.Failed → HasRisen (told self.old).faults (told self.new).faults }
+        ensures uncounted { result ≢ Err LoadErr.Failed → (told self.new).faults ≡ (told self.old).faults }
+        ensures steady { (told self.new).steady ≡ (told self.old).steady }
+        ensures surely { (files : List StoredFile) (bytes : List ℕ) →
+            (told self.old).steady ≡ true → (told self.old).files ≡ Some files → bytes_of files name.now ≡ Some bytes →
             result ≢ Err LoadErr.Failed };
 
     /// Puts the next bytes of the file that is begun into `into`, in place of what it held: no bytes at the end of the file,
@@ -130,10 +125,10 @@ pub trait Folder {
         ensures most { most self.new ≡ most self.old }
         ensures within { come self.new ≤ most self.new }
         ensures long { result ≡ Err LoadErr.TooLong → most self.old < come self.old + piece_size }
-        ensures files { files self.new ≡ files self.old }
-        ensures counted { faults self.old ≤ faults self.new }
-        ensures failed { result ≡ Err LoadErr.Failed → HasRisen (faults self.old) (faults self.new) }
-        ensures uncounted { result ≢ Err LoadErr.Failed → faults self.new ≡ faults self.old }
-        ensures steady { steady self.new ≡ steady self.old }
-        ensures surely { steady self.old ≡ true → result ≢ Err LoadErr.Failed };
+        ensures files { (told self.new).files ≡ (told self.old).files }
+        ensures counted { (told self.old).faults ≤ (told self.new).faults }
+        ensures failed { result ≡ Err LoadErr.Failed → HasRisen (told self.old).faults (told self.new).faults }
+        ensures uncounted { result ≢ Err LoadErr.Failed → (told self.new).faults ≡ (told self.old).faults }
+        ensures steady { (told self.new).steady ≡ (told self.old).steady }
+        ensures surely { (told self.old).steady ≡ true → result ≢ Err LoadErr.Failed };
 }

@@ -120,11 +120,7 @@ fn put(files: &mut Vec<MemoryFile>, name: &str, bytes: &[u8]) -> Result<(), NoMe
 impl Folder for MemoryFolder {
     ghost use Rattle.std.specs.Prelude.{Some};
 
-    ghost files = { λ s. Some s.files };
-
-    ghost faults = { λ s. s.faults };
-
-    ghost steady = { λ s. s.steady };
+    ghost told = { λ s. record { files = Some s.files; faults = s.faults; steady = s.steady } };
 
     ghost left = { λ s. Some s.begun.left };
 

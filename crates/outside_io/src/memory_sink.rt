@@ -67,11 +67,7 @@ impl MemorySink {
 impl Sink for MemorySink {
     ghost use Rattle.std.specs.Prelude.{Some, if◌then◌else◌};
 
-    ghost held = { λ s. Some s.held };
-
-    ghost faults = { λ s. s.faults };
-
-    ghost sure = { λ s. if s.steady then s.room else 0 };
+    ghost told = { λ s. record { held = Some s.held; faults = s.faults; sure = if s.steady then s.room else 0 } };
 
     fn write(&mut self, bytes: &[u8]) -> Result<(), Failed> {
         if bytes.is_empty() {

@@ -138,11 +138,7 @@ fn write_all<W: Write>(to: &mut W, bytes: &[u8]) -> Result<(), Failed>
 impl<'r, R: Files> Folder for RealFolder<'r, R> {
     ghost use Rattle.std.specs.Prelude.{None, Some, false, if◌then◌else◌};
 
-    ghost files = { λ _. None };
-
-    ghost faults = { λ s. s.faults };
-
-    ghost steady = { λ _. false };
+    ghost told = { λ s. record { files = None; faults = s.faults; steady = false } };
 
     ghost left = { λ s. if s.begun then None else Some [] };
 
@@ -209,11 +205,7 @@ impl<'r, R: Files> Folder for RealFolder<'r, R> {
 impl<'r, R: Print> Sink for RealSink<'r, R> {
     ghost use Rattle.std.specs.Prelude.{None};
 
-    ghost held = { λ _. None };
-
-    ghost faults = { λ s. s };
-
-    ghost sure = { λ _. 0 };
+    ghost told = { λ faults. record { held = None; faults = faults; sure = 0 } };
 
     fn write(&mut self, bytes: &[u8]) -> Result<(), Failed> {
         let written = write_all(&mut io::writer(self.out), bytes);

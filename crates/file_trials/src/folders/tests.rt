@@ -18,9 +18,9 @@ fn load_both<F: Folder>(
     first: &mut Vec<u8>,
     second: &mut Vec<u8>,
 ) -> Result<(), LoadErr>
-    ensures files { F.files folder.new ≡ F.files folder.old }
+    ensures files { (F.told folder.new).files ≡ (F.told folder.old).files }
     ensures within { OnOk result (vec_len second.new ≤ 9) }
-    ensures failed { result ≡ Err LoadErr.Failed → HasRisen (F.faults folder.old) (F.faults folder.new) }
+    ensures failed { result ≡ Err LoadErr.Failed → HasRisen (F.told folder.old).faults (F.told folder.new).faults }
 {
     folder.load("domains", 3, first)?;
     folder.load("rows", 9, second)
@@ -180,9 +180,9 @@ fn whole<F: Folder>(
     name: &str,
     limit: u64,
 ) -> Result<Vec<u8>, LoadErr>
-    ensures told { IfOk result (λ bytes. HandedAll (F.files folder.old) name.now bytes.items) }
+    ensures told { IfOk result (λ bytes. HandedAll (F.told folder.old).files name.now bytes.items) }
     ensures within { IfOk result (λ bytes. length bytes.items ≤ limit) }
-    ensures failed { result ≡ Err LoadErr.Failed → HasRisen (F.faults folder.old) (F.faults folder.new) }
+    ensures failed { result ≡ Err LoadErr.Failed → HasRisen (F.told folder.old).faults (F.told folder.new).faults }
 {
     folder.begin(name, limit)?;
     let mut bytes = Vec::new(alloc);

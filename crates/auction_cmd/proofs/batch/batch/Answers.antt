@@ -22,9 +22,9 @@ returns-in-Err-clause-ends g c =
     (BatchStopped (record {
       stop = Unread (inputs_with names names.list) stop;
       under = inl refl;
-      told = λ files told. stops-listing files names (g.F.Folder.steady c.args.folder.now) stop
-          (subst (λ own. Agrees {A = Listed} listed_seen (g.F.Folder.steady c.args.folder.now) (listing_of files own) (Err stop)) c.inputs_with-names.ensures (c.in-Err.ensures.told files told));
-      counted = listing-counts (g.F.Folder.faults c.args.folder.now) (g.F.Folder.faults c.read_listed.new.folder) stop c.in-Err.ensures.counted;
+      told = λ files told. stops-listing files names (g.F.Folder.told c.args.folder.now).steady stop
+          (subst (λ own. Agrees {A = Listed} listed_seen (g.F.Folder.told c.args.folder.now).steady (listing_of files own) (Err stop)) c.inputs_with-names.ensures (c.in-Err.ensures.told files told));
+      counted = listing-counts (g.F.Folder.told c.args.folder.now).faults (g.F.Folder.told c.read_listed.new.folder).faults stop c.in-Err.ensures.counted;
       explains = rw c.inputs_with-names.ensures at c.explain.ensures.explains;
       files = c.in-Err.ensures.files;
     }) c.without_record.ensures.no_batch)
@@ -39,7 +39,7 @@ returns-in-Some-clause-ends g c =
     (BatchStopped (record {
       stop = Twice name;
       under = tt;
-      told = λ files told. stops-twice files names (g.F.Folder.steady c.args.folder.now) listed name (rw c.inputs_with-names.ensures at (c.in-Ok.ensures.told files told)) twice;
+      told = λ files told. stops-twice files names (g.F.Folder.told c.args.folder.now).steady listed name (rw c.inputs_with-names.ensures at (c.in-Ok.ensures.told files told)) twice;
       counted = c.in-Ok.ensures.counted.rises;
       explains = (refl, c.say.ensures.says);
       files = c.in-Ok.ensures.files;
@@ -66,8 +66,7 @@ returns-clause-ends g c =
     let inputs = c.in-Ok-read_each.read.inputs.items in
     let records = c.in-Ok-carry_all_out.carried.records.items in
     let held : HeldBatch = record { lines = listed.lines; inputs = inputs } in
-    let after = outside (g.F.Folder.files c.deliver-status.new.folder) (g.F.Folder.faults c.deliver-status.new.folder) (g.F.Folder.steady c.deliver-status.new.folder)
-    (g.K.Sink.held c.deliver-status.new.out) (g.K.Sink.faults c.deliver-status.new.out) (g.K.Sink.sure c.deliver-status.new.out) in
+    let after = outside (g.F.Folder.told c.deliver-status.new.folder) (g.K.Sink.told c.deliver-status.new.out) in
     let once : None ≡ repeated_result (names_in_words names) listed.lines = rw c.deref.ensures.value at c.in_default.ensures in
     let listed-lines : c.in-Ok-read_each.read.lines.items ≡ listed.lines = ap (λ v. v.items) c.in-Ok-read_each.ensures.lines in
     let auctions : AreRecordsOf held records = rw (c.deref-2.ensures.value, listed-lines) at c.in-Ok-carry_all_out.ensures.auctions in

@@ -55,13 +55,13 @@ returns-in-Err-clause-stopped g c =
       stop = Unread (inputs_with names line.scenario) c.in-Err.stop;
       under = inr (line, rw (sym c.line-item.is, c.deref-line-items.ensures.value) at (Contains-get_or lines at.line-index line c.loop-line-test.true), refl);
       told = λ held is.
-          let agrees : Agrees {A = Inputs} {B = Inputs} (λ x. x) (g.F.Folder.steady c.args.folder.now) (inputs_beside held constraints line.scenario) (Err c.in-Err.stop) =
-          subst (λ name. Agrees {A = Inputs} {B = Inputs} (λ x. x) (g.F.Folder.steady c.args.folder.now) (inputs_beside held constraints name) (Err c.in-Err.stop)) c.scenario.ensures
+          let agrees : Agrees {A = Inputs} {B = Inputs} (λ x. x) (g.F.Folder.told c.args.folder.now).steady (inputs_beside held constraints line.scenario) (Err c.in-Err.stop) =
+          subst (λ name. Agrees {A = Inputs} {B = Inputs} (λ x. x) (g.F.Folder.told c.args.folder.now).steady (inputs_beside held constraints name) (Err c.in-Err.stop)) c.scenario.ensures
           (subst (λ still. Agrees {A = Inputs} {B = Inputs} (λ x. x) still (inputs_beside held constraints c.scenario.result.now) (Err c.in-Err.stop)) own.steady
           (c.in-Err.ensures.told held (own.files ∙ is))) in
-          subst (λ (ls : List ListedNames). StopsAsHeld (g.F.Folder.steady c.args.folder.now) (each_inputs held names constraints ls) (Unread (inputs_with names line.scenario) c.in-Err.stop)) c.deref-line-items.ensures.value
-          (each-stops held names constraints (g.F.Folder.steady c.args.folder.now) at.inputs.items lines at.line-index line c.in-Err.stop (own.told held is) c.loop-line-test.true c.line-item.is agrees);
-      counted = subst (λ n. CountsFault {A = Inputs} n (g.F.Folder.faults c.inputs_beside.new.folder) (Err c.in-Err.stop)) own.faults c.in-Err.ensures.counted;
+          subst (λ (ls : List ListedNames). StopsAsHeld (g.F.Folder.told c.args.folder.now).steady (each_inputs held names constraints ls) (Unread (inputs_with names line.scenario) c.in-Err.stop)) c.deref-line-items.ensures.value
+          (each-stops held names constraints (g.F.Folder.told c.args.folder.now).steady at.inputs.items lines at.line-index line c.in-Err.stop (own.told held is) c.loop-line-test.true c.line-item.is agrees);
+      counted = subst (λ n. CountsFault {A = Inputs} n (g.F.Folder.told c.inputs_beside.new.folder).faults (Err c.in-Err.stop)) own.faults c.in-Err.ensures.counted;
       explains = rw (c.scenario-in-Err.ensures, own.held, own.cuts) at c.explain_beside.ensures.explains;
       files = c.in-Err.ensures.files ∙ own.files;
     }

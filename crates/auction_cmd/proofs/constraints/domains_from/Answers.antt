@@ -10,7 +10,7 @@ pub returns-in_err-feed_domains-clause-told : goal.returns-in_err-feed_domains-c
 returns-in_err-feed_domains-clause-told g c = λ files told.
     let (bytes, held, left) = c.in_ok-begin.ensures.told files told in
     let p = err_from_is_err_and c.from_residual-in_err-feed_domains.result c.from_residual-in_err-feed_domains.ensures.1 in
-    rw (p.1, p.2) (from-fails (g.F.Folder.steady c.args.folder.now) (g.F.Folder.steady c.begin.new.folder) (file_of files c.args.name.now Domains) (λ b. rows_read Domains (domains_of b)) bytes (domains_fed bytes) c.in_err-feed_domains.field-0.0
+    rw (p.1, p.2) (from-fails (g.F.Folder.told c.args.folder.now).steady (g.F.Folder.told c.begin.new.folder).steady (file_of files c.args.name.now Domains) (λ b. rows_read Domains (domains_of b)) bytes (domains_fed bytes) c.in_err-feed_domains.field-0.0
     c.begin.ensures.steady held (c.in_err-feed_domains.ensures.told [] bytes left c.in-Ok.ensures))
 
 pub returns-in-Ok-finish-clause-told : goal.returns-in-Ok-finish-clause-told
@@ -21,5 +21,5 @@ returns-in-Ok-finish-clause-told g c = λ files told.
 pub returns-in-Err-clause-told : goal.returns-in-Err-clause-told
 returns-in-Err-clause-told g c = λ files told.
     let (bytes, held, left) = c.in_ok-begin.ensures.told files told in
-    from-refused (g.F.Folder.steady c.args.folder.now) Domains (file_of files c.args.name.now Domains) domains_of bytes c.in-Err.why c.refused_by.result c.refused_by.ensures held
+    from-refused (g.F.Folder.told c.args.folder.now).steady Domains (file_of files c.args.name.now Domains) domains_of bytes c.in-Err.why c.refused_by.result c.refused_by.ensures held
     (c.in-Err.ensures bytes (c.in_ok-feed_domains.ensures.told [] bytes left c.in-Ok.ensures))

@@ -14,7 +14,7 @@ returns-in_err-next_piece-clause-told g c =
     let p = err_from_is_err_and c.from_residual.result c.from_residual.ensures.1 in
     rw (← c.loop-piece.invariant.steady, p.1, p.2)
     (feed-fails domains_fed (λ bytes. rows_read Domains (domains_of bytes)) (g.F.Folder.left c.args.folder.now) (g.F.Folder.left c.loop-piece.folder) (g.F.Folder.left c.next_piece.new.folder) c.next_piece.new.piece.items c.args.reader c.loop-piece.reader
-    (g.F.Folder.steady c.loop-piece.folder) c.in_err-next_piece.field-0.0 c.loop-piece.invariant.told c.in_err-next_piece.ensures.told)
+    (g.F.Folder.told c.loop-piece.folder).steady c.in_err-next_piece.field-0.0 c.loop-piece.invariant.told c.in_err-next_piece.ensures.told)
 
 pub returns-then-is_empty-clause-told : goal.returns-then-is_empty-clause-told
 returns-then-is_empty-clause-told g c =
@@ -36,5 +36,5 @@ returns-in-Err-clause-told g c =
     rw c.refused_by.ensures
     (subst (λ s. IsFed s (domains_fed (done ++ rest)) (rows_read Domains (domains_of (done ++ rest))) (Err (refused_by Domains c.in-Err.why))) c.loop-piece.invariant.steady
     (feed-refused domains_fed domains_of Domains (g.F.Folder.left c.args.folder.now) (g.F.Folder.left c.loop-piece.folder) (g.F.Folder.left c.next_piece.new.folder) c.deref.result.now c.args.reader c.loop-piece.reader
-    (g.F.Folder.steady c.loop-piece.folder) c.in-Err.why domains-refused c.loop-piece.invariant.told
+    (g.F.Folder.told c.loop-piece.folder).steady c.in-Err.why domains-refused c.loop-piece.invariant.told
     (λ rest e. (c.deref.ensures.value ∙ (c.in_ok-next_piece.ensures.told rest e).0, (c.in_ok-next_piece.ensures.told rest e).1)) c.in-Err.ensures done rest e f))

@@ -6,9 +6,9 @@ use Rattle.auction_cmd.proofs.constraints.feed_domains.Given as goal
 abbrev pub invariant-loop-piece : goal.invariant-loop-piece
 invariant-loop-piece g l = record {
   told : IsFeeding domains_fed (g.F.Folder.left l.fn.folder) (g.F.Folder.left l.folder) l.fn.reader l.reader;
-  files : g.F.Folder.files l.folder ≡ g.F.Folder.files l.fn.folder;
-  steady : g.F.Folder.steady l.folder ≡ g.F.Folder.steady l.fn.folder;
-  uncounted : g.F.Folder.faults l.folder ≡ g.F.Folder.faults l.fn.folder;
+  files : (g.F.Folder.told l.folder).files ≡ (g.F.Folder.told l.fn.folder).files;
+  steady : (g.F.Folder.told l.folder).steady ≡ (g.F.Folder.told l.fn.folder).steady;
+  uncounted : (g.F.Folder.told l.folder).faults ≡ (g.F.Folder.told l.fn.folder).faults;
 }
 
 abbrev pub decreases-loop-piece : goal.decreases-loop-piece

@@ -14,7 +14,7 @@ returns-in_err-next_piece-clause-told g c =
     let p = err_from_is_err_and c.from_residual.result c.from_residual.ensures.1 in
     rw (← c.loop-piece.invariant.steady, p.1, p.2)
     (λ done rest domains e f. feed-fails (λ bytes. pairs_fed bytes domains) (λ bytes. rows_read Rows (pairs_of bytes domains)) (g.F.Folder.left c.args.folder.now) (g.F.Folder.left c.loop-piece.folder) (g.F.Folder.left c.next_piece.new.folder) c.next_piece.new.piece.items c.args.reader c.loop-piece.reader
-    (g.F.Folder.steady c.loop-piece.folder) c.in_err-next_piece.field-0.0 (c.loop-piece.invariant.told domains) c.in_err-next_piece.ensures.told done rest e f)
+    (g.F.Folder.told c.loop-piece.folder).steady c.in_err-next_piece.field-0.0 (c.loop-piece.invariant.told domains) c.in_err-next_piece.ensures.told done rest e f)
 
 pub returns-then-is_empty-clause-told : goal.returns-then-is_empty-clause-told
 returns-then-is_empty-clause-told g c =
@@ -36,5 +36,5 @@ returns-in-Err-clause-told g c =
     rw c.refused_by.ensures
     (subst (λ s. IsFed s (pairs_fed (done ++ rest) domains) (rows_read Rows (pairs_of (done ++ rest) domains)) (Err (refused_by Rows c.in-Err.why))) c.loop-piece.invariant.steady
     (feed-refused (λ bytes. pairs_fed bytes domains) (λ bytes. pairs_of bytes domains) Rows (g.F.Folder.left c.args.folder.now) (g.F.Folder.left c.loop-piece.folder) (g.F.Folder.left c.next_piece.new.folder) c.deref.result.now c.args.reader c.loop-piece.reader
-    (g.F.Folder.steady c.loop-piece.folder) c.in-Err.why (λ xs ys why. pairs-refused xs ys domains why) (c.loop-piece.invariant.told domains)
+    (g.F.Folder.told c.loop-piece.folder).steady c.in-Err.why (λ xs ys why. pairs-refused xs ys domains why) (c.loop-piece.invariant.told domains)
     (λ rest e. (c.deref.ensures.value ∙ (c.in_ok-next_piece.ensures.told rest e).0, (c.in_ok-next_piece.ensures.told rest e).1)) (λ bytes had. c.in-Err.ensures bytes domains had) done rest e f))

@@ -15,8 +15,8 @@ returns-in-Err-clause-ends g c =
     rw c.without_record.ensures.status
     (SeekStopped (record {
       stop = c.in-Err.stop;
-      told = λ files told. stop-agrees files (seek_seen c.args.files.now) (inputs_seen c.inputs-names.result) (g.F.Folder.steady c.args.folder.now) c.in-Err.stop c.inputs-names.ensures (c.in-Err.ensures.told files told);
-      counted = stop-counts (g.F.Folder.faults c.args.folder.now) (g.F.Folder.faults c.read_seekable.new.folder) c.in-Err.stop c.in-Err.ensures.counted;
+      told = λ files told. stop-agrees files (seek_seen c.args.files.now) (inputs_seen c.inputs-names.result) (g.F.Folder.told c.args.folder.now).steady c.in-Err.stop c.inputs-names.ensures (c.in-Err.ensures.told files told);
+      counted = stop-counts (g.F.Folder.told c.args.folder.now).faults (g.F.Folder.told c.read_seekable.new.folder).faults c.in-Err.stop c.in-Err.ensures.counted;
       explains = rw c.inputs-names.ensures at c.explain.ensures.explains;
       files = c.in-Err.ensures.files;
     }) c.without_record.ensures.none c.without_record.ensures.no_other)

@@ -7,12 +7,12 @@ pub returns-then-is_empty-clause-told : goal.returns-then-is_empty-clause-told
 returns-then-is_empty-clause-told g c =
     let none : length c.piece.new.into.items ≡ 0 = search rules in
     let left = g.F.Folder.left in
-    handed-all (g.F.Folder.files c.args.folder.now) c.args.name.now c.loop.bytes.items c.piece.new.into.items (left c.loop.folder) (left c.piece.new.self) c.in_ok-piece.field-0 c.loop.invariant.told c.in_ok-piece.ensures.told none
+    handed-all (g.F.Folder.told c.args.folder.now).files c.args.name.now c.loop.bytes.items c.piece.new.into.items (left c.loop.folder) (left c.piece.new.self) c.in_ok-piece.field-0 c.loop.invariant.told c.in_ok-piece.ensures.told none
 
 pub loop-preserved : goal.loop-preserved
 loop-preserved g c =
     let left = g.F.Folder.left in
-    let files = g.F.Folder.files c.args.folder.now in
+    let files = (g.F.Folder.told c.args.folder.now).files in
     let name = c.args.name.now in
     let done = c.loop.bytes.items in
     let piece : c.deref.result.now ≡ c.piece.new.into.items = c.deref.ensures.value in

@@ -6,9 +6,9 @@ abbrev pub invariant-loop : goal.invariant-loop
 invariant-loop g l =
     let F = g.F.Folder in
     record {
-      told : HandedSoFar (F.files l.fn.folder) l.name l.bytes.items (F.left l.folder);
+      told : HandedSoFar (F.told l.fn.folder).files l.name l.bytes.items (F.left l.folder);
       come : F.come l.folder ≡ length l.bytes.items;
       most : F.most l.folder ≡ l.limit;
       within : length l.bytes.items ≤ l.limit;
-      counted : F.faults l.fn.folder ≤ F.faults l.folder;
+      counted : (F.told l.fn.folder).faults ≤ (F.told l.folder).faults;
     }
