@@ -5,4 +5,5 @@ pub mod EntryLemmas
 pub mod GapLemmas
 pub mod LookLemmas
 pub mod NoneLaws
+pub mod SuggestLaws
 pub mod WalkLemmas

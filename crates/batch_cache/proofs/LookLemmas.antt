@@ -1,5 +1,5 @@
 -- An entry that the search passes over gives no answer.
-use Rattle.std.proofs.Common.{◌≡◌, ℕ, Bool, true, false, ◌&&◌, ◌==◌, List, [], ◌∷◌, length, filter, map, take, ◌≤◌, nat_le, nat_lt, Option, Some, refl, sym, ap, ◌∙◌, subst, cond, find}
+use Rattle.std.proofs.Common.{◌≡◌, ℕ, Bool, true, false, ◌&&◌, ◌==◌, List, [], ◌∷◌, length, filter, take, ◌≤◌, nat_le, nat_lt, Option, Some, refl, sym, ap, ◌∙◌, subst, cond, find}
 use Rattle.std.specs.Prelude.{is_none}
 use Rattle.std.specs.List.{list_all}
 use Rattle.std.proofs.lemmas.Bool.{and_parts, and_from, true≢false}
@@ -8,7 +8,6 @@ use Rattle.pack_defs.specs.Book.{BookView}
 use Rattle.pack_defs.specs.ChannelMap.{IsAscending}
 use Rattle.pack_defs.specs.Lists.{is_ascending, is_in}
 use Rattle.pack_defs.specs.declared.worker.Worker.{Worker}
-use Rattle.pack_defs.proofs.Chains.{ascending-filter}
 use Rattle.cert_types.specs.declared.answer.Answer.TheVariants.{Refuted}
 use Rattle.cert_types.specs.declared.answer.Place.{Place}
 use Rattle.cert_types.specs.declared.answer.Refutation.{Refutation}
@@ -16,8 +15,9 @@ use Rattle.cert_types.specs.declared.answer.Refutation.TheVariants.{Proof, Dead}
 use Rattle.cert_types.specs.declared.task.Task.{Task}
 use Rattle.cert_types.specs.Refutes.{is_dead, is_subset}
 use Rattle.cert_types.specs.Valid.{answer_fault, learns, unless}
+use Rattle.cert_types.proofs.DeltaLemmas.{kept-ascends}
 use Rattle.batch_cache.specs.declared.key.Key.{Key}
-use Rattle.batch_cache.specs.Answering.{gives_refutation, is_valid, part_on}
+use Rattle.batch_cache.specs.Answering.{gives_refutation, is_valid}
 use Rattle.batch_cache.specs.Looks.{learns_within, may_answer}
 
 -- what is at no fault passes the test, and the rest finds none
@@ -25,7 +25,7 @@ passed : (b : Bool) (place : Place) (rest : Option Place) → is_none (unless b 
 passed true place rest h = (refl, h)
 passed false place rest h = cc
 
-valid-may : (book : BookView) (task : Task) (worker : Worker) (refutation : Refutation) → is_valid book task worker (Refuted refutation) ≡ true → may_answer task.set worker refutation ≡ true
+pub valid-may : (book : BookView) (task : Task) (worker : Worker) (refutation : Refutation) → is_valid book task worker (Refuted refutation) ≡ true → may_answer task.set worker refutation ≡ true
 unfolding answer_fault
 valid-may book task worker (Proof subset log) h =
     let by = passed (learns worker.kind) _ _ h in
@@ -48,24 +48,13 @@ may-not book task worker refutation none =
       | false ↦ λ e. e
     ]) refl
 
--- ---- the part of a map
+-- ---- a part of a map
 
-stations-part : (set : List ℕ) (entries : List (ℕ × ℕ)) → map (λ x. x.0) (part_on set entries) ≡ filter (is_in set) (map (λ x. x.0) entries)
-stations-part set [] = refl
-stations-part set (x ∷ xs) = (elim (is_in set x.0) as (λ b. is_in set x.0 ≡ b → map (λ y. y.0) (part_on set (x ∷ xs)) ≡ filter (is_in set) (x.0 ∷ map (λ y. y.0) xs)) [
-  | true ↦ λ t. rw t (ap (λ (ys : List ℕ). x.0 ∷ ys) (stations-part set xs))
-  | false ↦ λ t. rw t (stations-part set xs)
-]) refl
-
--- the part of a map that ascends does too
-pub part-ascends : (set : List ℕ) (entries : List (ℕ × ℕ)) → is_ascending (map (λ x. x.0) entries) ≡ true → is_ascending (map (λ x. x.0) (part_on set entries)) ≡ true
-part-ascends set entries h = ap is_ascending (stations-part set entries) ∙ ascending-filter (is_in set) (map (λ x. x.0) entries) h
-
--- the part that was made is one that ascends
-pub part-made : (set : List ℕ) (whole xs entries ys : List (ℕ × ℕ)) (i : ℕ) → xs ≡ whole → length xs ≤ i → IsAscending whole → entries ≡ part_on set (take i whole) → ys ≡ entries → IsAscending ys
-part-made set whole xs entries ys i same all up made is =
-    let here : ys ≡ part_on set whole = is ∙ (made ∙ ap (part_on set) (take_all i whole (subst (λ (zs : List (ℕ × ℕ)). length zs ≤ i) same all))) in
-    subst IsAscending (sym here) (part-ascends set whole up)
+-- what was taken of a map by a test ascends, as the map does
+pub taken-ascends : (p : ℕ × ℕ → Bool) (whole xs entries ys : List (ℕ × ℕ)) (i : ℕ) → xs ≡ whole → length xs ≤ i → IsAscending whole → entries ≡ filter p (take i whole) → ys ≡ entries → IsAscending ys
+taken-ascends p whole xs entries ys i same all up taken is =
+    let here : ys ≡ filter p whole = is ∙ (taken ∙ ap (filter p) (take_all i whole (subst (λ (zs : List (ℕ × ℕ)). length zs ≤ i) same all))) in
+    subst IsAscending (sym here) (kept-ascends p whole up)
 
 -- ---- a refutation that is passed over
 

@@ -4,4 +4,5 @@ pub mod Kept
 pub mod Looks
 pub mod NoneKept
 pub mod StationBits
+pub mod Suggesting
 pub mod Walks

@@ -7,10 +7,11 @@ ghost use Rattle.cert_types.specs.Certificate.{IsTaskOf};
 ghost use Rattle.cert_types.specs.Valid.{IsValid};
 ghost use Rattle.batch_cache.specs.Answering.{after_cached_answer, cached_answer};
 ghost use Rattle.batch_cache.specs.Kept.{after_put, first_kept, key_of, same_key};
+ghost use Rattle.batch_cache.specs.Suggesting.{after_suggested, suggested_answer};
 
 use crate::kept_refutation::KeptRefutation;
 use crate::key::Key;
-use crate::search::{first_fit, first_refutation};
+use crate::search::{first_changes, first_fit, first_likely_refutation, first_refutation};
 use crate::signed_set::SignedSet;
 use cert_types::answer::{Answer, Refutation};
 use cert_types::task::Task;
@@ -164,6 +165,47 @@ impl Cache {
             &self.refutations,
             top,
             book,
+            task,
+            worker,
+            &asked,
+        )? {
+            bring_to_front(&mut self.refutations, &found.key);
+            return Ok(Some(found.answer));
+        }
+        Ok(None)
+    }
+
+    /// What may answer a task under a top channel: of the most recently used map of this top whose set holds the task's, the
+    /// channels that it gives stations of the task's set otherwise than the task's last map does; where there is no such map,
+    /// a copy of the most recently used refutation of this top that may be valid, by its stations, its number of lines and the
+    /// worker. Nothing is said of whether it is valid, which is for the caller to have checked; where nothing is suggested,
+    /// nothing that is kept is valid (`none_is_suggested`). What is suggested stands first of its kind from then on.
+    ///
+    /// # Errors
+    ///
+    /// Memory ran out. The cache stands as it was.
+    pub fn suggest(
+        &mut self,
+        alloc: Global,
+        top: u8,
+        task: &Task,
+        worker: &Worker,
+    ) -> Result<Option<Answer>, NoMemory>
+        ensures suggested { IfOk result (λ answer. answer ≡ suggested_answer self.old top task.now worker.now) }
+        ensures moved { OnOk result (self.new ≡ after_suggested self.old top task.now worker.now) }
+        ensures kept { OnErr result (self.new ≡ self.old) }
+    {
+        are_ordered(&self.maps);
+        are_ordered(&self.refutations);
+        let asked = SignedSet::of(alloc, task.set.as_slice())?;
+        if let Some(found) = first_changes(alloc, &self.maps, top, task, &asked)? {
+            bring_to_front(&mut self.maps, &found.key);
+            return Ok(Some(found.answer));
+        }
+        if let Some(found) = first_likely_refutation(
+            alloc,
+            &self.refutations,
+            top,
             task,
             worker,
             &asked,

@@ -4,10 +4,12 @@ ghost use Rattle.std.specs.Prelude.{◌≡◌, IfOk, find, option_map};
 ghost use Rattle.cert_types.specs.Certificate.{IsTaskOf};
 ghost use Rattle.batch_cache.specs.Answering.{gives_fit, gives_refutation};
 ghost use Rattle.batch_cache.specs.Looks.{fit_found, refutation_found};
+ghost use Rattle.batch_cache.specs.Suggesting.{changes_found, holds_task, may_refute};
 
 use crate::judge::{fit_of, refutation_of};
 use crate::kept_refutation::KeptRefutation;
 use crate::key::Key;
+use crate::part::changes_on;
 use crate::signed_set::SignedSet;
 use crate::witness::Witness;
 use cert_types::answer::Answer;
@@ -79,6 +81,59 @@ pub(crate) fn first_refutation(
             let key = key.copied(alloc)?;
             return Ok(Some(FoundAnswer { key, answer }));
         }
+    }
+    Ok(None)
+}
+
+/// What the most recently used map whose set holds the task's gives stations of it otherwise than the task's last map does. The
+/// task's set is given with its bits too. The only error is want of memory.
+pub(crate) fn first_changes(
+    alloc: Global,
+    maps: &LruCache<Key, ChannelMap>,
+    top: u8,
+    task: &Task,
+    asked: &SignedSet,
+) -> Result<Option<FoundAnswer>, NoMemory>
+    requires asked { asked.now ≡ task.now.set }
+    ensures { IfOk result (λ found. found ≡ option_map (changes_found task.now) (find (holds_task top task.now) maps.now.entries)) }
+{
+    let mut witness = Witness::none();
+    for (key, map) in maps.iter() {
+        if !key.holds(top, asked, &mut witness) {
+            continue;
+        }
+        let changes = changes_on(alloc, asked, &task.last, map)?;
+        let key = key.copied(alloc)?;
+        let answer = Answer::Fit(changes);
+        return Ok(Some(FoundAnswer { key, answer }));
+    }
+    Ok(None)
+}
+
+/// A copy of the most recently used refutation that may be valid. The task's set is given with its bits too. The only error is
+/// want of memory.
+pub(crate) fn first_likely_refutation(
+    alloc: Global,
+    refutations: &LruCache<Key, KeptRefutation>,
+    top: u8,
+    task: &Task,
+    worker: &Worker,
+    asked: &SignedSet,
+) -> Result<Option<FoundAnswer>, NoMemory>
+    requires asked { asked.now ≡ task.now.set }
+    ensures { IfOk result (λ found. found ≡ option_map refutation_found (find (may_refute top task.now worker.now) refutations.now.entries)) }
+{
+    for (key, kept) in refutations.iter() {
+        if key.top != top {
+            continue;
+        }
+        if !kept.may_answer(asked, worker) {
+            continue;
+        }
+        let refutation = kept.copied(alloc)?;
+        let key = key.copied(alloc)?;
+        let answer = Answer::Refuted(refutation);
+        return Ok(Some(FoundAnswer { key, answer }));
     }
     Ok(None)
 }

@@ -42,6 +42,11 @@ enum Step {
     AskOfOneLine(&'static [u32], Want),
     AskOfWalk(&'static [u32], Want),
     AskOfTop16(&'static [u32], Want),
+    // The same of what is suggested, and not looked into: for a worker that learns while these channels stand, and so on.
+    Suggest(&'static [u32], &'static [Entry], Want),
+    SuggestOneLine(&'static [u32], Want),
+    SuggestToWalk(&'static [u32], Want),
+    SuggestOfTop16(&'static [u32], Want),
 }
 
 // What is to be answered.
@@ -185,6 +190,21 @@ fn answers(
     Ok(is_wanted(&answer, want))
 }
 
+// Whether the cache suggests so for the test of a set, while these channels stand.
+fn suggests(
+    alloc: Global,
+    cache: &mut Cache,
+    top: u8,
+    worker: Worker,
+    set: &[u32],
+    last: &[Entry],
+    want: Want,
+) -> Result<bool, NoMemory> {
+    let task = task_of(alloc, set, last)?;
+    let suggestion = cache.suggest(alloc, top, &task, &worker)?;
+    Ok(is_wanted(&suggestion, want))
+}
+
 fn is_wanted(answer: &Option<Answer>, want: Want) -> bool {
     match answer {
         None => matches!(&want, Want::Nothing),
@@ -231,6 +251,18 @@ fn goes(alloc: Global, cache: &mut Cache, book: &Book, step: Step) -> Result<boo
         Step::AskOfTop16(set, want) => {
             return answers(alloc, cache, 16, book, learner, set, want);
         }
+        Step::Suggest(set, last, want) => {
+            return suggests(alloc, cache, 15, learner, set, last, want);
+        }
+        Step::SuggestOneLine(set, want) => {
+            return suggests(alloc, cache, 15, worker(Kind::Cdcl, 1), set, &[], want);
+        }
+        Step::SuggestToWalk(set, want) => {
+            return suggests(alloc, cache, 15, worker(Kind::Walk, 2), set, &[], want);
+        }
+        Step::SuggestOfTop16(set, want) => {
+            return suggests(alloc, cache, 16, learner, set, &[], want);
+        }
     }
     Ok(true)
 }
@@ -263,13 +295,23 @@ const NOTHING: Want = Want::Nothing;
 fn answers_by_what_is_kept(rt: HostRuntime) -> Result<(), Fail> {
     const STEPS: &[Step] = &[
         Step::Ask(&[1, 2], NOTHING),
+        Step::Suggest(&[1, 2], &[], NOTHING),
         Step::Fit(&[1, 2], &[(1, 15), (2, 14)]),
         Step::Ask(&[1, 2], Want::Fit(&[(1, 15), (2, 14)])),
         Step::Ask(&[2], Want::Fit(&[(2, 14)])),
         Step::AskOfWalk(&[1], Want::Fit(&[(1, 15)])),
         Step::AskOfTop16(&[1, 2], NOTHING),
+        // Only the channels are suggested that stand otherwise, of the stations of the set.
+        Step::Suggest(&[1, 2], &[], Want::Fit(&[(1, 15), (2, 14)])),
+        Step::Suggest(&[1, 2], &[(1, 15)], Want::Fit(&[(2, 14)])),
+        Step::Suggest(&[1, 2], &[(1, 14)], Want::Fit(&[(1, 15), (2, 14)])),
+        Step::Suggest(&[2], &[], Want::Fit(&[(2, 14)])),
+        Step::Suggest(&[1], &[(1, 15)], Want::Fit(&[])),
+        Step::SuggestToWalk(&[1], Want::Fit(&[(1, 15)])),
+        Step::SuggestOfTop16(&[1, 2], NOTHING),
         Step::Ask(ALL, NOTHING),
         Step::Ask(&[1, THIRD], NOTHING),
+        Step::Suggest(&[1, THIRD], &[], NOTHING),
         Step::Spent(&[1, THIRD]),
         Step::Ask(&[1, THIRD], NOTHING),
         Step::Proof,
@@ -277,14 +319,21 @@ fn answers_by_what_is_kept(rt: HostRuntime) -> Result<(), Fail> {
         Step::AskOfOneLine(ALL, NOTHING),
         Step::AskOfWalk(ALL, NOTHING),
         Step::AskOfTop16(ALL, NOTHING),
+        Step::Suggest(ALL, &[(1, 15)], Want::Proof),
+        Step::SuggestOneLine(ALL, NOTHING),
+        Step::SuggestToWalk(ALL, NOTHING),
+        Step::SuggestOfTop16(ALL, NOTHING),
         Step::Ask(&[1, 2], Want::Fit(&[(1, 15), (2, 14)])),
         // Under the same key another map, whose whole is no fit and whose parts are.
         Step::Fit(&[1, 2], &[(1, 15), (2, 15)]),
         Step::Ask(&[1, 2], NOTHING),
         Step::Ask(&[2], Want::Fit(&[(2, 15)])),
+        // What is suggested need not be valid.
+        Step::Suggest(&[1, 2], &[], Want::Fit(&[(1, 15), (2, 15)])),
         // No dead pair, where each of its stations has two channels; nor is the proof there any more.
         Step::Dead(ALL),
         Step::Ask(ALL, NOTHING),
+        Step::Suggest(ALL, &[], Want::Dead),
     ];
     assert_eq!(rt; first_wrong(rt.alloc(), &[14, 15], 2, STEPS)?, None);
     Ok(())
@@ -298,6 +347,8 @@ fn answers_by_a_dead_pair(rt: HostRuntime) -> Result<(), Fail> {
         Step::AskOfWalk(ALL, Want::Dead),
         Step::Ask(&[1, THIRD], NOTHING),
         Step::AskOfTop16(&[1, 2], NOTHING),
+        Step::SuggestToWalk(ALL, Want::Dead),
+        Step::Suggest(&[1, THIRD], &[], NOTHING),
     ];
     assert_eq!(rt; first_wrong(rt.alloc(), &[14], 1, STEPS)?, None);
     Ok(())
@@ -323,6 +374,11 @@ fn the_least_recently_used_goes(rt: HostRuntime) -> Result<(), Fail> {
         Step::Ask(&[1], Want::Fit(&[(1, 14)])),
         Step::Ask(&[2], Want::Fit(&[(2, 14)])),
         Step::Ask(&[1], Want::Fit(&[(1, 15)])),
+        // So does of two that may be suggested.
+        Step::Suggest(&[THIRD], &[], Want::Fit(&[(THIRD, 15)])),
+        Step::Suggest(&[1], &[], Want::Fit(&[(1, 14)])),
+        Step::Suggest(&[2], &[], Want::Fit(&[(2, 14)])),
+        Step::Suggest(&[1], &[], Want::Fit(&[(1, 15)])),
         // The one that answered stays, and the other one goes.
         Step::Fit(&[2, THIRD], &[(2, 15), (THIRD, 14)]),
         Step::Ask(&[1, THIRD], NOTHING),

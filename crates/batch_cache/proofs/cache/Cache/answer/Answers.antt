@@ -1,5 +1,7 @@
-use Rattle.std.proofs.Common.{sym, ◌∙◌}
-use Rattle.batch_cache.proofs.AnswerLemmas.{fit-moved, found-fit-valid, found-refutation-valid, refutation-moved}
+use Rattle.std.proofs.Common.{refl, sym, ◌∙◌}
+use Rattle.batch_cache.specs.Answering.{gives_fit, gives_refutation}
+use Rattle.batch_cache.specs.Looks.{fit_found}
+use Rattle.batch_cache.proofs.AnswerLemmas.{found-fit-valid, found-refutation-valid, map-moved, refutation-moved}
 use Rattle.batch_cache.proofs.cache.Cache.answer.Goals as goal
 
 pub returns-in-Some-clause-valid : goal.returns-in-Some-clause-valid
@@ -9,8 +11,9 @@ returns-in-Some-clause-valid c =
 
 pub returns-in-Some-clause-moved : goal.returns-in-Some-clause-moved
 returns-in-Some-clause-moved c =
-    fit-moved c.args.top c.args.book.now c.args.task.now c.args.worker.now c.args.self.now c.self.inside.maps c.self.inside.refutations c.self.view_is
-    c.bring_to_front.new.entries c.in-Some.found c.are_ordered.ensures (sym c.in_ok-found.ensures ∙ c.in-Some.is) c.bring_to_front.ensures
+    map-moved (gives_fit c.args.top c.args.book.now c.args.task.now c.args.worker.now)
+    (gives_refutation c.args.top c.args.book.now c.args.task.now c.args.worker.now) c.args.self.now c.self.inside.maps c.self.inside.refutations c.self.view_is
+    (fit_found c.args.task.now) (λ e. refl) c.bring_to_front.new.entries c.in-Some.found c.are_ordered.ensures (sym c.in_ok-found.ensures ∙ c.in-Some.is) c.bring_to_front.ensures
 
 pub returns-in-Some-2-clause-valid : goal.returns-in-Some-2-clause-valid
 returns-in-Some-2-clause-valid c =
@@ -19,6 +22,7 @@ returns-in-Some-2-clause-valid c =
 
 pub returns-in-Some-2-clause-moved : goal.returns-in-Some-2-clause-moved
 returns-in-Some-2-clause-moved c =
-    refutation-moved c.args.top c.args.book.now c.args.task.now c.args.worker.now c.args.self.now c.self.inside.maps c.self.inside.refutations c.self.view_is
-    c.bring_to_front-in-Some-2.new.entries c.in-Some-2.found c.are_ordered-2.ensures (sym c.in_ok-found.ensures ∙ c.in_default.is) (sym c.in_ok-found-2.ensures ∙ c.in-Some-2.is)
+    refutation-moved (gives_fit c.args.top c.args.book.now c.args.task.now c.args.worker.now)
+    (gives_refutation c.args.top c.args.book.now c.args.task.now c.args.worker.now) c.args.self.now c.self.inside.maps c.self.inside.refutations c.self.view_is
+    (fit_found c.args.task.now) c.bring_to_front-in-Some-2.new.entries c.in-Some-2.found c.are_ordered-2.ensures (sym c.in_ok-found.ensures ∙ c.in_default.is) (sym c.in_ok-found-2.ensures ∙ c.in-Some-2.is)
     c.bring_to_front-in-Some-2.ensures
