@@ -1,6 +1,6 @@
 //! What `export` stores of a step, and what `import` makes of a step and a log.
 
-use crate::verified::{CHECKED, ONE};
+use crate::verified::{CHECKED, FROM_AIR, ONE};
 use run_scenes::change::Change;
 use run_scenes::scene::{RUN, Scene, first_untrue, leaves};
 use run_scenes::stations::{ONE_LINE, TRANSCRIPT};
@@ -44,16 +44,6 @@ const EXPORT_THIRD: &str = "repack export d.csv r.csv s.json tr.txt 3 f.cnf";
 
 const EXPORT_SIXTH: &str = "repack export d.csv r.csv s.json tr.txt 6 f.cnf";
 
-// Station 2 starts on air; station 1's second test is like its first.
-const FROM_AIR: Scene<'static> = Scene {
-    command: EXPORT_THIRD,
-    transcript: Some(
-        "transcript 1\nstart fit 1\nat 2 14\nfit 1 1 1\nat 1 15\nfit 1 3 1\nat 3 15\nsame 2 1\nlog 2 3 0 2\non 1 2 3\n13 -1 0 7 2 8 3 12 0\n14 0 13 1 9 2 10 3 11 0\nend 4\n",
-    ),
-    change: Change::Part("\"value\":70", "\"value\":101"),
-    ..CHECKED
-};
-
 const FORMULAS: &[(Scene<'static>, &str)] = &[
     // Of a step that is left open, and of one that a worker refuted.
     (
@@ -83,7 +73,10 @@ const FORMULAS: &[(Scene<'static>, &str)] = &[
         "status 0; nothing said; f.cnf: p cnf 0 1\n0\n; no record; inputs kept",
     ),
     (
-        FROM_AIR,
+        Scene {
+            command: EXPORT_THIRD,
+            ..FROM_AIR
+        },
         "status 0; nothing said; f.cnf: p cnf 4 6\n1 2 0\n3 4 0\n-1 -2 0\n-3 -4 0\n-1 -3 0\n-2 -4 0\n; no record; inputs kept",
     ),
     // Steps count from 1.

@@ -115,7 +115,7 @@ const BY_VOLUME: &str =
     "transcript 2\nstart empty\nfit 1 3 1\nat 3 14\nfit 1 1 1\nat 1 14\nfit 1 2 1\nat 2 14\nfit 2 3 1\nat 3 15\nfit 2 1 1\nat 1 15\nlog 3 3 0 2\non 1 2 3\n13 -1 0 7 2 8 3 12 0\n14 0 13 1 9 2 10 3 11 0\nend 6\n";
 
 // Station 2 starts on air; station 1's second test is like its first.
-const FROM_AIR: &str =
+const AIR_TRANSCRIPT: &str =
     "transcript 1\nstart fit 1\nat 2 14\nfit 1 1 1\nat 1 15\nfit 1 3 1\nat 3 15\nsame 2 1\nlog 2 3 0 2\non 1 2 3\n13 -1 0 7 2 8 3 12 0\n14 0 13 1 9 2 10 3 11 0\nend 4\n";
 
 /// The check of a transcript on one station below whose only channel the top lies.
@@ -142,8 +142,9 @@ const IN_TURN: Scene<'static> = Scene {
     ..BY_FACILITY
 };
 
-const FROM_AIR_CHECKED: Scene<'static> = Scene {
-    transcript: Some(FROM_AIR),
+/// The check of that transcript.
+pub const FROM_AIR: Scene<'static> = Scene {
+    transcript: Some(AIR_TRANSCRIPT),
     change: ON_AIR,
     ..CHECKED
 };
@@ -175,7 +176,7 @@ const OTHER_AUCTIONS: &[(Scene<'static>, &str)] = &[
         "status 0; said: facility,outcome,round,price\n1,exit,2,0\n2,exit,1,0\n3,frozen,3,40\n; tests: 1.3 fits, 1.1 fits, 1.2 fits, 2.3 fits, 2.1 fits, 3.3 refuted by 0; total: 40",
     ),
     (
-        FROM_AIR_CHECKED,
+        FROM_AIR,
         "status 0; said: facility,outcome,round,price\n1,exit,2,0\n2,start,0,0\n3,frozen,2,60\n; start: fits; tests: 1.1 fits, 1.3 fits, 2.1 as before, 2.3 refuted by 0; map: 1 on 15, 2 on 14",
     ),
     (

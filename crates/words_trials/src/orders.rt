@@ -126,6 +126,7 @@ fn a_wrong_count_of_names_is_refused(rt: HostRuntime) -> Result<(), Fail> {
     Ok(())
 }
 
+// What is said of a step that is none.
 const RANGE: &str = "error: invalid value '0' for '<STEP>': 0 is not in 1..=4294967295\n";
 
 const LONG: &str =
@@ -186,73 +187,69 @@ fn unhelped<'a>(
     Ok(None)
 }
 
-const PROGRAM: &str = "Runs the reverse clock auction ";
+// How the help of the program, of `run` and of `check` begins, and its usage.
+const ABOUT: &str = "Runs the reverse clock auction ";
 
-const COMMANDS: &str = "\nUsage: repack <COMMAND>\n";
+const USAGE: &str = "\nUsage: repack <COMMAND>\n";
 
-const RUN: &str = "Runs the auction, ";
+const ABOUT_RUN: &str = "Runs the auction, ";
 
-const SIX: &str =
+const USAGE_OF_RUN: &str =
     "\nUsage: repack run <DOMAINS> <ROWS> <SCENARIO> <RESULT> <CHANNELS> <TRANSCRIPT>\n";
 
-const CHECK: &str = "Checks the input files ";
+const ABOUT_CHECK: &str = "Checks the input files ";
 
-const THREE: &str = "\nUsage: repack check <DOMAINS> <ROWS> <SCENARIO>\n";
-
-const MAKE: &str = "Makes an auction ";
-
-const FIVE: &str = "\nUsage: repack make <SEED> <SIZE> <DOMAINS> <ROWS> <SCENARIO>\n";
-
-const LIVE: &str = "Runs the auction by what the owners say ";
-
-const SEVEN: &str =
-    "\nUsage: repack live <DOMAINS> <ROWS> <SCENARIO> <OWNERS> <RESULT> <CHANNELS> <TRANSCRIPT>\n";
-
-const VERIFY_LIVE: &str = "Checks a live auction's transcript ";
-
-const FIVE_READ: &str =
-    "\nUsage: repack verify-live <DOMAINS> <ROWS> <SCENARIO> <OWNERS> <TRANSCRIPT>\n";
-
-const RESUME: &str = "Goes on with an auction ";
-
-const SEVEN_RESUMED: &str =
-    "\nUsage: repack resume <DOMAINS> <ROWS> <SCENARIO> <PREFIX> <RESULT> <CHANNELS> <TRANSCRIPT>\n";
-
-const SEEK: &str = "Seeks the least top channel ";
-
-const FOUR: &str = "\nUsage: repack seek <DOMAINS> <ROWS> <SCENARIO> <CHANNELS>\n";
-
-const BATCH: &str = "Runs the auctions of many scenarios and ";
-
-const LISTED: &str = "\nUsage: repack batch <DOMAINS> <ROWS> <LIST>\n";
-
-const EXPORT: &str = "Writes the packing formula ";
-
-const SIX_READ: &str =
-    "\nUsage: repack export <DOMAINS> <ROWS> <SCENARIO> <TRANSCRIPT> <STEP> <CNF>\n";
-
-const IMPORT: &str = "Settles an undecided step ";
-
-const EIGHT: &str =
-    "\nUsage: repack import <DOMAINS> <ROWS> <SCENARIO> <TRANSCRIPT> <STEP> <LRAT> <RESULT> <NEWTRANSCRIPT>\n";
+const USAGE_OF_CHECK: &str = "\nUsage: repack check <DOMAINS> <ROWS> <SCENARIO>\n";
 
 const HELPS: &[(&str, &str, &str)] = &[
-    ("repack,--help", PROGRAM, COMMANDS),
-    ("repack,-h", PROGRAM, COMMANDS),
-    ("repack,help", PROGRAM, COMMANDS),
-    ("repack,--help,run", PROGRAM, COMMANDS),
-    ("bin/other,help,run", RUN, SIX),
-    ("repack,run,--help", RUN, SIX),
-    ("repack,help,check", CHECK, THREE),
-    ("repack,check,d,r,s,-h", CHECK, THREE),
-    ("repack,make,--help", MAKE, FIVE),
-    ("repack,live,--help", LIVE, SEVEN),
-    ("repack,help,verify-live", VERIFY_LIVE, FIVE_READ),
-    ("repack,resume,--help", RESUME, SEVEN_RESUMED),
-    ("repack,seek,--help", SEEK, FOUR),
-    ("repack,help,batch", BATCH, LISTED),
-    ("repack,export,--help", EXPORT, SIX_READ),
-    ("repack,help,import", IMPORT, EIGHT),
+    ("repack,--help", ABOUT, USAGE),
+    ("repack,-h", ABOUT, USAGE),
+    ("repack,help", ABOUT, USAGE),
+    ("repack,--help,run", ABOUT, USAGE),
+    ("bin/other,help,run", ABOUT_RUN, USAGE_OF_RUN),
+    ("repack,run,--help", ABOUT_RUN, USAGE_OF_RUN),
+    ("repack,help,check", ABOUT_CHECK, USAGE_OF_CHECK),
+    ("repack,check,d,r,s,-h", ABOUT_CHECK, USAGE_OF_CHECK),
+    (
+        "repack,make,--help",
+        "Makes an auction ",
+        "\nUsage: repack make <SEED> <SIZE> <DOMAINS> <ROWS> <SCENARIO>\n",
+    ),
+    (
+        "repack,live,--help",
+        "Runs the auction by what the owners say ",
+        "\nUsage: repack live <DOMAINS> <ROWS> <SCENARIO> <OWNERS> <RESULT> <CHANNELS> <TRANSCRIPT>\n",
+    ),
+    (
+        "repack,help,verify-live",
+        "Checks a live auction's transcript ",
+        "\nUsage: repack verify-live <DOMAINS> <ROWS> <SCENARIO> <OWNERS> <TRANSCRIPT>\n",
+    ),
+    (
+        "repack,resume,--help",
+        "Goes on with an auction ",
+        "\nUsage: repack resume <DOMAINS> <ROWS> <SCENARIO> <PREFIX> <RESULT> <CHANNELS> <TRANSCRIPT>\n",
+    ),
+    (
+        "repack,seek,--help",
+        "Seeks the least top channel ",
+        "\nUsage: repack seek <DOMAINS> <ROWS> <SCENARIO> <CHANNELS>\n",
+    ),
+    (
+        "repack,help,batch",
+        "Runs the auctions of many scenarios and ",
+        "\nUsage: repack batch <DOMAINS> <ROWS> <LIST>\n",
+    ),
+    (
+        "repack,export,--help",
+        "Writes the packing formula ",
+        "\nUsage: repack export <DOMAINS> <ROWS> <SCENARIO> <TRANSCRIPT> <STEP> <CNF>\n",
+    ),
+    (
+        "repack,help,import",
+        "Settles an undecided step ",
+        "\nUsage: repack import <DOMAINS> <ROWS> <SCENARIO> <TRANSCRIPT> <STEP> <LRAT> <RESULT> <NEWTRANSCRIPT>\n",
+    ),
 ];
 
 #[test]
