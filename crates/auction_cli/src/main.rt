@@ -1,9 +1,6 @@
 //! The program `repack`, over the files and the standard output of the system.
 #![tactic(auto)]
 
-#[cfg(test)]
-mod tests;
-
 use auction_cmd::auction::auction_main;
 use outside_io::real::{RealFolder, RealSink};
 use outside_io::sink::Sink;

@@ -1,15 +1,14 @@
 //! What an auction that goes on leaves.
 
-use super::scene::{Change, Row, first_untrue, leaves};
+use super::scene::{Row, first_untrue, leaves};
+use run_scenes::change::Change;
+use run_scenes::stations::TRANSCRIPT;
 use std::alloc::{AllocError as NoMemory, Global};
 use std::sync::Wait;
 use std::test::Fail;
 use std::thread::Threads;
 
-// The transcript of the three stations, and that of one whose last test was left open by two workers.
-const TRANSCRIPT: &str =
-    "transcript 1\nstart empty\nfit 1 1 1\nat 1 14\nfit 1 2 1\nat 2 14\nfit 1 3 1\nat 3 15\nfit 2 1 1\nat 1 15\nlog 2 3 0 2\non 1 2 3\n13 -1 0 7 2 8 3 12 0\n14 0 13 1 9 2 10 3 11 0\nend 5\n";
-
+// The three stations' transcript up to a last test that two workers left open.
 const LEFT_OPEN: &str =
     "transcript 1\nstart empty\nfit 1 1 1\nat 1 14\nfit 1 2 1\nat 2 14\nfit 1 3 1\nat 3 15\nfit 2 1 1\nat 1 15\nundecided 2 3 2\nlines 0 1\n13 -1 0 7 2 8 3 12 0\nmoves 1 1\nmove 3 15\n";
 
@@ -74,7 +73,7 @@ const PLAIN: &[Row] = &[
     (
         TRANSCRIPT,
         "",
-        Change::NoPrefix,
+        Change::Missing("p.txt"),
         "status 3; said: cannot read p.txt\n; no out.csv; no chan.csv; no tr.txt; no record; inputs kept",
     ),
     (
@@ -99,7 +98,7 @@ const PLAIN: &[Row] = &[
         TRANSCRIPT,
         TRANSCRIPT,
         Change::Write(1),
-        "status 4; said: ; a record; goes on",
+        "status 4; nothing said; a record; goes on",
     ),
 ];
 

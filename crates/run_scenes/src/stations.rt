@@ -1,0 +1,59 @@
+//! Three stations on two channels, as files, and the lines of commands over files of these names.
+
+use std::alloc::{AllocError as NoMemory, Global};
+
+pub const COMMAND: &str = "repack run d.csv r.csv s.json out.csv chan.csv tr.txt";
+
+pub const CHECK: &str = "repack check d.csv r.csv s.json";
+
+pub const VERIFY: &str = "repack verify d.csv r.csv s.json tr.txt";
+
+pub const LIVE: &str = "repack live d.csv r.csv s.json w.csv out.csv chan.csv tr.txt";
+
+pub const SEEK: &str = "repack seek d.csv r.csv s.json chan.csv";
+
+pub const VERIFY_LIVE: &str = "repack verify-live d.csv r.csv s.json w.csv tr.txt";
+
+/// Each station may go on both channels.
+pub const DOMAINS: &str = "DOMAIN,1,14,15\nDOMAIN,2,14,15\nDOMAIN,3,14,15\n";
+
+/// No two of the stations may share a channel.
+pub const ROWS: &str = "CO,14,14,1,2,3\nCO,14,14,2,3\nCO,15,15,1,2,3\nCO,15,15,2,3\n";
+
+/// The scenario's clock: prices of 100, 60 and 20.
+pub const CLOCK: &str = "\"top\":15,\"opening\":100,\"decrements\":[40,40]";
+
+/// The scenario's stations, each with its value.
+pub const THREE: &str =
+    "{\"id\":1,\"volume\":1,\"value\":50},{\"id\":2,\"volume\":1,\"value\":70},{\"id\":3,\"volume\":1,\"value\":10}";
+
+/// Two stations without values, which start on air.
+pub const TWO_PLAIN: &str = "{\"id\":1,\"volume\":1},{\"id\":2,\"volume\":1}";
+
+/// The same of three stations, which do not fit.
+pub const THREE_PLAIN: &str =
+    "{\"id\":1,\"volume\":1},{\"id\":2,\"volume\":1},{\"id\":3,\"volume\":1}";
+
+/// A worker that decides each test.
+pub const MANY_LINES: &str = "{\"kind\":\"cdcl\",\"budget\":1000}";
+
+/// A worker that leaves open that three stations don't fit, which takes two lines.
+pub const ONE_LINE: &str = "{\"kind\":\"cdcl\",\"budget\":1}";
+
+/// A transcript of the three stations.
+pub const TRANSCRIPT: &str =
+    "transcript 1\nstart empty\nfit 1 1 1\nat 1 14\nfit 1 2 1\nat 2 14\nfit 1 3 1\nat 3 15\nfit 2 1 1\nat 1 15\nlog 2 3 0 2\non 1 2 3\n13 -1 0 7 2 8 3 12 0\n14 0 13 1 9 2 10 3 11 0\nend 5\n";
+
+/// Its last step.
+pub const LAST_STEP: &str =
+    "log 2 3 0 2\non 1 2 3\n13 -1 0 7 2 8 3 12 0\n14 0 13 1 9 2 10 3 11 0\n";
+
+/// The text of a scenario with this clock, these stations and these workers.
+pub fn scenario_text(
+    alloc: Global,
+    clock: &str,
+    stations: &str,
+    workers: &str,
+) -> Result<String, NoMemory> {
+    format!(in alloc; "{{\"version\":1,{clock},\"stations\":[{stations}],\"workers\":[{workers}]}}")
+}
