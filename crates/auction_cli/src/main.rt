@@ -2,6 +2,7 @@
 #![tactic(auto)]
 
 use auction_cmd::auction::auction_main;
+use auction_cmd::status::NO_MEMORY;
 use outside_io::real::{RealFolder, RealSink};
 use outside_io::sink::Sink;
 use solver_gate::gate::EmptyGate;
@@ -14,7 +15,7 @@ fn main(rt: HostRuntime) -> ExitCode {
     let mut out = RealSink::new(&rt);
     let Ok(words) = words_of(&rt) else {
         let _ = out.write(b"out of memory\n");
-        return ExitCode::from(8);
+        return ExitCode::from(NO_MEMORY);
     };
     let mut folder = RealFolder::new(&rt);
     let finish = auction_main(&rt, rt.alloc(), &words, &mut folder, &mut out, &EmptyGate);

@@ -1,3 +1,5 @@
+//! A sink in memory, for tests: it holds what was written, and fails where it is told to.
+
 ghost use Rattle.std.specs.Prelude.{◌≡◌, ◌-◌, ◌++◌, ◌≤◌, ◌↔◌, [], take, length, min, IsTrue, IfOk};
 
 use crate::fault_plan::FaultPlan;

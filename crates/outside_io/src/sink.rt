@@ -1,3 +1,5 @@
+//! What a program says: the trait `Sink`, and that a write of it failed.
+
 ghost use Rattle.std.specs.Prelude.{◌≡◌, ◌≤◌, ◌-◌, IsOk, OnOk, OnErr, length};
 ghost use Rattle.outside_io.specs.Faults.{HasRisen};
 ghost use Rattle.outside_io.specs.Loads.{Writes};

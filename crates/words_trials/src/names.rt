@@ -2,7 +2,7 @@
 
 use auction_cmd::make_words::MakeArgs;
 use auction_cmd::proof_words::{ExportArgs, ImportArgs};
-use auction_cmd::words::{InputArgs, RunArgs, VerifyArgs};
+use auction_cmd::run_words::{InputArgs, RunArgs, VerifyArgs};
 
 // The arguments of `run` with these names, in order, and with this owners' file.
 fn run_args<'a>(owners: Option<&'a str>, names: [&'a str; 6]) -> RunArgs<'a> {

@@ -2,7 +2,8 @@
 
 use auction_cmd::proof_words::{ExportArgs, ImportArgs};
 use auction_cmd::resume_words::ResumeArgs;
-use auction_cmd::words::{InputArgs, Order, WordsFault, read_words};
+use auction_cmd::run_words::InputArgs;
+use auction_cmd::words::{CommandArgs, WordsFault, read_words};
 use std::alloc::{AllocError as NoMemory, Global};
 
 // The words of a line with a comma between each two; an empty line has none.
@@ -48,35 +49,35 @@ fn inputs_text(alloc: Global, command: &str, files: InputArgs<'_>) -> Result<Str
 }
 
 // The order: its command and the names in their places, with a comma between each two.
-fn order_text(alloc: Global, order: Order<'_>) -> Result<String, NoMemory> {
+fn order_text(alloc: Global, order: CommandArgs<'_>) -> Result<String, NoMemory> {
     match order {
-        Order::Run(files) => {
+        CommandArgs::Run(files) => {
             let inputs = inputs_text(alloc, "run", files.inputs)?;
             let names = [files.result, files.channels, files.transcript];
             joined(alloc, &inputs, &names)
         }
-        Order::Check(files) => inputs_text(alloc, "check", files),
-        Order::Verify(files) => {
+        CommandArgs::Check(files) => inputs_text(alloc, "check", files),
+        CommandArgs::Verify(files) => {
             let inputs = inputs_text(alloc, "verify", files.inputs)?;
             joined(alloc, &inputs, &[files.transcript])
         }
-        Order::Resume(files) => resume_text(alloc, files),
-        Order::Seek(files) => {
+        CommandArgs::Resume(files) => resume_text(alloc, files),
+        CommandArgs::Seek(files) => {
             let names = [files.domains, files.rows, files.scenario, files.channels];
             joined(alloc, "order seek", &names)
         }
-        Order::Batch(files) => {
+        CommandArgs::Batch(files) => {
             let names = [files.domains, files.rows, files.list];
             joined(alloc, "order batch", &names)
         }
-        Order::Make(files) => {
+        CommandArgs::Make(files) => {
             let (seed, size, outputs) = (files.seed, files.size, files.outputs);
             let command = format!(in alloc; "order make,{seed},{size}")?;
             let names = [outputs.domains, outputs.rows, outputs.scenario];
             joined(alloc, &command, &names)
         }
-        Order::Export(files) => export_text(alloc, files),
-        Order::Import(files) => import_text(alloc, files),
+        CommandArgs::Export(files) => export_text(alloc, files),
+        CommandArgs::Import(files) => import_text(alloc, files),
     }
 }
 
