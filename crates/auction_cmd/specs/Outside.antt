@@ -30,5 +30,5 @@ abbrev pub IsSaid : Outside → Outside → List ℕ → Type 0
 IsSaid before after text = Says before.held after.held before.cuts after.cuts text
 
 -- so the sink alone, between what it told before and tells now
-abbrev pub Takes : SinkTold → SinkTold → List ℕ → Type 0
-Takes before after text = Says before.held after.held before.faults after.faults text
+abbrev pub IsSaidTo : SinkTold → SinkTold → List ℕ → Type 0
+IsSaidTo before after text = Says before.held after.held before.faults after.faults text

@@ -3,7 +3,7 @@
 ghost use Rattle.std.specs.Prelude.{◌≡◌, [], None, map};
 ghost use Rattle.std.specs.String.{string_bytes};
 ghost use Rattle.auction_cmd.specs.Faults.{AreFaultsCounted};
-ghost use Rattle.auction_cmd.specs.Outside.{Takes, outside};
+ghost use Rattle.auction_cmd.specs.Outside.{IsSaidTo, outside};
 ghost use Rattle.auction_cmd.specs.Plan.{plan_of};
 ghost use Rattle.auction_cmd.specs.Program.{ProgramEnds, ProgramPromises};
 ghost use Rattle.auction_cmd.specs.Says.{twice_line};
@@ -36,7 +36,7 @@ fn refuse_twice<K: Sink>(out: &mut K, name: &str) -> Finish
     ensures none { result.result ≡ None }
     ensures no_other { result.below ≡ None }
     ensures no_batch { result.batch ≡ [] }
-    ensures says { Takes (K.told out.old) (K.told out.new) (twice_line name.now) }
+    ensures says { IsSaidTo (K.told out.old) (K.told out.new) (twice_line name.now) }
 {
     say(out, &[name, ": given twice\n"]);
     Finish::without_record(REFUSED)

@@ -2,7 +2,7 @@
 
 ghost use Rattle.std.specs.Prelude.{◌≡◌, ◌≤◌, [], None};
 ghost use Rattle.auction_cmd.specs.Ends.{ExplainsHalt};
-ghost use Rattle.auction_cmd.specs.Outside.{Takes};
+ghost use Rattle.auction_cmd.specs.Outside.{IsSaidTo};
 ghost use Rattle.auction_cmd.specs.Says.{memory_line};
 ghost use Rattle.auction_cmd.specs.Statuses.{NO_MEMORY};
 ghost use Rattle.auction_cmd.specs.Words.{inputs_seen};
@@ -39,7 +39,7 @@ pub fn explain<K: Sink>(out: &mut K, files: &InputArgs<'_>, stop: Stop) -> u8
 
 /// Says that memory ran out. It takes none.
 pub fn say_memory<K: Sink>(out: &mut K)
-    ensures says { Takes (K.told out.old) (K.told out.new) memory_line }
+    ensures says { IsSaidTo (K.told out.old) (K.told out.new) memory_line }
     ensures counted { (K.told out.old).faults ≤ (K.told out.new).faults }
 {
     say(out, &["out of memory\n"]);
@@ -51,7 +51,7 @@ pub fn starve<K: Sink>(out: &mut K) -> Finish
     ensures none { result.result ≡ None }
     ensures no_other { result.below ≡ None }
     ensures no_batch { result.batch ≡ [] }
-    ensures line { Takes (K.told out.old) (K.told out.new) memory_line }
+    ensures line { IsSaidTo (K.told out.old) (K.told out.new) memory_line }
 {
     say_memory(out);
     Finish::without_record(NO_MEMORY)

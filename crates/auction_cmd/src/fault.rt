@@ -1,7 +1,7 @@
 //! Why a transcript is refused, and the line that says so.
 
 ghost use Rattle.std.specs.Prelude.{◌≡◌, ◌≤◌, ◌++◌};
-ghost use Rattle.auction_cmd.specs.Outside.{Takes};
+ghost use Rattle.auction_cmd.specs.Outside.{IsSaidTo};
 ghost use Rattle.auction_cmd.specs.Verified.{fault_line, unread_text, why_text};
 
 use crate::says::{say, say_at};
@@ -32,7 +32,7 @@ fn why_text(why: ShownWhy) -> &'static str
 // Says why the text of this name is none of a transcript.
 #[tactic(auto, unfolding(crate::specs::Verified::unread_text))]
 fn say_unread<K: Sink>(out: &mut K, name: &str, why: TextErr)
-    ensures says { Takes (K.told out.old) (K.told out.new) (name.now ++ unread_text why) }
+    ensures says { IsSaidTo (K.told out.old) (K.told out.new) (name.now ++ unread_text why) }
     ensures counted { (K.told out.old).faults ≤ (K.told out.new).faults }
 {
     match why {
@@ -46,7 +46,7 @@ fn say_unread<K: Sink>(out: &mut K, name: &str, why: TextErr)
 /// Says why the transcript of this name is refused. It takes no memory.
 #[tactic(auto, unfolding(crate::specs::Verified::fault_text))]
 pub fn say_fault<K: Sink>(out: &mut K, name: &str, fault: TranscriptFault)
-    ensures says { Takes (K.told out.old) (K.told out.new) (fault_line name.now fault) }
+    ensures says { IsSaidTo (K.told out.old) (K.told out.new) (fault_line name.now fault) }
     ensures counted { (K.told out.old).faults ≤ (K.told out.new).faults }
 {
     match fault {

@@ -1,7 +1,7 @@
 //! Why an input is refused, and the line that says so.
 
 ghost use Rattle.std.specs.Prelude.{◌≡◌, ◌≤◌, ◌++◌, codes, decimal};
-ghost use Rattle.auction_cmd.specs.Outside.{Takes};
+ghost use Rattle.auction_cmd.specs.Outside.{IsSaidTo};
 ghost use Rattle.auction_cmd.specs.Refusals.{input_of, refusal_line, owner_text, place_text, refusal_text, row_text, scenario_text};
 ghost use Rattle.auction_cmd.specs.Words.{inputs_seen};
 
@@ -101,7 +101,7 @@ fn owner_text(why: OwnerWhy) -> &'static str
 
 // Says of a member of the scenario, in the file of this name, what is wrong, and the place in its list, if it has one.
 fn say_member<'p, K: Sink>(out: &mut K, file: &'p str, what: &'p str, member: &'p str, at: u64)
-    ensures says { Takes (K.told out.old) (K.told out.new) (file.now ++ (what.now ++ (member.now ++ place_text at))) }
+    ensures says { IsSaidTo (K.told out.old) (K.told out.new) (file.now ++ (what.now ++ (member.now ++ place_text at))) }
     ensures counted { (K.told out.old).faults ≤ (K.told out.new).faults }
 {
     if at == 0 {
@@ -114,7 +114,7 @@ fn say_member<'p, K: Sink>(out: &mut K, file: &'p str, what: &'p str, member: &'
 
 // Says why a record in this line of the file of this name is refused.
 fn say_row<'p, K: Sink>(out: &mut K, file: &'p str, line: u64, why: &'p str)
-    ensures says { Takes (K.told out.old) (K.told out.new)
+    ensures says { IsSaidTo (K.told out.old) (K.told out.new)
         (file.now ++ codes ": line " ++ decimal line ++ codes ": " ++ why.now ++ codes "\n") }
     ensures counted { (K.told out.old).faults ≤ (K.told out.new).faults }
 {
@@ -128,7 +128,7 @@ fn say_row<'p, K: Sink>(out: &mut K, file: &'p str, line: u64, why: &'p str)
 // Says why the scenario, in the file of this name, is refused.
 #[tactic(auto, unfolding(crate::specs::Refusals::scenario_text))]
 fn say_scenario<K: Sink>(out: &mut K, file: &str, error: ScenarioErr)
-    ensures says { Takes (K.told out.old) (K.told out.new) (file.now ++ scenario_text error) }
+    ensures says { IsSaidTo (K.told out.old) (K.told out.new) (file.now ++ scenario_text error) }
     ensures counted { (K.told out.old).faults ≤ (K.told out.new).faults }
 {
     match error {
@@ -167,7 +167,7 @@ fn say_scenario<K: Sink>(out: &mut K, file: &str, error: ScenarioErr)
 // Says why the file of this name is refused.
 #[tactic(auto, unfolding(crate::specs::Refusals::refusal_text))]
 fn say_refusal<K: Sink>(out: &mut K, file: &str, refusal: Refusal)
-    ensures says { Takes (K.told out.old) (K.told out.new) (file.now ++ refusal_text refusal) }
+    ensures says { IsSaidTo (K.told out.old) (K.told out.new) (file.now ++ refusal_text refusal) }
     ensures counted { (K.told out.old).faults ≤ (K.told out.new).faults }
 {
     match refusal {
@@ -194,7 +194,7 @@ fn say_refusal<K: Sink>(out: &mut K, file: &str, refusal: Refusal)
 
 /// Says which of these files is refused, and why. It takes no memory.
 pub fn say_refused<K: Sink>(out: &mut K, files: &InputArgs<'_>, refusal: Refusal)
-    ensures says { Takes (K.told out.old) (K.told out.new) (refusal_line (inputs_seen files.now) refusal) }
+    ensures says { IsSaidTo (K.told out.old) (K.told out.new) (refusal_line (inputs_seen files.now) refusal) }
     ensures counted { (K.told out.old).faults ≤ (K.told out.new).faults }
 {
     say_refusal(out, files.of(refusal.input()), refusal);

@@ -4,7 +4,7 @@ ghost use Rattle.std.specs.Prelude.{◌≤◌, ◌++◌, OnErr, decimal};
 ghost use Rattle.std.specs.List.{flat_map};
 ghost use Rattle.outside_io.specs.Faults.{HasRisen};
 ghost use Rattle.outside_io.specs.Loads.{Writes};
-ghost use Rattle.auction_cmd.specs.Outside.{Takes};
+ghost use Rattle.auction_cmd.specs.Outside.{IsSaidTo};
 
 use itoa::Buffer;
 use outside_io::sink::{Failed, Sink};
@@ -24,7 +24,7 @@ fn write_parts<K: Sink>(out: &mut K, parts: &[&str]) -> Result<(), Failed>
 
 /// Writes a line of these parts, as far as the sink takes it. It takes no memory.
 pub fn say<K: Sink>(out: &mut K, parts: &[&str])
-    ensures says { Takes (K.told out.old) (K.told out.new) (flat_map (λ part. part.now) parts.now) }
+    ensures says { IsSaidTo (K.told out.old) (K.told out.new) (flat_map (λ part. part.now) parts.now) }
     ensures counted { (K.told out.old).faults ≤ (K.told out.new).faults }
 {
     let _ = write_parts(out, parts);
@@ -32,7 +32,7 @@ pub fn say<K: Sink>(out: &mut K, parts: &[&str])
 
 /// Says of the file of this name what is wrong with it at this place. It takes no memory.
 pub fn say_at<'p, K: Sink>(out: &mut K, name: &'p str, what: &'p str, at: u64, why: &'p str)
-    ensures says { Takes (K.told out.old) (K.told out.new) (name.now ++ (what.now ++ (decimal at ++ why.now))) }
+    ensures says { IsSaidTo (K.told out.old) (K.told out.new) (name.now ++ (what.now ++ (decimal at ++ why.now))) }
     ensures counted { (K.told out.old).faults ≤ (K.told out.new).faults }
 {
     let mut place = Buffer::new();

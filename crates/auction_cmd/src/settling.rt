@@ -1,7 +1,7 @@
 //! Which step of a verified record can be exported or settled, and the lines of what is at fault with a step and with a log.
 
 ghost use Rattle.std.specs.Prelude.{◌≡◌, ◌≤◌, ◌++◌, decimal, option_map};
-ghost use Rattle.auction_cmd.specs.Outside.{Takes};
+ghost use Rattle.auction_cmd.specs.Outside.{IsSaidTo};
 ghost use Rattle.auction_cmd.specs.Settling.{unsettled_line, missing_fault, open_fault, step_line, step_why, unlogged_text};
 ghost use Rattle.open_tests.specs.Queries.{step_at};
 
@@ -65,7 +65,7 @@ fn step_why(fault: StepFault) -> &'static str
 
 /// Says why the step of this number isn't exported or settled. It takes no memory.
 pub fn say_step<K: Sink>(out: &mut K, step: u32, fault: StepFault)
-    ensures says { Takes (K.told out.old) (K.told out.new) (step_line step fault) }
+    ensures says { IsSaidTo (K.told out.old) (K.told out.new) (step_line step fault) }
     ensures counted { (K.told out.old).faults ≤ (K.told out.new).faults }
 {
     let mut number = Buffer::new();
@@ -75,7 +75,7 @@ pub fn say_step<K: Sink>(out: &mut K, step: u32, fault: StepFault)
 // Says why the text of this name is none of a log.
 #[tactic(auto, unfolding(crate::specs::Settling::unlogged_text))]
 fn say_unread<K: Sink>(out: &mut K, name: &str, why: LratErr)
-    ensures says { Takes (K.told out.old) (K.told out.new) (name.now ++ unlogged_text why) }
+    ensures says { IsSaidTo (K.told out.old) (K.told out.new) (name.now ++ unlogged_text why) }
     ensures counted { (K.told out.old).faults ≤ (K.told out.new).faults }
 {
     match why {
@@ -89,7 +89,7 @@ fn say_unread<K: Sink>(out: &mut K, name: &str, why: LratErr)
 /// Says why the log of this name doesn't settle the step. It takes no memory.
 #[tactic(auto, unfolding(crate::specs::Settling::log_why))]
 pub fn say_log<K: Sink>(out: &mut K, name: &str, fault: SettleErr)
-    ensures says { Takes (K.told out.old) (K.told out.new) (unsettled_line name.now fault) }
+    ensures says { IsSaidTo (K.told out.old) (K.told out.new) (unsettled_line name.now fault) }
     ensures counted { (K.told out.old).faults ≤ (K.told out.new).faults }
 {
     match fault {
