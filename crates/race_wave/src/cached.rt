@@ -1,4 +1,5 @@
-//! Racers that ask a cache before they try a query, and keep there what they say: many auctions share it.
+//! Racers that ask a cache before they try a query, and keep there what they say: many auctions share it. The lock on it is held
+//! while what may answer is looked for, and not while that is checked, so that one racer's check keeps no other one waiting.
 
 ghost use Rattle.std.specs.Prelude.{◌≡◌, IfOk, IfSome, map};
 ghost use Rattle.cert_types.specs.Query.{IsQuery};
@@ -9,7 +10,8 @@ ghost use Rattle.auction_core.specs.Setup.{IsOfAuction};
 use crate::run::run_with;
 use auction_core::record::Record;
 use batch_cache::cache::Cache;
-use cert_types::answer::Answer;
+use cert_types::answer::{Answer, CertifyWhy};
+use cert_types::certify::certify_query;
 use cert_types::poll::{Attempt, Poll};
 use cert_types::task::Task;
 use pack_defs::book::Book;
@@ -22,8 +24,10 @@ use std::alloc::{AllocError as NoMemory, Global};
 use std::sync::{Mutex, Wait};
 use std::thread::Threads;
 
-/// A worker's racer, and the cache that is asked before it. What the cache answers is said in the racer's place; what the
-/// racer says is put into the cache. The cache is locked while it is asked or put into, and never while the racer tries.
+/// A worker's racer, and the cache that is asked before it. What the cache suggests is said in the racer's place, if the check lets
+/// it through; what the racer says is put into the cache. The cache is locked while it looks for a suggestion or is put into, and
+/// neither while a suggestion is checked nor while the racer tries. Only where one is refused the cache is asked for an answer,
+/// and locked while it looks for one among all that it keeps, and checks each.
 #[derive(Drop)]
 pub struct Cached<'a, W: Wait, R: Racer> {
     rt: &'a W,
@@ -57,8 +61,49 @@ impl<'a, W: Wait, R: Racer> Cached<'a, W, R> {
         }
     }
 
-    // What the cache answers, if it does. Where memory runs out for the look it answers nothing, and the racer tries.
+    // What the cache suggests, if the check lets it through. Where memory runs out for the look or the check it is nothing, and the
+    // racer tries.
     fn kept_answer(&self, alloc: Global, book: &Book, task: &Task) -> Option<Answer>
+        requires { IsQuery book.now task.now }
+        ensures { IfSome result (IsValid book.now task.now self.now.worker) }
+    {
+        let Some(suggestion) = self.suggestion(alloc, task) else {
+            return None;
+        };
+        match certify_query(alloc, book, task, &self.worker, suggestion) {
+            Ok(certified) => Some(certified.into_answer()),
+            Err(fault) => self.answer_if_refused(alloc, book, task, &fault.why),
+        }
+    }
+
+    // What the cache suggests, if it does and memory suffices. The lock is held for the look alone.
+    fn suggestion(&self, alloc: Global, task: &Task) -> Option<Answer> {
+        let mut cache = self.cache.lock(self.rt);
+        match cache.suggest(alloc, self.top, task, &self.worker) {
+            Ok(suggestion) => suggestion,
+            Err(_) => None,
+        }
+    }
+
+    // What the cache answers, if its suggestion was refused: another entry may be valid. Where only memory ran out it is nothing.
+    fn answer_if_refused(
+        &self,
+        alloc: Global,
+        book: &Book,
+        task: &Task,
+        why: &CertifyWhy,
+    ) -> Option<Answer>
+        requires { IsQuery book.now task.now }
+        ensures { IfSome result (IsValid book.now task.now self.now.worker) }
+    {
+        match why {
+            CertifyWhy::Rejected(_) => self.answer(alloc, book, task),
+            CertifyWhy::NoMemory => None,
+        }
+    }
+
+    // What the cache answers, if it does. Where memory runs out for the look it is nothing.
+    fn answer(&self, alloc: Global, book: &Book, task: &Task) -> Option<Answer>
         requires { IsQuery book.now task.now }
         ensures { IfSome result (IsValid book.now task.now self.now.worker) }
     {

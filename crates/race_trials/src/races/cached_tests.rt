@@ -1,4 +1,4 @@
-//! A test of a racer behind a cache: what was said once isn't tried again.
+//! A test of a racer behind a cache: what was said once isn't tried again, and what is kept and no fit is passed over.
 
 use crate::races::samples::{learner, three_stations};
 use batch_cache::cache::Cache;
@@ -17,6 +17,9 @@ use std::alloc::{AllocError as NoMemory, Global};
 use std::sync::atomic::{AtomicU64, Ordering};
 use std::sync::{Mutex, Wait};
 use std::test::Fail;
+
+// A station on a channel.
+type Entry = (u32, u8);
 
 // A solver whose attempts are counted.
 #[derive(Drop)]
@@ -53,6 +56,26 @@ fn task_of(alloc: Global, set: &[u32]) -> Result<Task, NoMemory> {
     })
 }
 
+// The map of these entries.
+fn map_of(alloc: Global, entries: &[Entry]) -> Result<ChannelMap, NoMemory> {
+    let mut map = ChannelMap::of(alloc, &[])?;
+    for entry in entries {
+        map = map.overlay(alloc, &ChannelMap::of(alloc, &[*entry])?)?;
+    }
+    Ok(map)
+}
+
+// A cache that keeps these maps, each of a set, the last one put last.
+fn cache_of(alloc: Global, kept: &[(&[u32], &[Entry])]) -> Result<Cache, NoMemory> {
+    let mut cache = Cache::make(alloc, 4)?;
+    for (set, entries) in kept {
+        let task = task_of(alloc, set)?;
+        let map = map_of(alloc, entries)?;
+        cache.put(alloc, 15, &task, &Answer::Fit(map))?;
+    }
+    Ok(cache)
+}
+
 // Whether the racer says that the set fits, if `fits`, or that it doesn't.
 fn says<R: Racer>(
     alloc: Global,
@@ -73,15 +96,16 @@ fn says<R: Racer>(
     })
 }
 
-// Whether a cached solver with ample budget says each of these, having attempted so many by then.
+// Whether a solver with ample budget behind a cache of these maps says each of these, having attempted so many by then.
 fn attempts<W: Wait>(
     rt: &W,
     alloc: Global,
     worker: &Worker,
+    kept: &[(&[u32], &[Entry])],
     rows: &[(&[u32], bool, u64)],
 ) -> Result<bool, NoMemory> {
     let book = three_stations(alloc)?;
-    let cache = Mutex::new(Cache::make(alloc, 4)?);
+    let cache = Mutex::new(cache_of(alloc, kept)?);
     let attempts = AtomicU64::new(0);
     let solver = RacerKind::for_worker(alloc, worker)?;
     let counted = Counted {
@@ -98,7 +122,8 @@ fn attempts<W: Wait>(
     Ok(true)
 }
 
-// An equal task is answered by the cache, and so is one of fewer stations where its set fits; one of more is tried.
+// An equal task is answered by the cache, and so is one of fewer stations where its set fits; one of more is tried. A kept map
+// that is no fit is passed over, for an older one or a refutation that is valid; where there is none the solver tries.
 #[test]
 fn what_was_said_is_not_tried_again(rt: HostRuntime) -> Result<(), Fail> {
     let rows: &[(&[u32], bool, u64)] = &[
@@ -109,6 +134,18 @@ fn what_was_said_is_not_tried_again(rt: HostRuntime) -> Result<(), Fail> {
         (&[1, 2, 3], false, 2),
         (&[1, 3], true, 3),
     ];
-    assert!(rt; attempts(&rt, rt.alloc(), &learner(1000), rows)?);
+    assert!(rt; attempts(&rt, rt.alloc(), &learner(1000), &[], rows)?);
+    let kept: &[(&[u32], &[Entry])] = &[
+        (&[1, 2], &[(1, 14), (2, 15)]),
+        (&[1, 2, 3], &[(1, 14), (2, 14), (3, 14)]),
+    ];
+    let passing_over: &[(&[u32], bool, u64)] = &[
+        (&[1, 2], true, 0),
+        (&[3], true, 0),
+        (&[1, 3], true, 1),
+        (&[1, 2, 3], false, 2),
+        (&[1, 2, 3], false, 2),
+    ];
+    assert!(rt; attempts(&rt, rt.alloc(), &learner(1000), kept, passing_over)?);
     Ok(())
 }
