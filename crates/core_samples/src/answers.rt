@@ -1,6 +1,7 @@
 //! Answers to the queries of stations 1 to 3, and the lines of the log that refutes all three.
 
 ghost use Rattle.std.specs.Prelude.{◌≡◌, ◌∷◌, [], IfOk};
+ghost use Rattle.pack_defs.specs.ChannelMap.{IsAscending};
 ghost use Rattle.cert_types.specs.declared.answer.Refutation.TheVariants.{Proof};
 ghost use Rattle.cert_types.specs.Examples.{log, not_one, the_end};
 
@@ -95,34 +96,45 @@ pub fn refutation(alloc: Global) -> Result<Refutation, NoMemory>
     })
 }
 
-fn empty_proof(alloc: Global) -> Result<Refutation, NoMemory> {
-    let mut lines = Lines::new(alloc);
-    lines.push(&[], &[])?;
-    Ok(Refutation::Proof {
-        subset: Items::from_vec(Vec::new(alloc)),
-        log: Log { lines },
-    })
+/// A fit that gives these channels.
+pub fn fit(alloc: Global, delta: &[(u32, u8)]) -> Result<Answer, NoMemory>
+    requires { IsAscending delta.now }
+{
+    Ok(Answer::Fit(ChannelMap::of(alloc, delta)?))
 }
 
-fn moved(alloc: Global, station: u32, channel: u8) -> Result<Receipt, NoMemory> {
-    let moves = vec![in alloc; (station, channel)]?;
-    Ok(Receipt::Moves(Items::from_vec(moves)))
+/// These moves of a walk.
+pub fn walk(alloc: Global, moves: &[(u32, u8)]) -> Result<Answer, NoMemory> {
+    let moves = Items::from_vec(Vec::from_slice(alloc, moves)?);
+    Ok(Answer::Spent(Receipt::Moves(moves)))
+}
+
+fn refuted(alloc: Global) -> Result<Answer, NoMemory> {
+    Ok(Answer::Refuted(refutation(alloc)?))
+}
+
+fn spent(alloc: Global) -> Result<Answer, NoMemory> {
+    Ok(Answer::Spent(Receipt::Lines(one_line(alloc)?)))
+}
+
+fn empty_proof(alloc: Global) -> Result<Answer, NoMemory> {
+    let mut lines = Lines::new(alloc);
+    lines.push(&[], &[])?;
+    let subset = Items::from_vec(Vec::new(alloc));
+    let log = Log { lines };
+    Ok(Answer::Refuted(Refutation::Proof { subset, log }))
 }
 
 /// The answer itself.
 pub fn answer(alloc: Global, given: Given) -> Result<Answer, NoMemory> {
     match given {
-        Given::FitNothing => Ok(Answer::Fit(ChannelMap::of(alloc, &[])?)),
-        Given::Fit(station, channel) => {
-            Ok(Answer::Fit(ChannelMap::of(alloc, &[(station, channel)])?))
-        }
-        Given::FitTwo(first, second) => {
-            Ok(Answer::Fit(ChannelMap::of(alloc, &[(1, first), (2, second)])?))
-        }
-        Given::Refuted => Ok(Answer::Refuted(refutation(alloc)?)),
+        Given::FitNothing => fit(alloc, &[]),
+        Given::Fit(station, channel) => fit(alloc, &[(station, channel)]),
+        Given::FitTwo(first, second) => fit(alloc, &[(1, first), (2, second)]),
+        Given::Refuted => refuted(alloc),
         Given::Dead(pair) => Ok(Answer::Refuted(Refutation::Dead(pair))),
-        Given::EmptyProof => Ok(Answer::Refuted(empty_proof(alloc)?)),
-        Given::Spent => Ok(Answer::Spent(Receipt::Lines(one_line(alloc)?))),
-        Given::Moved(station, channel) => Ok(Answer::Spent(moved(alloc, station, channel)?)),
+        Given::EmptyProof => empty_proof(alloc),
+        Given::Spent => spent(alloc),
+        Given::Moved(station, channel) => walk(alloc, &[(station, channel)]),
     }
 }

@@ -8,13 +8,14 @@ ghost use Rattle.cert_types.specs.Certificate.{IsTaskOf};
 ghost use Rattle.cert_types.specs.Query.{IsQuery};
 
 use crate::answers::fresh_tests::{next, pick};
-use crate::answers::samples::{fit, four_stations, task};
+use crate::answers::samples::{four_stations, task};
 use crate::answers::tests::place;
 use assign_check::check::violation;
 use cert_types::answer::{Answer, Place};
 use cert_types::certify::{certify, certify_query};
 use cert_types::query::is_query;
 use cert_types::task::Task;
+use core_samples::answers::fit;
 use core_samples::books::apart;
 use core_samples::workers::learner;
 use pack_defs::book::Book;

@@ -1,12 +1,13 @@
 //! Answers that the check lets through, or hands back: each is still the same.
 
 use crate::answers::samples::{
-    NOT_ONE, OUT_OF_TURN, THE_END, Text, fit, four_stations, proof, receipt, task, walk,
+    NOT_ONE, OUT_OF_TURN, THE_END, Text, four_stations, proof, receipt, task,
 };
 use crate::answers::tests::{ALL, checked};
 use cert_types::answer::{Answer, CertifyFault, Receipt, Refutation};
 use cert_types::certified::Certified;
 use cert_types::certify::certify;
+use core_samples::answers::{fit, walk};
 use core_samples::workers::learner;
 use rup_check::cursors::{Hints, Literals};
 use rup_check::lines::Lines;

@@ -5,14 +5,15 @@ ghost use Rattle.pack_defs.specs.ChannelMap.{IsAscending};
 ghost use Rattle.pack_defs.specs.Lists.{is_ascending};
 
 use crate::answers::samples::{
-    EMPTY_AGAIN, NOT_ONE, OUT_OF_TURN, THE_END, Text, crowded_stations, fit, four_stations, log,
-    proof, receipt, task, walk,
+    EMPTY_AGAIN, NOT_ONE, OUT_OF_TURN, THE_END, Text, crowded_stations, four_stations, log, proof,
+    receipt, task,
 };
 use cert_types::answer::{Answer, CertifyFault, CertifyWhy, Place, Refutation};
 use cert_types::certified::Certified;
 use cert_types::certify::certify;
 use cert_types::outside::certify_outside;
 use cert_types::start::start_map;
+use core_samples::answers::{fit, walk};
 use core_samples::books::apart;
 use core_samples::workers::{learner, walker};
 use pack_defs::pair::Pair;
