@@ -2,6 +2,7 @@
 
 mod changes_tests;
 mod fresh_tests;
+mod kept_tests;
 mod receipt_tests;
 mod samples;
 mod tests;

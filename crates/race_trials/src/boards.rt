@@ -1,4 +1,3 @@
 //! Tests of `answer_board`.
 
-mod samples;
 mod tests;

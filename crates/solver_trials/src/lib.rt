@@ -6,6 +6,8 @@ mod learners;
 #[cfg(test)]
 mod looks;
 #[cfg(test)]
+mod samples;
+#[cfg(test)]
 mod trails;
 #[cfg(test)]
 mod walkers;

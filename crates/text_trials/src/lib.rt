@@ -8,6 +8,8 @@ mod logs;
 #[cfg(test)]
 mod results;
 #[cfg(test)]
+mod texts;
+#[cfg(test)]
 mod transcripts;
 #[cfg(test)]
 mod verified;

@@ -8,13 +8,16 @@ ghost use Rattle.cert_types.specs.Certificate.{IsTaskOf};
 ghost use Rattle.cert_types.specs.Query.{IsQuery};
 
 use crate::answers::fresh_tests::{next, pick};
-use crate::answers::samples::{fit, four_stations, learner, on_one, task};
+use crate::answers::samples::{four_stations, task};
 use crate::answers::tests::place;
 use assign_check::check::violation;
 use cert_types::answer::{Answer, Place};
 use cert_types::certify::{certify, certify_query};
 use cert_types::query::is_query;
 use cert_types::task::Task;
+use core_samples::answers::fit;
+use core_samples::books::apart;
+use core_samples::workers::learner;
 use pack_defs::book::Book;
 use pack_defs::channel_map::ChannelMap;
 use pack_defs::domain::Domain;
@@ -282,6 +285,6 @@ fn broken_before(alloc: Global) -> Result<(bool, Option<Place>), NoMemory> {
 fn last_map_at_fault(rt: HostRuntime) -> Result<(), Fail> {
     let (asked, place) = broken_before(rt.alloc())?;
     assert!(rt; !asked);
-    assert_eq!(rt; place, Some(Place::PairOf(on_one(1, 2, 14))));
+    assert_eq!(rt; place, Some(Place::PairOf(apart(1, 2, 14))));
     Ok(())
 }

@@ -1,10 +1,10 @@
 //! The first line that is not new, beside a look at all earlier ones, over clauses and lines made at random.
 ghost use Rattle.std.specs.Prelude.{◌<◌};
 
-use crate::answers::samples::lits;
 use cert_types::fresh::first_stale;
 use clause_db::list::ClauseList;
 use clause_db::lit::Lit;
+use core_samples::answers::lits;
 use rup_check::lines::Lines;
 use std::alloc::{AllocError as NoMemory, Global};
 use std::test::Fail;

@@ -2,29 +2,19 @@
 
 ghost use Rattle.auction_core.specs.Setup.{IsOfAuction};
 
-use crate::auctions::samples::{Crew, Given, three_stations, two_rounds};
+use crate::auctions::samples::{Crew, two_rounds};
 use crate::auctions::tests::{ALL_ON_AIR, BESIDE_SECOND, Came, Case, Want, ended};
 use auction_core::auction::Auction;
 use auction_core::record::Ending;
+use core_samples::answers::Given;
+use core_samples::books::three_stations;
+use core_samples::owners::{AS_BID, Lines, SECOND_DECLINES, saying};
 use pack_defs::book::Book;
 use pack_defs::order::Order;
-use pack_defs::owners::{OwnerLine, Owners};
+use pack_defs::owners::Owners;
 use pack_defs::scenario::Scenario;
 use std::alloc::{AllocError as NoMemory, Global};
 use std::test::Fail;
-
-// Owners that say of these rounds and stations that they stay.
-fn staying(alloc: Global, stays: &[(u32, u32)]) -> Result<Owners, NoMemory> {
-    let mut owners = Owners::new(alloc);
-    for (round, station) in stays {
-        owners.add(OwnerLine {
-            round: *round,
-            station: *station,
-            stays: true,
-        })?;
-    }
-    Ok(owners)
-}
 
 // What the live auction of a scenario and a book came to, whose owners say these lines.
 fn played_live(
@@ -47,10 +37,10 @@ fn of_three(alloc: Global, owners: &Owners, cases: &[Case]) -> Result<Option<Cam
     played_live(alloc, &sc, &three_stations(alloc)?, owners, cases)
 }
 
-const LIVE: &[(&[(u32, u32)], &[Case], Came)] = &[
+const LIVE: &[(Lines, &[Case], Came)] = &[
     // Station 2 leaves in round 1 and station 1 in round 2, and station 3 never, so it is frozen at 60 cents.
     (
-        &[(0, 1), (1, 1), (0, 2), (0, 3), (1, 3), (2, 3)],
+        AS_BID,
         &[
             (0, 1, Given::Fit(1, 14), Want::Next(2)),
             (0, 2, Given::Fit(2, 14), Want::Next(3)),
@@ -62,7 +52,7 @@ const LIVE: &[(&[(u32, u32)], &[Case], Came)] = &[
     ),
     // Without its line for the opening station 2 is on air from the start.
     (
-        &[(0, 1), (1, 1), (0, 3), (1, 3), (2, 3)],
+        SECOND_DECLINES,
         BESIDE_SECOND,
         ((Ending::Done, 5, 4, 60), 1, false, Some(15)),
     ),
@@ -70,8 +60,8 @@ const LIVE: &[(&[(u32, u32)], &[Case], Came)] = &[
 
 #[test]
 fn owners_say_who_stays(rt: HostRuntime) -> Result<(), Fail> {
-    for (stays, cases, want) in LIVE {
-        let owners = staying(rt.alloc(), stays)?;
+    for (lines, cases, want) in LIVE {
+        let owners = saying(rt.alloc(), lines)?;
         let came = of_three(rt.alloc(), &owners, cases)?;
         assert_eq!(rt; came, Some(*want));
     }

@@ -3,9 +3,12 @@ ghost use Rattle.std.specs.Prelude.{◌≡◌, ◌+◌, ◌∷◌, [], IfOk, Som
 ghost use Rattle.pack_defs.specs.Book.{stations_of};
 ghost use Rattle.pack_defs.specs.Scenario.{IsWithinLimits, facilities};
 
-use crate::auctions::samples::{Given, bid, book, on, on_one, one_round};
+use crate::auctions::samples::one_round;
 use crate::auctions::tests::{Came, Case, End, Want, played};
 use auction_core::record::Ending;
+use core_samples::answers::Given;
+use core_samples::books::{apart, book, lone_station, on};
+use core_samples::scenarios::bid;
 use pack_defs::book::Book;
 use pack_defs::order::Order;
 use pack_defs::pair::Pair;
@@ -28,15 +31,14 @@ enum Scene {
 
 fn dead_pair(alloc: Global, cases: &[Case]) -> Result<Option<Came>, NoMemory> {
     let domains = [on(alloc, 1, &[14])?, on(alloc, 2, &[14])?];
-    let two = book(alloc, &[1, 2], &domains, &[on_one(1, 2, 14)])?;
-    let sc = one_round(alloc, vec![in alloc; bid(1, None), bid(2, None)]?)?;
+    let two = book(alloc, &[1, 2], &domains, &[apart(1, 2, 14)])?;
+    let sc = one_round(alloc, vec![in alloc; bid(1, 1, None), bid(2, 1, None)]?)?;
     played(alloc, sc, &two, Order::ByFacility, cases)
 }
 
 fn no_channel(alloc: Global, value: u8, cases: &[Case]) -> Result<Option<Came>, NoMemory> {
-    let sc = one_round(alloc, vec![in alloc; bid(1, Some(u64::from(value)))]?)?;
-    let lone = book(alloc, &[1], &[], &[])?;
-    played(alloc, sc, &lone, Order::ByFacility, cases)
+    let sc = one_round(alloc, vec![in alloc; bid(1, 1, Some(u64::from(value)))]?)?;
+    played(alloc, sc, &lone_station(alloc)?, Order::ByFacility, cases)
 }
 
 fn no_station(alloc: Global, cases: &[Case]) -> Result<Option<Came>, NoMemory> {
@@ -51,7 +53,13 @@ fn five_bids(alloc: Global) -> Result<Scenario, NoMemory>
     ensures stations { IfOk result (λ sc. facilities sc ≡ 1 ∷ 2 ∷ 3 ∷ 4 ∷ 5 ∷ []) }
 {
     let v = Some(5);
-    let bids = vec![in alloc; bid(1, v), bid(2, v), bid(3, v), bid(4, v), bid(5, v)]?;
+    let bids = vec![in alloc;
+        bid(1, 1, v),
+        bid(2, 1, v),
+        bid(3, 1, v),
+        bid(4, 1, v),
+        bid(5, 1, v),
+    ]?;
     one_round(alloc, bids)
 }
 
@@ -108,11 +116,7 @@ fn tests_without_a_query(rt: HostRuntime) -> Result<(), Fail> {
 fn of_volume(id: u32, volume: u8) -> Station
     ensures { result ≡ record { id = id; volume = volume + 1; value = Some 5 } }
 {
-    Station {
-        id,
-        volume: u32::from(volume) + 1,
-        value: Some(5),
-    }
+    bid(id, u32::from(volume) + 1, Some(5))
 }
 
 // Stations 1 to 3 of such volumes.

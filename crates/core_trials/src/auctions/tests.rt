@@ -1,23 +1,20 @@
 //! Auctions driven by postings: what each is told, and what the auction came to.
-ghost use Rattle.std.specs.Prelude.{◌≡◌, IfOk};
-ghost use Rattle.cert_types.specs.Certificate.{IsTaskOf};
-ghost use Rattle.cert_types.specs.Valid.{IsValid};
-ghost use Rattle.auction_core.specs.Said.{AnswersIfGood};
+
+ghost use Rattle.std.specs.Prelude.{◌≡◌};
 ghost use Rattle.auction_core.specs.Setup.{IsOfAuction};
 
-use crate::auctions::samples::{Crew, Given, Values, answer, three_stations, two_rounds};
+use crate::auctions::samples::{Crew, Values, two_rounds};
 use auction_core::auction::Auction;
-use auction_core::posting::{Posting, Reply, Said};
+use auction_core::posting::Reply;
 use auction_core::record::{Ending, Record, Shown, Step};
-use cert_types::answer::{Answer, CertifyFault, CertifyWhy, Place};
-use cert_types::certified::Certified;
-use cert_types::certify::certify;
-use cert_types::task::Task;
+use cert_types::answer::Place;
+use core_samples::answers::Given;
+use core_samples::books::three_stations;
+use core_samples::postings::post;
 use pack_defs::book::Book;
 use pack_defs::order::Order;
 use pack_defs::pair::Pair;
 use pack_defs::scenario::Scenario;
-use pack_defs::worker::Worker;
 use std::alloc::{AllocError as NoMemory, Global};
 use std::test::Fail;
 
@@ -52,72 +49,6 @@ fn reply(want: Want) -> Reply {
 
 // A posting of a worker for a query, and what it is to be told.
 pub(crate) type Case = (u32, u64, Given, Want);
-
-// What lets a worker's answer to a query through, or the first place at which it is at fault.
-fn checked(
-    alloc: Global,
-    book: &Book,
-    task: &Task,
-    worker: &Worker,
-    answer: Answer,
-) -> Result<Result<Certified, Place>, NoMemory>
-    requires { IsTaskOf book.now task.now }
-    ensures { IfOk result (λ said. IfOk said (λ certified. IsValid book.now task.now worker.now certified.answer)) }
-{
-    match certify(alloc, book, task, worker, answer) {
-        Ok(certified) => Ok(Ok(certified)),
-        Err(fault) => Ok(Err(place(fault)?)),
-    }
-}
-
-// The place that a check found at fault.
-fn place(fault: CertifyFault) -> Result<Place, NoMemory> {
-    match fault.why {
-        CertifyWhy::Rejected(place) => Ok(place),
-        CertifyWhy::NoMemory => Err(NoMemory),
-    }
-}
-
-// What the check of a worker's answer to the standing query says.
-fn looked_at(
-    alloc: Global,
-    auction: &Auction,
-    worker: u32,
-    answer: Answer,
-) -> Result<Said, NoMemory>
-    ensures { IfOk result (λ said. AnswersIfGood auction.now.scenario auction.now.book auction.now.state worker said) }
-{
-    let Some(task) = auction.task(alloc)? else {
-        return Ok(Said::Bad(Place::Count));
-    };
-    let Some(of) = auction.workers().get(worker as usize) else {
-        return Ok(Said::Bad(Place::Count));
-    };
-    match checked(alloc, auction.book(), &task, of, answer)? {
-        Ok(certified) => return Ok(Said::Good(certified)),
-        Err(place) => return Ok(Said::Bad(place)),
-    }
-}
-
-// Posts the answer of a worker for a query.
-fn post(
-    alloc: Global,
-    auction: &mut Auction,
-    worker: u32,
-    number: u64,
-    given: Given,
-) -> Result<Reply, NoMemory>
-    ensures { auction.new.scenario ≡ auction.old.scenario }
-{
-    auction.reserve()?;
-    let answer = answer(alloc, given)?;
-    let said = looked_at(alloc, auction, worker, answer)?;
-    Ok(auction.take(Posting {
-        worker,
-        number,
-        said,
-    }))
-}
 
 // Posts these one after another, and says whether each is told what it is to be.
 pub(crate) fn are_told(

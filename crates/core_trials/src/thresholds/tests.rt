@@ -1,52 +1,28 @@
 //! Tests of the plain rule and of what is paid.
 
-ghost use Rattle.std.specs.Prelude.{◌≡◌, None, IfOk, IsTrue, map};
+ghost use Rattle.std.specs.Prelude.{◌≡◌, None, IfOk, map};
 ghost use Rattle.std.specs.List.Sorted.{IsStrictlyIncreasing};
-ghost use Rattle.pack_defs.specs.Lists.{is_ascending};
 ghost use Rattle.pack_defs.specs.Scenario.{StationsAscend};
 
+use core_samples::books::{all_apart, on};
 use pack_defs::book::Book;
-use pack_defs::domain::Domain;
 use pack_defs::fall::Fall;
 use pack_defs::items::Items;
 use pack_defs::order::Order;
-use pack_defs::pair::Pair;
 use pack_defs::scenario::Scenario;
 use pack_defs::station::Station;
 use std::alloc::{AllocError as NoMemory, Global};
 use std::test::Fail;
 use threshold_laws::wins::wins_at;
 
-// A station that may use channels 14 to 16.
-fn station_on(alloc: Global, station: u32) -> Result<Domain, NoMemory>
-    ensures { IfOk result (λ d. (d.station ≡ station) × IsTrue (is_ascending d.channels)) }
-{
-    let channels = Items::from_vec(Vec::from_slice(alloc, &[14, 15, 16])?);
-    Ok(Domain { station, channels })
-}
-
-// Two stations that may not both use this channel.
-fn apart(f: u32, g: u32, c: u8) -> Pair
-    ensures { result ≡ record { f = f; a = c; g = g; b = c } }
-{
-    Pair { f, a: c, g, b: c }
-}
-
 // Three stations on channels 14 to 16 up to the top one, of which no two may share 14 or 15.
 fn book_up_to(alloc: Global, top: u8) -> Result<Book, NoMemory> {
     let domains = [
-        station_on(alloc, 1)?,
-        station_on(alloc, 2)?,
-        station_on(alloc, 3)?,
+        on(alloc, 1, &[14, 15, 16])?,
+        on(alloc, 2, &[14, 15, 16])?,
+        on(alloc, 3, &[14, 15, 16])?,
     ];
-    let pairs = [
-        apart(1, 2, 14),
-        apart(1, 3, 14),
-        apart(1, 2, 15),
-        apart(1, 3, 15),
-        apart(2, 3, 14),
-        apart(2, 3, 15),
-    ];
+    let pairs = all_apart(alloc)?;
     Book::build(alloc, top, &[1, 2, 3], &domains, &pairs)
 }
 

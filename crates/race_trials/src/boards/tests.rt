@@ -5,11 +5,14 @@ ghost use Rattle.turn_lock.specs.Passes.{IsIdle, standing};
 ghost use Rattle.turn_lock.specs.Turns.{AllOf};
 ghost use Rattle.answer_board.specs.Boards.{AreAllOn, IsPassOn};
 
-use crate::boards::samples::{Given, answer, three_stations, two_learners};
 use answer_board::board::{Board, Pass};
 use auction_core::auction::Auction;
 use auction_core::posting::Reply;
 use cert_types::answer::Place;
+use core_samples::answers::{Given, answer};
+use core_samples::books::three_stations;
+use core_samples::scenarios::three_bids;
+use core_samples::workers::learner;
 use pack_defs::order::Order;
 use pack_defs::pair::Pair;
 use std::alloc::{AllocError as NoMemory, Global};
@@ -89,7 +92,8 @@ const TO_THE_END: &[(usize, Case)] = &[
 
 // The auction of three stations, with two workers of budget 1, at its first query.
 fn auction(alloc: Global) -> Result<Auction, NoMemory> {
-    let sc = two_learners(alloc)?;
+    let workers = vec![in alloc; learner(1), learner(1)]?;
+    let sc = three_bids(alloc, 70, 1, workers)?;
     let book = three_stations(alloc)?;
     Auction::start(alloc, &sc, &book, Order::ByFacility)
 }

@@ -1,11 +1,12 @@
 //! A test of a racer behind a cache: what was said once isn't tried again, and what is kept and no fit is passed over.
 
-use crate::races::samples::{learner, three_stations};
 use batch_cache::cache::Cache;
 use cert_types::answer::Answer;
 use cert_types::poll::{Attempt, Poll};
 use cert_types::query::is_query;
 use cert_types::task::Task;
+use core_samples::books::three_stations;
+use core_samples::workers::learner;
 use pack_defs::book::Book;
 use pack_defs::channel_map::ChannelMap;
 use pack_defs::items::Items;

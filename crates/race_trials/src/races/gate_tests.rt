@@ -1,7 +1,9 @@
 //! A test of two workers that meet at each query, held by a gate.
 
-use crate::races::samples::{comes, learner, three_bids};
+use crate::races::samples::comes;
 use crate::races::tests::{By, freezes};
+use core_samples::scenarios::three_bids;
+use core_samples::workers::learner;
 use solver_gate::gate::{Gate, Spot};
 use std::sync::atomic::{AtomicU64, Ordering};
 use std::test::Fail;
@@ -44,7 +46,8 @@ impl Gate for Meeting {
 #[test]
 fn two_workers_race_at_each_query(rt: HostRuntime) -> Result<(), Fail> {
     let alloc = rt.alloc();
-    let sc = three_bids(alloc, vec![in alloc; learner(1000), learner(1000)]?, 1)?;
+    let workers = vec![in alloc; learner(1000), learner(1000)]?;
+    let sc = three_bids(alloc, 70, 1, workers)?;
     let gate = Meeting {
         came: AtomicU64::new(0),
         answered: AtomicU64::new(0),

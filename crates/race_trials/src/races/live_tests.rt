@@ -3,11 +3,15 @@
 ghost use Rattle.std.specs.Prelude.{◌≡◌, ◌∷◌, []};
 ghost use Rattle.pack_defs.specs.Scenario.{IsWithinLimits, facilities};
 
-use crate::races::samples::{all_on_air, learner, three_bids, three_stations};
+use crate::races::samples::all_on_air;
 use crate::races::tests::{By, Test, are_of};
 use auction_core::record::{Ending, Record};
+use core_samples::books::three_stations;
+use core_samples::owners::{ALL_STAY, AS_BID, FIRST_LEAVES, FIRST_STAYS, Lines, saying};
+use core_samples::scenarios::three_bids_by_one;
+use core_samples::workers::learner;
 use pack_defs::channel_map::ChannelMap;
-use pack_defs::owners::{OwnerLine, Owners};
+use pack_defs::owners::Owners;
 use pack_defs::scenario::Scenario;
 use race_wave::run::run_live;
 use solver_gate::gate::EmptyGate;
@@ -16,24 +20,8 @@ use std::sync::Wait;
 use std::test::Fail;
 use std::thread::Threads;
 
-// What the owners say: round, station, whether it stays.
-type Lines = &'static [(u32, u32, bool)];
-
 // How an auction ends: its total in cents, its tests, and the stations on air.
 type End = (Ending, u64, &'static [Test], &'static [u32]);
-
-// Owners that say these lines.
-fn saying(alloc: Global, lines: Lines) -> Result<Owners, NoMemory> {
-    let mut owners = Owners::new(alloc);
-    for (round, station, stays) in lines {
-        owners.add(OwnerLine {
-            round: *round,
-            station: *station,
-            stays: *stays,
-        })?;
-    }
-    Ok(owners)
-}
 
 // Whether the record's scenario has these owners.
 fn has_owners(record: &Record, owners: &Owners) -> bool {
@@ -101,14 +89,7 @@ fn ends_otherwise<W: Threads + Wait + Sync>(
 const LIVE: &[(Lines, End)] = &[
     // As by values of 50, 70 and 10.
     (
-        &[
-            (0, 1, true),
-            (1, 1, true),
-            (0, 2, true),
-            (0, 3, true),
-            (1, 3, true),
-            (2, 3, true),
-        ],
+        AS_BID,
         (
             Ending::Done,
             60,
@@ -147,14 +128,7 @@ const LIVE: &[(Lines, End)] = &[
     ),
     // Station 1 stays in each round, and is tested once more behind the last fall.
     (
-        &[
-            (0, 1, true),
-            (1, 1, true),
-            (2, 1, true),
-            (0, 2, true),
-            (0, 3, true),
-            (1, 3, true),
-        ],
+        FIRST_STAYS,
         (
             Ending::Done,
             20,
@@ -171,17 +145,7 @@ const LIVE: &[(Lines, End)] = &[
     ),
     // All stay in each round, and whoever fits behind the last fall goes on air.
     (
-        &[
-            (0, 1, true),
-            (1, 1, true),
-            (2, 1, true),
-            (0, 2, true),
-            (1, 2, true),
-            (2, 2, true),
-            (0, 3, true),
-            (1, 3, true),
-            (2, 3, true),
-        ],
+        ALL_STAY,
         (
             Ending::Done,
             20,
@@ -201,15 +165,7 @@ const LIVE: &[(Lines, End)] = &[
     ),
     // Station 1 leaves at once, and is not back where it says later that it stays.
     (
-        &[
-            (0, 1, true),
-            (2, 1, true),
-            (0, 2, true),
-            (1, 2, true),
-            (0, 3, true),
-            (1, 3, true),
-            (2, 3, true),
-        ],
+        FIRST_LEAVES,
         (
             Ending::Done,
             60,
@@ -254,7 +210,7 @@ fn owners_say_who_stays(rt: HostRuntime) -> Result<(), Fail> {
     let alloc = rt.alloc();
     let without = all_on_air(alloc, vec![in alloc; learner(1000)]?)?;
     assert_eq!(rt; ends_otherwise(&rt, alloc, &without, LIVE)?, None);
-    let with = three_bids(alloc, vec![in alloc; learner(1000)]?, 1)?;
+    let with = three_bids_by_one(alloc, 70, 1, 1000)?;
     assert_eq!(rt; ends_otherwise(&rt, alloc, &with, LIVE)?, None);
     Ok(())
 }

@@ -4,10 +4,13 @@ ghost use Rattle.std.specs.Prelude.{◌≡◌, ◌≤◌, ◌∷◌, [], IfOk};
 ghost use Rattle.pack_defs.specs.Scenario.{IsWithinLimits, facilities};
 ghost use Rattle.auction_core.specs.Setup.{IsOfAuction};
 
-use crate::races::samples::{all_on_air, learner, three_bids, three_stations};
+use crate::races::samples::all_on_air;
 use auction_core::auction::Auction;
 use auction_core::record::{Ending, Record, Shown, Step};
 use cert_types::answer::Refutation;
+use core_samples::books::three_stations;
+use core_samples::scenarios::{three_bids, three_bids_by_one};
+use core_samples::workers::learner;
 use pack_defs::book::Book;
 use pack_defs::channel_map::ChannelMap;
 use pack_defs::order::Order;
@@ -137,7 +140,7 @@ fn one_freezes<W: Threads + Wait + Sync>(
     requires some { 1 ≤ budget }
     requires few { budget ≤ 1000 }
 {
-    let sc = three_bids(alloc, vec![in alloc; learner(budget)]?, 1)?;
+    let sc = three_bids_by_one(alloc, 70, 1, budget)?;
     freezes(rt, alloc, &EmptyGate, &sc, last)
 }
 
@@ -147,7 +150,7 @@ fn freezes_behind<W: Threads + Wait + Sync>(
     alloc: Global,
     turns: u32,
 ) -> Result<bool, NoMemory> {
-    let sc = three_bids(alloc, vec![in alloc; learner(1000)]?, 1)?;
+    let sc = three_bids_by_one(alloc, 70, 1, 1000)?;
     let book = three_stations(alloc)?;
     let auction = turned(alloc, &sc, &book, turns)?;
     let record = go_on(rt, alloc, auction, sc, &book, &EmptyGate)?;
@@ -181,7 +184,8 @@ fn two_freeze<W: Threads + Wait + Sync>(
     requires few { first ≤ 1000 }
     requires few_second { second ≤ 1000 }
 {
-    let sc = three_bids(alloc, vec![in alloc; learner(first), learner(second)]?, 1)?;
+    let workers = vec![in alloc; learner(first), learner(second)]?;
+    let sc = three_bids(alloc, 70, 1, workers)?;
     freezes(rt, alloc, &EmptyGate, &sc, last)
 }
 
@@ -216,7 +220,7 @@ fn three_stations_are_asked_by_sixteen_workers(rt: HostRuntime) -> Result<(), Fa
     let alloc = rt.alloc();
     let w = learner(1000);
     let workers = vec![in alloc; w, w, w, w, w, w, w, w, w, w, w, w, w, w, w, w]?;
-    let sc = three_bids(alloc, workers, 1)?;
+    let sc = three_bids(alloc, 70, 1, workers)?;
     assert!(rt; freezes(&rt, alloc, &EmptyGate, &sc, By::Proof)?);
     Ok(())
 }
@@ -225,7 +229,7 @@ fn three_stations_are_asked_by_sixteen_workers(rt: HostRuntime) -> Result<(), Fa
 #[test]
 fn greater_volumes_are_tested_first(rt: HostRuntime) -> Result<(), Fail> {
     let alloc = rt.alloc();
-    let sc = three_bids(alloc, vec![in alloc; learner(1000)]?, 2)?;
+    let sc = three_bids_by_one(alloc, 70, 2, 1000)?;
     let tests = [
         (1, 3, By::Fit),
         (1, 1, By::Fit),

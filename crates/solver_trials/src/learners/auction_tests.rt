@@ -1,6 +1,7 @@
 //! One solver over the queries of whole auctions: what it keeps from query to query changes no answer.
 
-use crate::learners::samples::{ALWAYS, Said, attempted, by_chance, learner, packing, task_of};
+use crate::learners::samples::{ALWAYS, Said, attempted, by_chance, learner, packing};
+use crate::samples::task_of;
 use cdcl_prove::cdcl::{Cdcl, Searched};
 use cert_types::query::is_query;
 use cert_types::task::Task;

@@ -2,9 +2,8 @@
 
 ghost use Rattle.std.specs.Prelude.{◌≡◌};
 
-use crate::learners::samples::{
-    ALWAYS, Said, attempted, book, by_chance, learner, packing, task, task_of,
-};
+use crate::learners::samples::{ALWAYS, Said, attempted, by_chance, learner, packing};
+use crate::samples::{book, task, task_of};
 use cdcl_prove::cdcl::Cdcl;
 use first_looks::looks::Looked;
 use pack_defs::book::Book;

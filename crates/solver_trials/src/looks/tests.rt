@@ -1,6 +1,7 @@
 //! What each look finds, and what none finds.
 
-use crate::looks::samples::{book, task};
+use crate::looks::samples::task;
+use crate::samples::book;
 use cert_types::query::is_query;
 use first_looks::looks::{FirstLooks, Looked};
 use pack_defs::book::Book;

@@ -1,25 +1,18 @@
-//! Polls, tasks and books that the tests are made of.
+//! Polls, walks and books that the tests are made of.
 
-ghost use Rattle.std.specs.Prelude.{◌≡◌, IfOk, IsTrue, map};
-ghost use Rattle.pack_defs.specs.Book.{AreInOrder};
-ghost use Rattle.pack_defs.specs.Lists.{is_ascending};
-ghost use Rattle.pack_defs.specs.ChannelMap.{IsAscending};
+ghost use Rattle.std.specs.Prelude.{◌≡◌};
 ghost use Rattle.pack_defs.specs.declared.worker.Kind.TheVariants.{Walk as Walks};
 ghost use Rattle.cert_types.specs.Certificate.{IsTaskOf};
 
+use crate::samples::book;
 use cert_types::answer::{Answer, Receipt, Refutation};
 use cert_types::certify::certify;
 use cert_types::poll::{Attempt, Poll};
 use cert_types::query::is_query;
 use cert_types::task::Task;
-use constraint_files::domains::read_domains;
-use constraint_files::pairs::read_pairs;
 use pack_defs::book::Book;
-use pack_defs::channel_map::ChannelMap;
-use pack_defs::domain::Domain;
-use pack_defs::items::Items;
 use pack_defs::worker::{Kind, Worker};
-use std::alloc::{AllocError as NoMemory, Global};
+use std::alloc::Global;
 use walk_repack::walk::Walk;
 
 // A poll that answers one number, and after so many times another one.
@@ -131,38 +124,6 @@ pub(crate) fn walker(budget: u32, seed: u64) -> Worker
         budget,
         seed,
     }
-}
-
-// Query 5, about these stations, while these channels stand.
-pub(crate) fn task(alloc: Global, set: &[u32], last: &[(u32, u8)]) -> Result<Task, NoMemory>
-    requires { IsAscending last.now }
-{
-    Ok(Task {
-        number: 5,
-        round: 1,
-        station: None,
-        set: Items::from_vec(Vec::from_slice(alloc, set)?),
-        last: ChannelMap::of(alloc, last)?,
-    })
-}
-
-// The book of two constraint files.
-pub(crate) fn book(alloc: Global, domains: &str, rows: &str) -> Option<Book> {
-    let domains = read_domains(alloc, domains.as_bytes()).ok()?;
-    let pairs = read_pairs(alloc, rows.as_bytes(), &domains).ok()?;
-    let ids = ids_of(alloc, domains.list()).ok()?;
-    if ids.len() > 8192 {
-        return None;
-    }
-    Book::build(alloc, 51, &ids, domains.list(), pairs.list()).ok()
-}
-
-fn ids_of(alloc: Global, domains: &[Domain]) -> Result<Vec<u32>, NoMemory>
-    requires { AreInOrder domains.now }
-    ensures same { IfOk result (λ ids. ids.items ≡ map (λ d. d.station) domains.now) }
-    ensures ascend { IfOk result (λ ids. IsTrue (is_ascending ids.items)) }
-{
-    domains.iter().map(|domain| domain.station).collect(alloc)
 }
 
 // Stations 0 to `stations` on so many channels from 14 on, of which no two that are less than `apart` apart may share one.

@@ -1,6 +1,7 @@
 //! The walk's tests, each answer of which the check of answers lets through first.
 
-use crate::walkers::samples::{Said, Turning, attempted, book, mark_of, row, steady, task, walker};
+use crate::samples::{book, task};
+use crate::walkers::samples::{Said, Turning, attempted, mark_of, row, steady, walker};
 use std::alloc::Global;
 use std::test::Fail;
 

@@ -5,10 +5,14 @@ ghost use Rattle.pack_defs.specs.Scenario.{IsWithinLimits};
 ghost use Rattle.auction_core.specs.Backed.{IsBacked};
 ghost use Rattle.open_tests.specs.Settled.{IsLeftOpen};
 
-use crate::left_open::samples::{record_in, three_bids, three_stations};
+use crate::left_open::samples::record_in;
+use crate::texts::LAST_LEFT_OPEN;
 use auction_core::record::{Ending, Record, Shown};
 use cert_types::outside::certify_outside;
 use clause_db::lit::Lit;
+use core_samples::answers::two_lines;
+use core_samples::books::three_stations;
+use core_samples::scenarios::three_bids_by_one;
 use open_tests::cut::up_to_empty;
 use open_tests::replace::replace_undecided;
 use open_tests::task::task_at;
@@ -67,22 +71,6 @@ fn settled(
     }
 }
 
-// Stations 1 and 2 go on air, and the worker spends its line on the test of station 3 beside them.
-const LEFT_OPEN: &[u8] =
-    b"transcript 1\nstart empty\nfit 1 1 1\nat 1 14\nfit 1 2 1\nat 2 14\nfit 1 3 1\nat 3 15\nfit 2 1 1\nat 1 15\nundecided 2 3 1\nlines 0 1\n13 -1 0 7 2 8 3 12 0\nend 5\n";
-
-// The proof that the three do not fit: its first line, and the empty one.
-fn refuting(alloc: Global) -> Result<Log, NoMemory> {
-    let first = Lit {
-        var: 1,
-        positive: false,
-    };
-    let mut lines = Lines::new(alloc);
-    lines.push(&[first], &[7, 2, 8, 3, 12])?;
-    lines.push(&[], &[13, 1, 9, 2, 10, 3, 11])?;
-    Ok(Log { lines })
-}
-
 // Whether the step at this place, from 0, is shown by a proof from outside.
 fn is_by_proof(rec: &Record, place: usize) -> bool {
     match rec.steps.as_slice().get(place) {
@@ -105,13 +93,13 @@ fn leaves_none(rec: &Record) -> bool {
 fn a_test_left_open_is_settled(rt: HostRuntime) -> Result<(), Fail> {
     let alloc = rt.alloc();
     let book = three_stations(alloc)?;
-    let sc = three_bids(alloc, 70, 1)?;
-    let Some(rec) = record_in(alloc, &sc, &book, LEFT_OPEN) else {
+    let sc = three_bids_by_one(alloc, 70, 1, 1)?;
+    let Some(rec) = record_in(alloc, &sc, &book, LAST_LEFT_OPEN) else {
         return Err(Fail::new("no record"));
     };
     let before = b"facility,outcome,round,price\n1,exit,2,0\n2,exit,1,0\n3,undecided,2,60\n";
     assert!(rt; tells(alloc, &rec, &book, before)?);
-    let Some(rec) = settled(alloc, rec, &book, 5, refuting(alloc)?)? else {
+    let Some(rec) = settled(alloc, rec, &book, 5, two_lines(alloc)?)? else {
         return Err(Fail::new("not settled"));
     };
     assert!(rt; is_by_proof(&rec, 4) && leaves_none(&rec));

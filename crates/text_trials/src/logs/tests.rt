@@ -2,7 +2,7 @@
 //! texts that are refused, by the first fault.
 
 use clause_db::list::ClauseList;
-use clause_db::lit::Lit;
+use core_samples::answers::lits;
 use lrat_text::LratErr;
 use lrat_text::read::read_log;
 use lrat_text::write::{write_dimacs, write_log};
@@ -38,18 +38,6 @@ const LINES_TEXT: &[u8] = b"13 -1 0 7 2 8 3 12 0\n14 0 13 1 9 2 10 3 11 0\n";
 
 // The numbers of a text are below this one.
 const TOP: u64 = 9_223_372_036_854_775_808;
-
-// Literals by DIMACS numbers, a negative one for the opposite.
-fn lits(alloc: Global, numbers: &[i64]) -> Result<Vec<Lit>, NoMemory> {
-    let mut lits = Vec::new(alloc);
-    for number in numbers {
-        lits.push(Lit {
-            var: number.unsigned_abs(),
-            positive: *number > 0,
-        })?;
-    }
-    Ok(lits)
-}
 
 fn formula(alloc: Global) -> Result<ClauseList, NoMemory> {
     let mut clauses = ClauseList::new(alloc, 6);

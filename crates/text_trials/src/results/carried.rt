@@ -1,91 +1,16 @@
 //! Auctions of the three stations that postings carry through, and the texts of their records.
 
-ghost use Rattle.std.specs.Prelude.{◌≡◌, ◌≤◌, ⊤, IfOk, MatchOption};
-ghost use Rattle.pack_defs.specs.Scenario.{IsWithinLimits};
-ghost use Rattle.auction_core.specs.Backed.{IsBacked};
-ghost use Rattle.auction_core.specs.Said.{AnswersIfGood};
-ghost use Rattle.auction_core.specs.Setup.{IsOfAuction};
+ghost use Rattle.std.specs.Prelude.{◌≤◌};
 
-use crate::results::samples::{auction_with, refutation, three_stations};
 use crate::results::tests::tells;
-use auction_core::auction::Auction;
-use auction_core::posting::{Posting, Said};
-use auction_core::record::{Ending, Record};
-use cert_types::answer::{Answer, CertifyWhy, Place};
-use cert_types::certify::certify;
-use pack_defs::book::Book;
-use pack_defs::channel_map::ChannelMap;
+use auction_core::record::Ending;
+use core_samples::answers::{FOUR_FITS, Given, THREE_FITS};
+use core_samples::books::three_stations;
+use core_samples::postings::record_after;
+use core_samples::scenarios::three_bids_by_one;
 use pack_defs::order::Order;
-use pack_defs::scenario::Scenario;
 use std::alloc::{AllocError as NoMemory, Global};
 use std::test::Fail;
-
-// What the check of the first worker's answer to the standing query says.
-fn looked_at(alloc: Global, auction: &Auction, answer: Answer) -> Result<Said, NoMemory>
-    ensures { IfOk result (λ said. AnswersIfGood auction.now.scenario auction.now.book auction.now.state 0 said) }
-{
-    let Some(task) = auction.task(alloc)? else {
-        return Ok(Said::Bad(Place::Count));
-    };
-    let Some(worker) = auction.workers().first() else {
-        return Ok(Said::Bad(Place::Count));
-    };
-    match certify(alloc, auction.book(), &task, worker, answer) {
-        Ok(certified) => Ok(Said::Good(certified)),
-        Err(fault) => match fault.why {
-            CertifyWhy::Rejected(place) => Ok(Said::Bad(place)),
-            CertifyWhy::NoMemory => Err(NoMemory),
-        },
-    }
-}
-
-// Posts the first worker's answer to the standing query.
-fn post(alloc: Global, auction: &mut Auction, answer: Answer) -> Result<(), NoMemory>
-    ensures scenario { auction.new.scenario ≡ auction.old.scenario }
-    ensures book { auction.new.book ≡ auction.old.book }
-{
-    auction.reserve()?;
-    let said = looked_at(alloc, auction, answer)?;
-    let number = auction.number();
-    auction.take(Posting {
-        worker: 0,
-        number,
-        said,
-    });
-    Ok(())
-}
-
-// Posts these fits, each a channel for the station of its query, and then that the stations of the last one do not fit.
-fn post_all(alloc: Global, auction: &mut Auction, fits: &[(u32, u8)]) -> Result<(), NoMemory>
-    ensures scenario { auction.new.scenario ≡ auction.old.scenario }
-    ensures book { auction.new.book ≡ auction.old.book }
-{
-    'fits: for fit in fits {
-        let delta = ChannelMap::of(alloc, &[*fit])?;
-        post(alloc, auction, Answer::Fit(delta))?;
-    }
-    post(alloc, auction, Answer::Refuted(refutation(alloc)?))
-}
-
-// The record of this auction, where these fits and then the refutation settle its queries.
-fn record_after(
-    alloc: Global,
-    sc: Scenario,
-    book: &Book,
-    order: Order,
-    fits: &[(u32, u8)],
-) -> Result<Option<Record>, NoMemory>
-    requires { IsOfAuction sc book.now }
-    ensures backed { IfOk result (λ found. MatchOption found ⊤ (λ rec. IsBacked rec.scenario book.now rec.order rec)) }
-    ensures limits { IfOk result (λ found. MatchOption found ⊤ (λ rec. IsWithinLimits rec.scenario)) }
-{
-    let mut auction = Auction::start(alloc, &sc, book, order)?;
-    post_all(alloc, &mut auction, fits)?;
-    if !auction.ended() {
-        return Ok(None);
-    }
-    Ok(Some(auction.into_result(alloc, sc)?))
-}
 
 // In which order a round of the auction tests the stations, the value of the second and the volume of the third.
 #[derive(Clone, Copy)]
@@ -101,12 +26,12 @@ const TERMS: Terms = Terms {
     volume: 1,
 };
 
-// Whether the three stations' auction on these terms with these fits leaves this channel map, and the texts of its result
+// Whether the three stations' auction on these terms with these answers leaves this channel map, and the texts of its result
 // and summary.
 fn leaves(
     alloc: Global,
     terms: Terms,
-    fits: &[(u32, u8)],
+    answers: &[Given],
     map: &[(u32, u8)],
     rows: &[u8],
     counts: &[u8],
@@ -116,8 +41,8 @@ fn leaves(
     requires volume { terms.volume ≤ 1000 }
 {
     let book = three_stations(alloc)?;
-    let sc = auction_with(alloc, 1000, terms.value, terms.volume)?;
-    let Some(rec) = record_after(alloc, sc, &book, terms.order, fits)? else {
+    let sc = three_bids_by_one(alloc, terms.value, terms.volume, 1000)?;
+    let Some(rec) = record_after(alloc, sc, &book, terms.order, answers)? else {
         return Ok(false);
     };
     if rec.ending != Ending::Done || rec.map.entries() != map {
@@ -126,6 +51,25 @@ fn leaves(
     tells(alloc, &rec, &book, rows, counts)
 }
 
+// As `FOUR_FITS`, but that stations 1 and 2 go on the other channel.
+const OTHER_FITS: &[Given] = &[
+    Given::Fit(1, 14),
+    Given::Fit(2, 15),
+    Given::Fit(3, 14),
+    Given::Fit(1, 14),
+    Given::Refuted,
+];
+
+// Station 3 is tested first, and its last test is behind that of station 1.
+const FITS_BY_VOLUME: &[Given] = &[
+    Given::Fit(3, 14),
+    Given::Fit(1, 14),
+    Given::Fit(2, 14),
+    Given::Fit(3, 15),
+    Given::Fit(1, 15),
+    Given::Refuted,
+];
+
 // The queries are of stations 1, 2 and 3 in round 1, and of 1 and 3 in round 2. Stations 1 and 2 go on air, on either
 // channel: the texts are the same, and the channel map is not.
 #[test]
@@ -133,10 +77,8 @@ fn either_way(rt: HostRuntime) -> Result<(), Fail> {
     let alloc = rt.alloc();
     let rows = b"facility,outcome,round,price\n1,exit,2,0\n2,exit,1,0\n3,frozen,2,60\n";
     let counts = b"stations 3\non-air 2\nfrozen 1\nundecided 0\ntotal 60\n";
-    let one = [(1, 14), (2, 14), (3, 15), (1, 15)];
-    assert!(rt; leaves(alloc, TERMS, &one, &[(1, 15), (2, 14)], rows, counts)?);
-    let other = [(1, 14), (2, 15), (3, 14), (1, 14)];
-    assert!(rt; leaves(alloc, TERMS, &other, &[(1, 14), (2, 15)], rows, counts)?);
+    assert!(rt; leaves(alloc, TERMS, FOUR_FITS, &[(1, 15), (2, 14)], rows, counts)?);
+    assert!(rt; leaves(alloc, TERMS, OTHER_FITS, &[(1, 14), (2, 15)], rows, counts)?);
     Ok(())
 }
 
@@ -150,14 +92,21 @@ fn in_either_order(rt: HostRuntime) -> Result<(), Fail> {
         order: Order::ByVolume,
         ..terms
     };
-    let fits = [(3, 14), (1, 14), (2, 14), (3, 15), (1, 15)];
     let rows = b"facility,outcome,round,price\n1,exit,2,0\n2,exit,1,0\n3,frozen,3,40\n";
     let counts = b"stations 3\non-air 2\nfrozen 1\nundecided 0\ntotal 40\n";
-    assert!(rt; leaves(alloc, by_volume, &fits, &[(1, 15), (2, 14)], rows, counts)?);
-    let fits = [(1, 14), (2, 14), (3, 15), (1, 15)];
+    assert!(rt;
+        leaves(
+            alloc,
+            by_volume,
+            FITS_BY_VOLUME,
+            &[(1, 15), (2, 14)],
+            rows,
+            counts
+        )?
+    );
     let rows = b"facility,outcome,round,price\n1,exit,2,0\n2,exit,1,0\n3,frozen,2,120\n";
     let counts = b"stations 3\non-air 2\nfrozen 1\nundecided 0\ntotal 120\n";
-    assert!(rt; leaves(alloc, terms, &fits, &[(1, 15), (2, 14)], rows, counts)?);
+    assert!(rt; leaves(alloc, terms, FOUR_FITS, &[(1, 15), (2, 14)], rows, counts)?);
     Ok(())
 }
 
@@ -170,9 +119,8 @@ fn a_test_like_the_one_before(rt: HostRuntime) -> Result<(), Fail> {
         value: 101,
         ..TERMS
     };
-    let fits = [(2, 14), (1, 15), (3, 15)];
     let rows = b"facility,outcome,round,price\n1,exit,2,0\n2,start,0,0\n3,frozen,2,60\n";
     let counts = b"stations 3\non-air 2\nfrozen 1\nundecided 0\ntotal 60\n";
-    assert!(rt; leaves(alloc, terms, &fits, &[(1, 15), (2, 14)], rows, counts)?);
+    assert!(rt; leaves(alloc, terms, THREE_FITS, &[(1, 15), (2, 14)], rows, counts)?);
     Ok(())
 }

@@ -4,10 +4,9 @@ ghost use Rattle.std.specs.Prelude.{◌≡◌};
 ghost use Rattle.pack_defs.specs.Scenario.{IsWithinLimits};
 ghost use Rattle.auction_core.specs.Backed.{IsBacked};
 
-use crate::results::samples::{
-    record_of_none, record_of_three, refuted, three_stations, undecided,
-};
+use crate::results::samples::{record_of_none, record_of_three, refuted, undecided};
 use auction_core::record::{Ending, Record};
+use core_samples::books::three_stations;
 use pack_defs::book::Book;
 use result_text::channels::channels_csv;
 use result_text::counts::summary;

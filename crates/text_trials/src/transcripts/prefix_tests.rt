@@ -2,11 +2,12 @@
 
 ghost use Rattle.pack_defs.specs.Scenario.{StationsAscend};
 
-use crate::transcripts::samples::{three_bids, three_stations};
-use crate::transcripts::tests::{BESIDE, THREE};
+use crate::texts::{SECOND_ON_AIR, THREE_STATIONS};
 use auction_core::prefix::Prefix;
 use auction_core::record::Shown;
 use auction_core::transcript::TranscriptStep;
+use core_samples::books::three_stations;
+use core_samples::scenarios::three_bids_by_one;
 use pack_defs::book::Book;
 use pack_defs::order::Order;
 use pack_defs::scenario::Scenario;
@@ -148,7 +149,7 @@ fn line_ends(text: &[u8]) -> usize {
 // The first length at which a cut of this text is not kept as its whole lines tell.
 fn miskept(alloc: Global, text: &[u8], answers: &[Answer]) -> Result<Option<usize>, NoMemory> {
     let book = three_stations(alloc)?;
-    let sc = three_bids(alloc, 70, 1000)?;
+    let sc = three_bids_by_one(alloc, 70, 1, 1000)?;
     for end in 0..text.len() + 1 {
         let part = &text[..end];
         let Some(answer) = answers.get(line_ends(part)) else {
@@ -165,8 +166,8 @@ fn miskept(alloc: Global, text: &[u8], answers: &[Answer]) -> Result<Option<usiz
 #[test]
 fn cut_anywhere(rt: HostRuntime) -> Result<(), Fail> {
     let alloc = rt.alloc();
-    assert_eq!(rt; miskept(alloc, THREE, OF_THREE)?, None);
-    assert_eq!(rt; miskept(alloc, BESIDE, OF_BESIDE)?, None);
+    assert_eq!(rt; miskept(alloc, THREE_STATIONS, OF_THREE)?, None);
+    assert_eq!(rt; miskept(alloc, SECOND_ON_AIR, OF_BESIDE)?, None);
     Ok(())
 }
 
@@ -177,7 +178,7 @@ fn misread<'a>(
     rows: &[(&'a [u8], Answer)],
 ) -> Result<Option<&'a [u8]>, NoMemory> {
     let book = three_stations(alloc)?;
-    let sc = three_bids(alloc, 70, 1000)?;
+    let sc = three_bids_by_one(alloc, 70, 1, 1000)?;
     for (row, answer) in rows {
         let mut text = Vec::from_slice(alloc, before)?;
         text.extend_from_slice(row)?;

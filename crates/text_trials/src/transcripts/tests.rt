@@ -1,12 +1,13 @@
 //! Transcripts both ways: those that auctions leave, and texts that are read or refused, by the first fault.
 
-ghost use Rattle.std.specs.Prelude.{◌≤◌};
 ghost use Rattle.pack_defs.specs.Scenario.{StationsAscend};
 
+use crate::texts::{LAST_LEFT_OPEN, LONE_STATION, SECOND_ON_AIR, THREE_BY_VOLUME, THREE_STATIONS};
 use crate::transcripts::reader_tests::{Answer, is_same, reads_in_pieces};
-use crate::transcripts::samples::{
-    Given, lone_bid, lone_station, three_bids, three_stations, written,
-};
+use crate::transcripts::samples::{of_three, written};
+use core_samples::answers::{FOUR_FITS, Given, THREE_FITS};
+use core_samples::books::{lone_station, three_stations};
+use core_samples::scenarios::{lone_bid, three_bids_by_one};
 use pack_defs::book::Book;
 use pack_defs::order::Order;
 use pack_defs::scenario::Scenario;
@@ -36,7 +37,7 @@ fn misread<'a>(
     rows: &[(&'a [u8], Answer)],
 ) -> Result<Option<&'a [u8]>, NoMemory> {
     let book = three_stations(alloc)?;
-    let sc = three_bids(alloc, 70, 1000)?;
+    let sc = three_bids_by_one(alloc, 70, 1, 1000)?;
     for (row, answer) in rows {
         let mut text = Vec::from_slice(alloc, before)?;
         text.extend_from_slice(row)?;
@@ -47,50 +48,6 @@ fn misread<'a>(
     Ok(None)
 }
 
-// The transcript of the three stations' auction, where the second has this value and the worker this budget.
-fn of_three(
-    alloc: Global,
-    value: u64,
-    budget: u32,
-    order: Order,
-    answers: &[Given],
-) -> Result<Vec<u8>, NoMemory>
-    requires value { value ≤ 1000 }
-    requires some_budget { 1 ≤ budget }
-    requires budget { budget ≤ 1000 }
-{
-    let book = three_stations(alloc)?;
-    let sc = three_bids(alloc, value, budget)?;
-    match written(alloc, sc, &book, order, answers)? {
-        Some(text) => Ok(text),
-        None => Ok(Vec::new(alloc)),
-    }
-}
-
-// Stations 1 to 3 are tested in round 1 and 1 and 3 in round 2; the set of all three does not fit.
-pub(crate) const THREE: &[u8] =
-    b"transcript 1\nstart empty\nfit 1 1 1\nat 1 14\nfit 1 2 1\nat 2 14\nfit 1 3 1\nat 3 15\nfit 2 1 1\nat 1 15\nlog 2 3 0 2\non 1 2 3\n13 -1 0 7 2 8 3 12 0\n14 0 13 1 9 2 10 3 11 0\nend 5\n";
-
-// The same by volume.
-const BY_VOLUME: &[u8] =
-    b"transcript 2\nstart empty\nfit 1 1 1\nat 1 14\nfit 1 2 1\nat 2 14\nfit 1 3 1\nat 3 15\nfit 2 1 1\nat 1 15\nlog 2 3 0 2\non 1 2 3\n13 -1 0 7 2 8 3 12 0\n14 0 13 1 9 2 10 3 11 0\nend 5\n";
-
-// Station 2 is on air from the start, so that station 1 is tested beside it in both rounds.
-pub(crate) const BESIDE: &[u8] =
-    b"transcript 1\nstart fit 1\nat 2 14\nfit 1 1 1\nat 1 15\nfit 1 3 1\nat 3 15\nsame 2 1\nlog 2 3 0 2\non 1 2 3\n13 -1 0 7 2 8 3 12 0\n14 0 13 1 9 2 10 3 11 0\nend 4\n";
-
-// The last test is left open by a worker with a budget of one line.
-const LEFT_OPEN: &[u8] =
-    b"transcript 1\nstart empty\nfit 1 1 1\nat 1 14\nfit 1 2 1\nat 2 14\nfit 1 3 1\nat 3 15\nfit 2 1 1\nat 1 15\nundecided 2 3 1\nlines 0 1\n13 -1 0 7 2 8 3 12 0\nend 5\n";
-
-const FITS: &[Given] = &[
-    Given::Fit(1, 14),
-    Given::Fit(2, 14),
-    Given::Fit(3, 15),
-    Given::Fit(1, 15),
-    Given::Refuted,
-];
-
 const SPENT: &[Given] = &[
     Given::Fit(1, 14),
     Given::Fit(2, 14),
@@ -99,29 +56,20 @@ const SPENT: &[Given] = &[
     Given::Spent,
 ];
 
-const STARTED: &[Given] = &[
-    Given::Fit(2, 14),
-    Given::Fit(1, 15),
-    Given::Fit(3, 15),
-    Given::Refuted,
-];
-
 // What each of these auctions leaves, and its text.
 #[test]
 fn what_is_written(rt: HostRuntime) -> Result<(), Fail> {
     let alloc = rt.alloc();
-    let three = of_three(alloc, 70, 1000, Order::ByFacility, FITS)?;
-    assert_eq!(rt; three.as_slice(), THREE);
-    let by_volume = of_three(alloc, 70, 1000, Order::ByVolume, FITS)?;
-    assert_eq!(rt; by_volume.as_slice(), BY_VOLUME);
-    let beside = of_three(alloc, 101, 1000, Order::ByFacility, STARTED)?;
-    assert_eq!(rt; beside.as_slice(), BESIDE);
+    let three = of_three(alloc, 70, 1000, Order::ByFacility, FOUR_FITS)?;
+    assert_eq!(rt; three.as_slice(), THREE_STATIONS);
+    let by_volume = of_three(alloc, 70, 1000, Order::ByVolume, FOUR_FITS)?;
+    assert_eq!(rt; by_volume.as_slice(), THREE_BY_VOLUME);
+    let beside = of_three(alloc, 101, 1000, Order::ByFacility, THREE_FITS)?;
+    assert_eq!(rt; beside.as_slice(), SECOND_ON_AIR);
     let left_open = of_three(alloc, 70, 1, Order::ByFacility, SPENT)?;
-    assert_eq!(rt; left_open.as_slice(), LEFT_OPEN);
+    assert_eq!(rt; left_open.as_slice(), LAST_LEFT_OPEN);
     Ok(())
 }
-
-const LONE: &[u8] = b"transcript 1\nstart empty\nnone 1 1\nend 1\n";
 
 // A station without a channel, both ways.
 #[test]
@@ -129,9 +77,9 @@ fn no_channel(rt: HostRuntime) -> Result<(), Fail> {
     let alloc = rt.alloc();
     let book = lone_station(alloc)?;
     let sc = lone_bid(alloc)?;
-    assert!(rt; reads(alloc, &sc, &book, LONE, Ok((Order::ByFacility, 1))));
+    assert!(rt; reads(alloc, &sc, &book, LONE_STATION, Ok((Order::ByFacility, 1))));
     let text = written(alloc, sc, &book, Order::ByFacility, &[])?;
-    assert_eq!(rt; text.as_deref(), Some(LONE));
+    assert_eq!(rt; text.as_deref(), Some(LONE_STATION));
     Ok(())
 }
 
@@ -140,12 +88,20 @@ fn no_channel(rt: HostRuntime) -> Result<(), Fail> {
 fn cut_at_every_byte(rt: HostRuntime) -> Result<(), Fail> {
     let alloc = rt.alloc();
     let book = three_stations(alloc)?;
-    let sc = three_bids(alloc, 70, 1000)?;
-    assert!(rt; reads(alloc, &sc, &book, THREE, Ok((Order::ByFacility, 5))));
-    for end in 0..THREE.len() {
+    let sc = three_bids_by_one(alloc, 70, 1, 1000)?;
+    assert!(rt;
+        reads(
+            alloc,
+            &sc,
+            &book,
+            THREE_STATIONS,
+            Ok((Order::ByFacility, 5))
+        )
+    );
+    for end in 0..THREE_STATIONS.len() {
         assert!(rt;
             is_same(
-                read(alloc, &sc, &book, &THREE[..end]),
+                read(alloc, &sc, &book, &THREE_STATIONS[..end]),
                 Err(TextErr::Truncated)
             )
         );

@@ -3,12 +3,15 @@
 ghost use Rattle.pack_defs.specs.Scenario.{StationsAscend};
 ghost use Rattle.auction_core.specs.Setup.{IsOfAuction};
 
-use crate::verified::samples::{three_bids, three_stations};
-use crate::verified::tests::{
-    APART, BESIDE_SECOND, KIND, ORDER, Row, SOUND, STATION_3, THREE_BIDS, is_as_said, misjudged,
+use crate::texts::{SECOND_ON_AIR, THREE_STATIONS};
+use crate::verified::samples::{APART, KIND, ORDER, Row, SOUND, STATION_3, is_as_said, misjudged};
+use core_samples::books::three_stations;
+use core_samples::owners::{
+    ALL_STAY, AS_BID, FIRST_LEAVES, FIRST_STAYS, Lines, SECOND_DECLINES, saying,
 };
+use core_samples::scenarios::three_bids_by_one;
 use pack_defs::book::Book;
-use pack_defs::owners::{OwnerLine, Owners};
+use pack_defs::owners::Owners;
 use pack_defs::scenario::Scenario;
 use std::alloc::{AllocError as NoMemory, Global};
 use std::test::Fail;
@@ -16,22 +19,6 @@ use transcript_check::VerifyErr;
 use transcript_check::verify::verify_live;
 use transcript_text::TextErr;
 use transcript_text::read::read_transcript;
-
-// What the owners say: round, station, whether it stays.
-type Lines = &'static [(u32, u32, bool)];
-
-// Owners that say these lines.
-fn saying(alloc: Global, lines: Lines) -> Result<Owners, NoMemory> {
-    let mut owners = Owners::new(alloc);
-    for (round, station, stays) in lines {
-        owners.add(OwnerLine {
-            round: *round,
-            station: *station,
-            stays: *stays,
-        })?;
-    }
-    Ok(owners)
-}
 
 // What the check finds in a text, in the live auction of these owners.
 fn found(
@@ -88,17 +75,7 @@ fn misjudged_live(
     Ok(None)
 }
 
-// Station 2 leaves in round 1 and station 1 in round 2, as they would by values of 70 and 50, and station 3 stays.
-const AS_BID: Lines = &[
-    (0, 1, true),
-    (1, 1, true),
-    (0, 2, true),
-    (0, 3, true),
-    (1, 3, true),
-    (2, 3, true),
-];
-
-// The same, but that station 2 says so.
+// Stations as by `AS_BID`, but that station 2 says so.
 const AS_BID_ALOUD: Lines = &[
     (0, 1, true),
     (1, 1, true),
@@ -118,57 +95,15 @@ const FIRST_TWO_LEAVE: Lines = &[
     (2, 3, true),
 ];
 
-// Station 1 leaves in round 1, and says in round 2 that it stays; station 2 leaves in round 2.
-const FIRST_LEAVES: Lines = &[
-    (0, 1, true),
-    (2, 1, true),
-    (0, 2, true),
-    (1, 2, true),
-    (0, 3, true),
-    (1, 3, true),
-    (2, 3, true),
-];
-
-// The stations as by their bids, but that station 2 declines the opening offer.
-const SECOND_DECLINES: Lines = &[
-    (0, 1, true),
-    (1, 1, true),
-    (0, 3, true),
-    (1, 3, true),
-    (2, 3, true),
-];
-
-// Station 1 stays in each round, and the others leave, station 2 in round 1 and station 3 in round 2.
-const FIRST_STAYS: Lines = &[
-    (0, 1, true),
-    (1, 1, true),
-    (2, 1, true),
-    (0, 2, true),
-    (0, 3, true),
-    (1, 3, true),
-];
-
-const ALL_STAY: Lines = &[
-    (0, 1, true),
-    (1, 1, true),
-    (2, 1, true),
-    (0, 2, true),
-    (1, 2, true),
-    (2, 2, true),
-    (0, 3, true),
-    (1, 3, true),
-    (2, 3, true),
-];
-
 // The transcript where station 1 stays in each round: its last test comes behind the last fall.
 const BEHIND_THE_LAST_FALL: &[u8] =
     b"transcript 1\nstart empty\nfit 1 1 1\nat 1 14\nfit 1 2 1\nat 2 14\nfit 1 3 1\nat 3 15\nfit 2 1 1\nat 1 15\nsame 2 3\nlog 3 1 0 2\non 1 2 3\n13 -1 0 7 2 8 3 12 0\n14 0 13 1 9 2 10 3 11 0\nend 6\n";
 
 // What the owners say; a text, its first step that is not shown, and why.
 const LIVE: &[(Lines, Row)] = &[
-    (AS_BID, (THREE_BIDS, 0, SOUND)),
-    (AS_BID_ALOUD, (THREE_BIDS, 0, SOUND)),
-    (FIRST_TWO_LEAVE, (THREE_BIDS, 2, APART)),
+    (AS_BID, (THREE_STATIONS, 0, SOUND)),
+    (AS_BID_ALOUD, (THREE_STATIONS, 0, SOUND)),
+    (FIRST_TWO_LEAVE, (THREE_STATIONS, 2, APART)),
     (
         FIRST_LEAVES,
         (
@@ -185,8 +120,8 @@ const LIVE: &[(Lines, Row)] = &[
             ORDER,
         ),
     ),
-    (SECOND_DECLINES, (BESIDE_SECOND, 0, SOUND)),
-    (SECOND_DECLINES, (THREE_BIDS, 0, KIND)),
+    (SECOND_DECLINES, (SECOND_ON_AIR, 0, SOUND)),
+    (SECOND_DECLINES, (THREE_STATIONS, 0, KIND)),
     (FIRST_STAYS, (BEHIND_THE_LAST_FALL, 0, SOUND)),
     (
         FIRST_STAYS,
@@ -196,7 +131,7 @@ const LIVE: &[(Lines, Row)] = &[
             ORDER,
         ),
     ),
-    (FIRST_STAYS, (THREE_BIDS, 5, KIND)),
+    (FIRST_STAYS, (THREE_STATIONS, 5, KIND)),
     (
         ALL_STAY,
         (
@@ -205,7 +140,7 @@ const LIVE: &[(Lines, Row)] = &[
             SOUND,
         ),
     ),
-    (&[], (THREE_BIDS, 0, KIND)),
+    (&[], (THREE_STATIONS, 0, KIND)),
     (
         &[],
         (
@@ -221,21 +156,21 @@ const LIVE: &[(Lines, Row)] = &[
 fn owners_say_what_is_shown(rt: HostRuntime) -> Result<(), Fail> {
     let alloc = rt.alloc();
     let book = three_stations(alloc)?;
-    let sc = three_bids(alloc, 70, 1, 1000)?;
+    let sc = three_bids_by_one(alloc, 70, 1, 1000)?;
     assert_eq!(rt; misjudged_live(alloc, &sc, &book, LIVE)?, None);
-    let other = three_bids(alloc, 101, 1, 1000)?;
+    let other = three_bids_by_one(alloc, 101, 1, 1000)?;
     assert_eq!(rt; misjudged_live(alloc, &other, &book, LIVE)?, None);
     Ok(())
 }
 
 // Transcripts of live auctions, as they are found by the values.
-const BY_VALUE: &[Row] = &[(BEHIND_THE_LAST_FALL, 5, KIND), (BESIDE_SECOND, 0, KIND)];
+const BY_VALUE: &[Row] = &[(BEHIND_THE_LAST_FALL, 5, KIND), (SECOND_ON_AIR, 0, KIND)];
 
 #[test]
 fn values_say_otherwise(rt: HostRuntime) -> Result<(), Fail> {
     let alloc = rt.alloc();
     let book = three_stations(alloc)?;
-    let sc = three_bids(alloc, 70, 1, 1000)?;
+    let sc = three_bids_by_one(alloc, 70, 1, 1000)?;
     assert_eq!(rt; misjudged(alloc, &sc, &sc, &book, b"", BY_VALUE)?, None);
     Ok(())
 }

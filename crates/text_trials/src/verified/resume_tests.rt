@@ -3,10 +3,12 @@
 ghost use Rattle.pack_defs.specs.Scenario.{StationsAscend};
 ghost use Rattle.auction_core.specs.Setup.{IsOfAuction};
 
-use crate::verified::samples::{lone_bid, lone_station, three_bids, three_stations, two_workers};
-use crate::verified::tests::{BESIDE_SECOND, KIND, ORDER, STATION_3, THREE_BIDS};
+use crate::texts::{SECOND_ON_AIR, THREE_STATIONS};
+use crate::verified::samples::{KIND, ORDER, STATION_3, two_workers};
 use auction_core::auction::Auction;
 use auction_core::prefix::{ResumeErr, ShownWhy};
+use core_samples::books::{lone_station, three_stations};
+use core_samples::scenarios::{lone_bid, three_bids_by_one};
 use pack_defs::book::Book;
 use pack_defs::scenario::Scenario;
 use std::alloc::{AllocError as NoMemory, Global};
@@ -98,7 +100,7 @@ const THREE: &[Row] = &[
         b"transcript 1\nstart empty\nfit 1 1 1\nat 1 14\nfit 1 2 1\nat 2 14\nfit 1 3 1\nat 3 15\nfit 2 1 1\nat 1 15\nlog 2 3 0 2\non 1 2 3\n13 -1 0 7 2 8 3 12 0\n14 0 13 1 9 2 10 3 11 0\n",
         Stands::Over(6),
     ),
-    (THREE_BIDS, Stands::Over(6)),
+    (THREE_STATIONS, Stands::Over(6)),
     (
         b"transcript 1\nstart empty\nfit 1 2 1\nat 2 14\n",
         Stands::Unshown(1, ORDER),
@@ -143,7 +145,7 @@ const BESIDE: &[Row] = &[
         b"transcript 1\nstart fit 1\nat 2 14\nfit 1 1 1\nat 1 15\nfit 1 3 1\nat 3 15\nend 2\n",
         Stands::Unshown(3, ORDER),
     ),
-    (BESIDE_SECOND, Stands::Over(5)),
+    (SECOND_ON_AIR, Stands::Over(5)),
     (b"transcript 1\nstart empty\n", Stands::Unshown(0, KIND)),
 ];
 
@@ -162,9 +164,9 @@ const LONE: &[Row] = &[
 fn where_an_auction_goes_on(rt: HostRuntime) -> Result<(), Fail> {
     let alloc = rt.alloc();
     let book = three_stations(alloc)?;
-    let sc = three_bids(alloc, 70, 1, 1000)?;
+    let sc = three_bids_by_one(alloc, 70, 1, 1000)?;
     assert_eq!(rt; misplaced(alloc, &sc, &sc, &book, THREE), None);
-    let on_air = three_bids(alloc, 101, 1, 1000)?;
+    let on_air = three_bids_by_one(alloc, 101, 1, 1000)?;
     assert_eq!(rt; misplaced(alloc, &on_air, &on_air, &book, BESIDE), None);
     Ok(())
 }
@@ -188,7 +190,7 @@ fn by_other_workers(rt: HostRuntime) -> Result<(), Fail> {
     let alloc = rt.alloc();
     let book = three_stations(alloc)?;
     let two = two_workers(alloc)?;
-    let one = three_bids(alloc, 70, 1, 1)?;
+    let one = three_bids_by_one(alloc, 70, 1, 1)?;
     assert_eq!(rt;
         misplaced(alloc, &two, &two, &book, &[(OPEN, Stands::Over(6))]),
         None
@@ -209,7 +211,7 @@ fn by_other_workers(rt: HostRuntime) -> Result<(), Fail> {
 // The first length at which a cut of the three stations' transcript doesn't go on behind as many queries as it has steps.
 fn misnumbered(alloc: Global, text: &[u8]) -> Result<Option<usize>, NoMemory> {
     let book = three_stations(alloc)?;
-    let sc = three_bids(alloc, 70, 1, 1000)?;
+    let sc = three_bids_by_one(alloc, 70, 1, 1000)?;
     for end in 0..text.len() + 1 {
         if !is_numbered(alloc, &sc, &book, &text[..end]) {
             return Ok(Some(end));
@@ -235,6 +237,6 @@ fn is_numbered(alloc: Global, sc: &Scenario, book: &Book, text: &[u8]) -> bool
 
 #[test]
 fn cut_at_every_byte(rt: HostRuntime) -> Result<(), Fail> {
-    assert_eq!(rt; misnumbered(rt.alloc(), THREE_BIDS)?, None);
+    assert_eq!(rt; misnumbered(rt.alloc(), THREE_STATIONS)?, None);
     Ok(())
 }

@@ -1,156 +1,113 @@
-//! Small auctions for the tests: their books and their scenarios.
+//! What the check of a transcript finds, and an auction by two workers.
 
-ghost use Rattle.std.specs.Prelude.{◌≡◌, ◌≤◌, ◌∷◌, [], All, IfOk, IsTrue, None, Some, length, true};
-ghost use Rattle.std.specs.List.{list_all, list_any};
-ghost use Rattle.pack_defs.specs.Book.{AreInOrder, is_of_two, pairs_ascend, stations_of};
-ghost use Rattle.pack_defs.specs.Lists.{is_ascending};
-ghost use Rattle.pack_defs.specs.Scenario.{IsStationWithinLimits, IsWithinLimits, IsWorkerWithinLimits, StationsAscend, facilities, is_prover};
+ghost use Rattle.std.specs.Prelude.{◌≡◌, ◌∷◌, [], IfOk};
+ghost use Rattle.pack_defs.specs.Scenario.{IsWithinLimits, StationsAscend, facilities};
+ghost use Rattle.auction_core.specs.Setup.{IsOfAuction};
 
+use cert_types::answer::Place;
+use core_samples::scenarios::three_bids;
+use core_samples::workers::{learner, walker};
 use pack_defs::book::Book;
-use pack_defs::domain::Domain;
-use pack_defs::fall::Fall;
-use pack_defs::items::Items;
 use pack_defs::pair::Pair;
 use pack_defs::scenario::Scenario;
-use pack_defs::station::Station;
-use pack_defs::worker::{Kind, Worker};
 use std::alloc::{AllocError as NoMemory, Global};
+use transcript_check::verify::verify;
+use transcript_check::{ShownWhy, VerifyErr};
+use transcript_text::TextErr;
+use transcript_text::read::read_transcript;
 
-// A station that may use channels 14 and 15.
-fn on_both(alloc: Global, station: u32) -> Result<Domain, NoMemory>
-    ensures { IfOk result (λ d. d ≡ record { station = station; channels = 14 ∷ 15 ∷ [] }) }
-{
-    let channels = Items::from_vec(Vec::from_slice(alloc, &[14, 15])?);
-    Ok(Domain { station, channels })
-}
+// A text, its first step that is not shown, and why; the step counts for nothing where all is shown.
+pub(crate) type Row<'a> = (&'a [u8], u64, Option<ShownWhy>);
 
-// A pair of two stations on one channel.
-fn on_one(f: u32, g: u32, c: u8) -> Pair
-    ensures { result ≡ record { f = f; a = c; g = g; b = c } }
+// What the check finds in a text that is read by one scenario, in an auction of maybe another.
+fn found(
+    alloc: Global,
+    read_by: &Scenario,
+    sc: &Scenario,
+    book: &Book,
+    text: &[u8],
+) -> Result<Option<VerifyErr>, TextErr>
+    requires ascend { StationsAscend read_by.now }
+    requires auction { IsOfAuction sc.now book.now }
 {
-    Pair { f, a: c, g, b: c }
-}
-
-// The book of these stations, up to channel 15.
-fn book(alloc: Global, ids: &[u32], domains: &[Domain], pairs: &[Pair]) -> Result<Book, NoMemory>
-    requires ids { IsTrue (is_ascending ids.now) }
-    requires few { length ids.now ≤ 8192 }
-    requires domains { AreInOrder domains.now }
-    requires pairs { IsTrue (pairs_ascend pairs.now) }
-    requires of_two { IsTrue (list_all is_of_two pairs.now) }
-    ensures { IfOk result (λ book. stations_of book ≡ ids.now) }
-{
-    Book::build(alloc, 15, ids, domains, pairs)
-}
-
-// Three stations on two channels, of which no two may share one.
-pub(crate) fn three_stations(alloc: Global) -> Result<Book, NoMemory>
-    ensures { IfOk result (λ book. stations_of book ≡ 1 ∷ 2 ∷ 3 ∷ []) }
-{
-    let domains = [on_both(alloc, 1)?, on_both(alloc, 2)?, on_both(alloc, 3)?];
-    let pairs = [
-        on_one(1, 2, 14),
-        on_one(1, 3, 14),
-        on_one(1, 2, 15),
-        on_one(1, 3, 15),
-        on_one(2, 3, 14),
-        on_one(2, 3, 15),
-    ];
-    book(alloc, &[1, 2, 3], &domains, &pairs)
-}
-
-// One station without a channel.
-pub(crate) fn lone_station(alloc: Global) -> Result<Book, NoMemory>
-    ensures { IfOk result (λ book. stations_of book ≡ 1 ∷ []) }
-{
-    book(alloc, &[1], &[], &[])
-}
-
-fn bid(id: u32, volume: u32, value: u64) -> Station
-    ensures { result ≡ record { id = id; volume = volume; value = Some value } }
-{
-    Station {
-        id,
-        volume,
-        value: Some(value),
+    let transcript = read_transcript(alloc, text, read_by, book)?;
+    match verify(alloc, book, sc, transcript) {
+        Ok(_) => Ok(None),
+        Err(e) => Ok(Some(e)),
     }
 }
 
-// A worker of this kind and budget.
-fn worker(kind: Kind, budget: u32) -> Worker
-    ensures { result ≡ record { kind = kind; budget = budget; seed = 0 } }
-{
-    Worker {
-        kind,
-        budget,
-        seed: 0,
+// Whether what was found is what the row says.
+pub(crate) fn is_as_said(found: Option<VerifyErr>, row: Row<'_>) -> bool {
+    match (found, row.2) {
+        (None, None) => true,
+        (Some(VerifyErr::NotShown { step, why }), Some(wanted)) => step == row.1 && why == wanted,
+        _ => false,
     }
 }
 
-// The auction of these stations by these workers. It opens at 100 cents and falls by 40 twice.
-fn auction_of(
+// Whether the check finds what the row says, in its text behind this one.
+fn is_found(
     alloc: Global,
-    stations: Vec<Station>,
-    workers: Vec<Worker>,
-) -> Result<Scenario, NoMemory>
-    requires few { length stations.items ≤ 8192 }
-    requires ascend { StationsAscend (record { version = 1; top = 15; opening = 100; fall = Fall.Listed []; stations = stations.items; workers = []; owners = None }) }
-    requires limits { All IsStationWithinLimits stations.items }
-    requires some_worker { 1 ≤ length workers.items }
-    requires few_workers { length workers.items ≤ 16 }
-    requires budgets { All IsWorkerWithinLimits workers.items }
-    requires prover { list_any is_prover workers.items ≡ true }
-    ensures limits { IfOk result IsWithinLimits }
-    ensures stations { IfOk result (λ sc. sc.stations ≡ stations.items) }
+    read_by: &Scenario,
+    sc: &Scenario,
+    book: &Book,
+    before: &[u8],
+    row: Row<'_>,
+) -> Result<bool, NoMemory>
+    requires ascend { StationsAscend read_by.now }
+    requires auction { IsOfAuction sc.now book.now }
 {
-    Ok(Scenario {
-        version: 1,
-        top: 15,
-        opening: 100,
-        fall: Fall::Listed(Items::from_vec(vec![in alloc; 40, 40]?)),
-        stations: Items::from_vec(stations),
-        workers: Items::from_vec(workers),
-        owners: None,
-    })
+    let mut text = Vec::from_slice(alloc, before)?;
+    text.extend_from_slice(row.0)?;
+    let Ok(found) = found(alloc, read_by, sc, book, &text) else {
+        return Ok(false);
+    };
+    Ok(is_as_said(found, row))
 }
 
-// The auction of stations 1 to 3, of which the second has this value and the third this volume, by a worker that learns, of
-// this budget.
-pub(crate) fn three_bids(
+// The first of these texts, each behind this one, in which the check finds something else.
+pub(crate) fn misjudged<'a>(
     alloc: Global,
-    value: u64,
-    volume: u32,
-    budget: u32,
-) -> Result<Scenario, NoMemory>
-    requires value { value ≤ 1000 }
-    requires some_volume { 1 ≤ volume }
-    requires volume { volume ≤ 1000 }
-    requires some_budget { 1 ≤ budget }
-    requires budget { budget ≤ 1000 }
-    ensures limits { IfOk result IsWithinLimits }
-    ensures stations { IfOk result (λ sc. facilities sc ≡ 1 ∷ 2 ∷ 3 ∷ []) }
+    read_by: &Scenario,
+    sc: &Scenario,
+    book: &Book,
+    before: &[u8],
+    rows: &[Row<'a>],
+) -> Result<Option<&'a [u8]>, NoMemory>
+    requires ascend { StationsAscend read_by.now }
+    requires auction { IsOfAuction sc.now book.now }
 {
-    let stations = vec![in alloc; bid(1, 1, 50), bid(2, 1, value), bid(3, volume, 10)]?;
-    let workers = vec![in alloc; worker(Kind::Cdcl, budget)]?;
-    auction_of(alloc, stations, workers)
+    for row in rows {
+        if !is_found(alloc, read_by, sc, book, before, *row)? {
+            return Ok(Some(row.0));
+        }
+    }
+    Ok(None)
 }
+
+// All is shown.
+pub(crate) const SOUND: Option<ShownWhy> = None;
+
+pub(crate) const ORDER: Option<ShownWhy> = Some(ShownWhy::Order);
+
+pub(crate) const KIND: Option<ShownWhy> = Some(ShownWhy::NotValid(Place::Kind));
+
+pub(crate) const STATION_3: Option<ShownWhy> = Some(ShownWhy::NotValid(Place::Station(3)));
+
+// Stations 1 and 2 on channel 14.
+pub(crate) const APART: Option<ShownWhy> = Some(ShownWhy::NotValid(Place::PairOf(Pair {
+    f: 1,
+    a: 14,
+    g: 2,
+    b: 14,
+})));
 
 // The auction of stations 1 to 3 by a worker that learns and one that walks, each of which may spend one line or move.
 pub(crate) fn two_workers(alloc: Global) -> Result<Scenario, NoMemory>
     ensures limits { IfOk result IsWithinLimits }
     ensures stations { IfOk result (λ sc. facilities sc ≡ 1 ∷ 2 ∷ 3 ∷ []) }
 {
-    let stations = vec![in alloc; bid(1, 1, 50), bid(2, 1, 70), bid(3, 1, 10)]?;
-    let workers = vec![in alloc; worker(Kind::Cdcl, 1), worker(Kind::Walk, 1)]?;
-    auction_of(alloc, stations, workers)
-}
-
-// The auction of station 1 alone.
-pub(crate) fn lone_bid(alloc: Global) -> Result<Scenario, NoMemory>
-    ensures limits { IfOk result IsWithinLimits }
-    ensures stations { IfOk result (λ sc. facilities sc ≡ 1 ∷ []) }
-{
-    let stations = vec![in alloc; bid(1, 1, 5)]?;
-    let workers = vec![in alloc; worker(Kind::Cdcl, 1000)]?;
-    auction_of(alloc, stations, workers)
+    let workers = vec![in alloc; learner(1), walker(1)]?;
+    three_bids(alloc, 70, 1, workers)
 }

@@ -1,96 +1,12 @@
 //! The check of transcripts: those that are sound, and those of which a step is not shown, by the first one.
 
-ghost use Rattle.pack_defs.specs.Scenario.{StationsAscend};
-ghost use Rattle.auction_core.specs.Setup.{IsOfAuction};
-
-use crate::verified::samples::{lone_bid, lone_station, three_bids, three_stations, two_workers};
+use crate::texts::{LONE_STATION, SECOND_ON_AIR, THREE_BY_VOLUME, THREE_STATIONS};
+use crate::verified::samples::{APART, KIND, ORDER, Row, SOUND, STATION_3, misjudged, two_workers};
 use cert_types::answer::Place;
-use pack_defs::book::Book;
-use pack_defs::pair::Pair;
-use pack_defs::scenario::Scenario;
-use std::alloc::{AllocError as NoMemory, Global};
+use core_samples::books::{lone_station, three_stations};
+use core_samples::scenarios::{lone_bid, three_bids_by_one};
 use std::test::Fail;
-use transcript_check::verify::verify;
-use transcript_check::{ShownWhy, VerifyErr};
-use transcript_text::TextErr;
-use transcript_text::read::read_transcript;
-
-// A text, its first step that is not shown, and why; the step counts for nothing where all is shown.
-pub(crate) type Row<'a> = (&'a [u8], u64, Option<ShownWhy>);
-
-// What the check finds in a text that is read by one scenario, in an auction of maybe another.
-fn found(
-    alloc: Global,
-    read_by: &Scenario,
-    sc: &Scenario,
-    book: &Book,
-    text: &[u8],
-) -> Result<Option<VerifyErr>, TextErr>
-    requires ascend { StationsAscend read_by.now }
-    requires auction { IsOfAuction sc.now book.now }
-{
-    let transcript = read_transcript(alloc, text, read_by, book)?;
-    match verify(alloc, book, sc, transcript) {
-        Ok(_) => Ok(None),
-        Err(e) => Ok(Some(e)),
-    }
-}
-
-// Whether what was found is what the row says.
-pub(crate) fn is_as_said(found: Option<VerifyErr>, row: Row<'_>) -> bool {
-    match (found, row.2) {
-        (None, None) => true,
-        (Some(VerifyErr::NotShown { step, why }), Some(wanted)) => step == row.1 && why == wanted,
-        _ => false,
-    }
-}
-
-// Whether the check finds what the row says, in its text behind this one.
-fn is_found(
-    alloc: Global,
-    read_by: &Scenario,
-    sc: &Scenario,
-    book: &Book,
-    before: &[u8],
-    row: Row<'_>,
-) -> Result<bool, NoMemory>
-    requires ascend { StationsAscend read_by.now }
-    requires auction { IsOfAuction sc.now book.now }
-{
-    let mut text = Vec::from_slice(alloc, before)?;
-    text.extend_from_slice(row.0)?;
-    let Ok(found) = found(alloc, read_by, sc, book, &text) else {
-        return Ok(false);
-    };
-    Ok(is_as_said(found, row))
-}
-
-// The first of these texts, each behind this one, in which the check finds something else.
-pub(crate) fn misjudged<'a>(
-    alloc: Global,
-    read_by: &Scenario,
-    sc: &Scenario,
-    book: &Book,
-    before: &[u8],
-    rows: &[Row<'a>],
-) -> Result<Option<&'a [u8]>, NoMemory>
-    requires ascend { StationsAscend read_by.now }
-    requires auction { IsOfAuction sc.now book.now }
-{
-    for row in rows {
-        if !is_found(alloc, read_by, sc, book, before, *row)? {
-            return Ok(Some(row.0));
-        }
-    }
-    Ok(None)
-}
-
-// All is shown.
-pub(crate) const SOUND: Option<ShownWhy> = None;
-
-pub(crate) const ORDER: Option<ShownWhy> = Some(ShownWhy::Order);
-
-pub(crate) const KIND: Option<ShownWhy> = Some(ShownWhy::NotValid(Place::Kind));
+use transcript_check::ShownWhy;
 
 const COUNT: Option<ShownWhy> = Some(ShownWhy::NotValid(Place::Count));
 
@@ -100,29 +16,15 @@ const STATION_1: Option<ShownWhy> = Some(ShownWhy::NotValid(Place::Station(1)));
 
 const STATION_2: Option<ShownWhy> = Some(ShownWhy::NotValid(Place::Station(2)));
 
-pub(crate) const STATION_3: Option<ShownWhy> = Some(ShownWhy::NotValid(Place::Station(3)));
-
-// Stations 1 and 2 on channel 14.
-pub(crate) const APART: Option<ShownWhy> = Some(ShownWhy::NotValid(Place::PairOf(Pair {
-    f: 1,
-    a: 14,
-    g: 2,
-    b: 14,
-})));
-
 const LINE_1: Option<ShownWhy> = Some(ShownWhy::NotValid(Place::LineAt(1)));
 
 const LINE_2: Option<ShownWhy> = Some(ShownWhy::NotValid(Place::LineAt(2)));
 
 const MOVE_1: Option<ShownWhy> = Some(ShownWhy::NotValid(Place::MoveAt(1)));
 
-// A transcript of three stations with values of 50, 70 and 10.
-pub(crate) const THREE_BIDS: &[u8] =
-    b"transcript 1\nstart empty\nfit 1 1 1\nat 1 14\nfit 1 2 1\nat 2 14\nfit 1 3 1\nat 3 15\nfit 2 1 1\nat 1 15\nlog 2 3 0 2\non 1 2 3\n13 -1 0 7 2 8 3 12 0\n14 0 13 1 9 2 10 3 11 0\nend 5\n";
-
 // Whole transcripts, in which round 1 tests stations 1 to 3 and round 2 stations 1 and 3.
 const WHOLE: &[Row] = &[
-    (THREE_BIDS, 0, SOUND),
+    (THREE_STATIONS, 0, SOUND),
     (b"transcript 1\nstart empty\nend 0\n", 1, ORDER),
     (
         b"transcript 1\nstart empty\nfit 1 2 1\nat 2 14\nend 1\n",
@@ -139,11 +41,7 @@ const WHOLE: &[Row] = &[
         2,
         ORDER,
     ),
-    (
-        b"transcript 2\nstart empty\nfit 1 1 1\nat 1 14\nfit 1 2 1\nat 2 14\nfit 1 3 1\nat 3 15\nfit 2 1 1\nat 1 15\nlog 2 3 0 2\non 1 2 3\n13 -1 0 7 2 8 3 12 0\n14 0 13 1 9 2 10 3 11 0\nend 5\n",
-        0,
-        SOUND,
-    ),
+    (THREE_BY_VOLUME, 0, SOUND),
     (b"transcript 1\nstart fit 0\nend 0\n", 0, KIND),
     (b"transcript 1\nstart fit 1\nat 2 14\nend 0\n", 0, KIND),
 ];
@@ -229,7 +127,7 @@ const FIFTH: &[Row] = &[
 fn rounds_by_facility(rt: HostRuntime) -> Result<(), Fail> {
     let alloc = rt.alloc();
     let book = three_stations(alloc)?;
-    let sc = three_bids(alloc, 70, 1, 1000)?;
+    let sc = three_bids_by_one(alloc, 70, 1, 1000)?;
     assert_eq!(rt; misjudged(alloc, &sc, &sc, &book, b"", WHOLE)?, None);
     assert_eq!(rt; misjudged(alloc, &sc, &sc, &book, BEFORE_4, FOURTH)?, None);
     assert_eq!(rt; misjudged(alloc, &sc, &sc, &book, BEFORE_5, FIFTH)?, None);
@@ -274,18 +172,14 @@ const BY_VOLUME: &[Row] = &[
 fn rounds_by_volume(rt: HostRuntime) -> Result<(), Fail> {
     let alloc = rt.alloc();
     let book = three_stations(alloc)?;
-    let sc = three_bids(alloc, 70, 2, 1000)?;
+    let sc = three_bids_by_one(alloc, 70, 2, 1000)?;
     assert_eq!(rt; misjudged(alloc, &sc, &sc, &book, b"", BY_VOLUME)?, None);
     Ok(())
 }
 
-// Station 2 is on air from the start, so that station 1 is tested beside it in both rounds.
-pub(crate) const BESIDE_SECOND: &[u8] =
-    b"transcript 1\nstart fit 1\nat 2 14\nfit 1 1 1\nat 1 15\nfit 1 3 1\nat 3 15\nsame 2 1\nlog 2 3 0 2\non 1 2 3\n13 -1 0 7 2 8 3 12 0\n14 0 13 1 9 2 10 3 11 0\nend 4\n";
-
 // That transcript, and others of the same auction.
 const BESIDE: &[Row] = &[
-    (BESIDE_SECOND, 0, SOUND),
+    (SECOND_ON_AIR, 0, SOUND),
     (
         b"transcript 1\nstart fit 1\nat 2 14\nfit 1 1 1\nat 1 15\nfit 1 3 1\nat 3 15\nend 2\n",
         3,
@@ -330,7 +224,7 @@ const BESIDE: &[Row] = &[
 fn a_start_set_that_fits(rt: HostRuntime) -> Result<(), Fail> {
     let alloc = rt.alloc();
     let book = three_stations(alloc)?;
-    let sc = three_bids(alloc, 101, 1, 1000)?;
+    let sc = three_bids_by_one(alloc, 101, 1, 1000)?;
     assert_eq!(rt; misjudged(alloc, &sc, &sc, &book, b"", BESIDE)?, None);
     Ok(())
 }
@@ -403,7 +297,7 @@ fn what_workers_say(rt: HostRuntime) -> Result<(), Fail> {
     let alloc = rt.alloc();
     let book = three_stations(alloc)?;
     let two = two_workers(alloc)?;
-    let one = three_bids(alloc, 70, 1, 1)?;
+    let one = three_bids_by_one(alloc, 70, 1, 1)?;
     assert_eq!(rt;
         misjudged(alloc, &two, &two, &book, BEFORE_5, BY_TWO)?,
         None
@@ -417,7 +311,7 @@ fn what_workers_say(rt: HostRuntime) -> Result<(), Fail> {
 
 // A station without a channel.
 const LONE: &[Row] = &[
-    (b"transcript 1\nstart empty\nnone 1 1\nend 1\n", 0, SOUND),
+    (LONE_STATION, 0, SOUND),
     (b"transcript 1\nstart empty\nend 0\n", 1, ORDER),
     (
         b"transcript 1\nstart empty\nfit 1 1 1\nat 1 14\nend 1\n",

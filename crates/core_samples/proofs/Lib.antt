@@ -1,0 +1,2 @@
+mod CutStations
+mod MadeScenario

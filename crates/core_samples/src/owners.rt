@@ -1,0 +1,73 @@
+//! What the owners of stations 1 to 3 say.
+
+use pack_defs::owners::{OwnerLine, Owners};
+use std::alloc::{AllocError as NoMemory, Global};
+
+/// Lines of owners: round, station, whether it stays.
+pub type Lines = &'static [(u32, u32, bool)];
+
+/// Owners that say these lines.
+pub fn saying(alloc: Global, lines: Lines) -> Result<Owners, NoMemory> {
+    let mut owners = Owners::new(alloc);
+    for (round, station, stays) in lines {
+        owners.add(OwnerLine {
+            round: *round,
+            station: *station,
+            stays: *stays,
+        })?;
+    }
+    Ok(owners)
+}
+
+/// Station 2 leaves in round 1 and station 1 in round 2, as they would by values of 70 and 50, and station 3 stays.
+pub const AS_BID: Lines = &[
+    (0, 1, true),
+    (1, 1, true),
+    (0, 2, true),
+    (0, 3, true),
+    (1, 3, true),
+    (2, 3, true),
+];
+
+/// The same, but that station 2 declines the opening offer.
+pub const SECOND_DECLINES: Lines = &[
+    (0, 1, true),
+    (1, 1, true),
+    (0, 3, true),
+    (1, 3, true),
+    (2, 3, true),
+];
+
+/// Station 1 leaves in round 1, and says in round 2 that it stays; station 2 leaves in round 2, and station 3 stays.
+pub const FIRST_LEAVES: Lines = &[
+    (0, 1, true),
+    (2, 1, true),
+    (0, 2, true),
+    (1, 2, true),
+    (0, 3, true),
+    (1, 3, true),
+    (2, 3, true),
+];
+
+/// Station 1 stays in each round, and the others leave, station 2 in round 1 and station 3 in round 2.
+pub const FIRST_STAYS: Lines = &[
+    (0, 1, true),
+    (1, 1, true),
+    (2, 1, true),
+    (0, 2, true),
+    (0, 3, true),
+    (1, 3, true),
+];
+
+/// All three stay in each round.
+pub const ALL_STAY: Lines = &[
+    (0, 1, true),
+    (1, 1, true),
+    (2, 1, true),
+    (0, 2, true),
+    (1, 2, true),
+    (2, 2, true),
+    (0, 3, true),
+    (1, 3, true),
+    (2, 3, true),
+];

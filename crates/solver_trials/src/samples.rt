@@ -1,0 +1,59 @@
+//! Books and queries that the tests of several solvers are made of.
+
+ghost use Rattle.std.specs.Prelude.{◌≡◌, IfOk, IsTrue, map};
+ghost use Rattle.pack_defs.specs.Book.{AreInOrder};
+ghost use Rattle.pack_defs.specs.Lists.{is_ascending};
+ghost use Rattle.pack_defs.specs.ChannelMap.{IsAscending};
+
+use cert_types::task::Task;
+use constraint_files::domains::read_domains;
+use constraint_files::pairs::read_pairs;
+use pack_defs::book::Book;
+use pack_defs::channel_map::ChannelMap;
+use pack_defs::domain::Domain;
+use pack_defs::items::Items;
+use std::alloc::{AllocError as NoMemory, Global};
+
+// Query 5, about these stations, while these channels stand. It tests none of them alone.
+pub(crate) fn task(alloc: Global, set: &[u32], last: &[(u32, u8)]) -> Result<Task, NoMemory>
+    requires { IsAscending last.now }
+{
+    task_of(alloc, None, set, last)
+}
+
+// The same, of the test of a station.
+pub(crate) fn task_of(
+    alloc: Global,
+    station: Option<u32>,
+    set: &[u32],
+    last: &[(u32, u8)],
+) -> Result<Task, NoMemory>
+    requires { IsAscending last.now }
+{
+    Ok(Task {
+        number: 5,
+        round: 1,
+        station,
+        set: Items::from_vec(Vec::from_slice(alloc, set)?),
+        last: ChannelMap::of(alloc, last)?,
+    })
+}
+
+// The book of two constraint files.
+pub(crate) fn book(alloc: Global, domains: &str, rows: &str) -> Option<Book> {
+    let domains = read_domains(alloc, domains.as_bytes()).ok()?;
+    let pairs = read_pairs(alloc, rows.as_bytes(), &domains).ok()?;
+    let ids = ids_of(alloc, domains.list()).ok()?;
+    if ids.len() > 8192 {
+        return None;
+    }
+    Book::build(alloc, 51, &ids, domains.list(), pairs.list()).ok()
+}
+
+fn ids_of(alloc: Global, domains: &[Domain]) -> Result<Vec<u32>, NoMemory>
+    requires { AreInOrder domains.now }
+    ensures same { IfOk result (λ ids. ids.items ≡ map (λ d. d.station) domains.now) }
+    ensures ascend { IfOk result (λ ids. IsTrue (is_ascending ids.items)) }
+{
+    domains.iter().map(|domain| domain.station).collect(alloc)
+}
