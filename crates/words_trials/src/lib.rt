@@ -1,9 +1,9 @@
-//! Tests of `auction_cmd`'s words: which order they are read as, which are refused, and which names are given twice.
+//! Tests of `auction_cmd`'s words: which command they are read as, which are refused, and which names are given twice.
 #![tactic(auto)]
 
 #[cfg(test)]
-mod names;
+mod commands;
 #[cfg(test)]
-mod orders;
+mod names;
 #[cfg(test)]
 mod reading;

@@ -1,4 +1,4 @@
-//! Which name of an order's files is given twice.
+//! Which name of a command's files is given twice.
 
 use auction_cmd::make_words::MakeArgs;
 use auction_cmd::proof_words::{ExportArgs, ImportArgs};

@@ -28,7 +28,7 @@ fn joined(alloc: Global, command: &str, names: &[&str]) -> Result<String, NoMemo
     Ok(text)
 }
 
-// The start of an order: its command, which is live where an owners' file is named, and the names of its input files.
+// The start of a command: its name, which is live where an owners' file is named, and the names of its input files.
 fn inputs_text(alloc: Global, command: &str, files: InputArgs<'_>) -> Result<String, NoMemory> {
     let InputArgs {
         domains,
@@ -38,19 +38,19 @@ fn inputs_text(alloc: Global, command: &str, files: InputArgs<'_>) -> Result<Str
     } = files;
     match owners {
         Some(owners) => {
-            let order = format!(in alloc; "order live {command}")?;
-            joined(alloc, &order, &[domains, rows, scenario, owners])
+            let start = format!(in alloc; "command live {command}")?;
+            joined(alloc, &start, &[domains, rows, scenario, owners])
         }
         None => {
-            let order = format!(in alloc; "order {command}")?;
-            joined(alloc, &order, &[domains, rows, scenario])
+            let start = format!(in alloc; "command {command}")?;
+            joined(alloc, &start, &[domains, rows, scenario])
         }
     }
 }
 
-// The order: its command and the names in their places, with a comma between each two.
-fn order_text(alloc: Global, order: CommandArgs<'_>) -> Result<String, NoMemory> {
-    match order {
+// The command: its name and those of its files in their places, with a comma between each two.
+fn command_text(alloc: Global, command: CommandArgs<'_>) -> Result<String, NoMemory> {
+    match command {
         CommandArgs::Run(files) => {
             let inputs = inputs_text(alloc, "run", files.inputs)?;
             let names = [files.result, files.channels, files.transcript];
@@ -64,24 +64,24 @@ fn order_text(alloc: Global, order: CommandArgs<'_>) -> Result<String, NoMemory>
         CommandArgs::Resume(files) => resume_text(alloc, files),
         CommandArgs::Seek(files) => {
             let names = [files.domains, files.rows, files.scenario, files.channels];
-            joined(alloc, "order seek", &names)
+            joined(alloc, "command seek", &names)
         }
         CommandArgs::Batch(files) => {
             let names = [files.domains, files.rows, files.list];
-            joined(alloc, "order batch", &names)
+            joined(alloc, "command batch", &names)
         }
         CommandArgs::Make(files) => {
             let (seed, size, outputs) = (files.seed, files.size, files.outputs);
-            let command = format!(in alloc; "order make,{seed},{size}")?;
+            let start = format!(in alloc; "command make,{seed},{size}")?;
             let names = [outputs.domains, outputs.rows, outputs.scenario];
-            joined(alloc, &command, &names)
+            joined(alloc, &start, &names)
         }
         CommandArgs::Export(files) => export_text(alloc, files),
         CommandArgs::Import(files) => import_text(alloc, files),
     }
 }
 
-// The order to go on with an auction.
+// The command to go on with an auction.
 fn resume_text(alloc: Global, files: ResumeArgs<'_>) -> Result<String, NoMemory> {
     let run_files = files.run_files;
     let inputs = inputs_text(alloc, "resume", run_files.inputs)?;
@@ -94,7 +94,7 @@ fn resume_text(alloc: Global, files: ResumeArgs<'_>) -> Result<String, NoMemory>
     joined(alloc, &inputs, &names)
 }
 
-// The order to store a formula; its step stands behind the names.
+// The command to store a formula; its step stands behind the names.
 fn export_text(alloc: Global, files: ExportArgs<'_>) -> Result<String, NoMemory> {
     let step = files.step;
     let last = format!(in alloc; "step {step}")?;
@@ -107,10 +107,10 @@ fn export_text(alloc: Global, files: ExportArgs<'_>) -> Result<String, NoMemory>
         files.formula,
         last.as_str(),
     ];
-    joined(alloc, "order export", &names)
+    joined(alloc, "command export", &names)
 }
 
-// The order to settle a step; its step stands behind the names.
+// The command to settle a step; its step stands behind the names.
 fn import_text(alloc: Global, files: ImportArgs<'_>) -> Result<String, NoMemory> {
     let step = files.step;
     let last = format!(in alloc; "step {step}")?;
@@ -125,14 +125,14 @@ fn import_text(alloc: Global, files: ImportArgs<'_>) -> Result<String, NoMemory>
         files.transcript,
         last.as_str(),
     ];
-    joined(alloc, "order import", &names)
+    joined(alloc, "command import", &names)
 }
 
-/// The order that the words are, or the text that comes with their fault.
+/// The command that the words are, or the text that comes with their fault.
 pub fn read(alloc: Global, line: &str) -> Result<String, NoMemory> {
     let words = words_of(alloc, line)?;
     match read_words(alloc, &words) {
-        Ok(order) => order_text(alloc, order),
+        Ok(command) => command_text(alloc, command),
         Err(WordsFault::Refused(text)) => Ok(text),
         Err(WordsFault::NoMemory) => Err(NoMemory),
     }

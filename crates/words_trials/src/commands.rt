@@ -4,7 +4,7 @@ use crate::reading::read;
 use std::alloc::{AllocError as NoMemory, Global};
 use std::test::Fail;
 
-// Whether the words are refused by a text of whole lines with this start, which no order has.
+// Whether the words are refused by a text of whole lines with this start, which no command has.
 fn is_refused(alloc: Global, line: &str, start: &str) -> Result<bool, NoMemory> {
     let text = read(alloc, line)?;
     Ok(text.starts_with(start) && text.ends_with('\n'))
@@ -272,45 +272,51 @@ fn misread<'a>(alloc: Global, table: &[(&'a str, &str)]) -> Result<Option<&'a st
 const ORDERS: &[(&str, &str)] = &[
     (
         "repack,run,d.csv,r.csv,s.json,o.csv,c.csv,t.txt",
-        "order run,d.csv,r.csv,s.json,o.csv,c.csv,t.txt",
+        "command run,d.csv,r.csv,s.json,o.csv,c.csv,t.txt",
     ),
     // An empty name, a lone dash, a name with a blank, one name several times, and names of commands.
     (
         "other,run,,-,a b,-,run,check",
-        "order run,,-,a b,-,run,check",
+        "command run,,-,a b,-,run,check",
     ),
     (
         "repack,run,d,--,-r,--help,-,--,-h",
-        "order run,d,-r,--help,-,--,-h",
+        "command run,d,-r,--help,-,--,-h",
     ),
     (
         "repack,check,d.csv,r.csv,s.json",
-        "order check,d.csv,r.csv,s.json",
+        "command check,d.csv,r.csv,s.json",
     ),
-    ("repack,check,-,,-", "order check,-,,-"),
-    ("repack,live,d,r,s,w,o,c,t", "order live run,d,r,s,w,o,c,t"),
+    ("repack,check,-,,-", "command check,-,,-"),
+    (
+        "repack,live,d,r,s,w,o,c,t",
+        "command live run,d,r,s,w,o,c,t",
+    ),
     (
         "repack,live,,-,5,--,-w,live,run,t",
-        "order live run,,-,5,-w,live,run,t",
+        "command live run,,-,5,-w,live,run,t",
     ),
     (
         "repack,verify-live,d,r,s,w,t",
-        "order live verify,d,r,s,w,t",
+        "command live verify,d,r,s,w,t",
     ),
-    ("repack,verify,d,r,s,t", "order verify,d,r,s,t"),
-    ("repack,resume,d,r,s,p,o,c,t", "order resume,d,r,s,p,o,c,t"),
-    ("repack,seek,d,r,s,c", "order seek,d,r,s,c"),
-    ("repack,seek,,-,--,-s,seek", "order seek,,-,-s,seek"),
-    ("repack,batch,d,-,batch", "order batch,d,-,batch"),
+    ("repack,verify,d,r,s,t", "command verify,d,r,s,t"),
+    (
+        "repack,resume,d,r,s,p,o,c,t",
+        "command resume,d,r,s,p,o,c,t",
+    ),
+    ("repack,seek,d,r,s,c", "command seek,d,r,s,c"),
+    ("repack,seek,,-,--,-s,seek", "command seek,,-,-s,seek"),
+    ("repack,batch,d,-,batch", "command batch,d,-,batch"),
     (
         "repack,check,--,-d,--,--version",
-        "order check,-d,--,--version",
+        "command check,-d,--,--version",
     ),
     (
         "repack,make,18446744073709551615,4096,d,r,s",
-        "order make,18446744073709551615,4096,d,r,s",
+        "command make,18446744073709551615,4096,d,r,s",
     ),
-    ("repack,make,+0,01,--,-d,,make", "order make,0,1,-d,,make"),
+    ("repack,make,+0,01,--,-d,,make", "command make,0,1,-d,,make"),
     ("repack,--version", "repack 0.1.0\n"),
     ("other,-V", "repack 0.1.0\n"),
 ];
@@ -322,34 +328,37 @@ fn each_name_stands_in_its_place(rt: HostRuntime) -> Result<(), Fail> {
 }
 
 const STEP_ORDERS: &[(&str, &str)] = &[
-    ("repack,export,d,r,s,t,1,c", "order export,d,r,s,t,c,step 1"),
+    (
+        "repack,export,d,r,s,t,1,c",
+        "command export,d,r,s,t,c,step 1",
+    ),
     (
         "repack,export,d,r,s,t,+7,c",
-        "order export,d,r,s,t,c,step 7",
+        "command export,d,r,s,t,c,step 7",
     ),
     (
         "repack,export,d,r,s,t,007,c",
-        "order export,d,r,s,t,c,step 7",
+        "command export,d,r,s,t,c,step 7",
     ),
     (
         "repack,export,,-,5,6,4294967295,--,-c",
-        "order export,,-,5,6,-c,step 4294967295",
+        "command export,,-,5,6,-c,step 4294967295",
     ),
     (
         "repack,import,d,r,s,t,1,l,o,n",
-        "order import,d,r,s,t,l,o,n,step 1",
+        "command import,d,r,s,t,l,o,n,step 1",
     ),
     (
         "repack,import,d,r,s,t,+7,l,o,n",
-        "order import,d,r,s,t,l,o,n,step 7",
+        "command import,d,r,s,t,l,o,n,step 7",
     ),
     (
         "repack,import,d,r,s,t,007,l,o,n",
-        "order import,d,r,s,t,l,o,n,step 7",
+        "command import,d,r,s,t,l,o,n,step 7",
     ),
     (
         "repack,import,,-,5,6,4294967295,--,-l,--,export",
-        "order import,,-,5,6,-l,--,export,step 4294967295",
+        "command import,,-,5,6,-l,--,export,step 4294967295",
     ),
 ];
 
