@@ -18,6 +18,7 @@ use core_samples::books::apart;
 use core_samples::workers::{learner, walker};
 use pack_defs::pair::Pair;
 use rup_check::line::Log;
+use rup_check::lines::Lines;
 use std::alloc::{AllocError as NoMemory, Global};
 use std::test::Fail;
 
