@@ -2,8 +2,8 @@
 use Rattle.std.proofs.Common.{◌≡◌, ◌∙◌, ◌∷◌, [], ap}
 use Rattle.std.proofs.lemmas.Result.{IfOk-weaker}
 use Rattle.pack_defs.specs.Book.{stations_of}
+use Rattle.pack_defs.specs.Examples.{three_stations}
 use Rattle.cnf_encode.proofs.ExampleLemmas.{built-three, example_domain}
-use Rattle.core_samples.proofs.CutStations.{cut-stations}
 use Rattle.core_samples.proofs.books.three_stations.Goals as goal
 
 pub returns-clause-value : goal.returns-clause-value
@@ -15,4 +15,5 @@ returns-clause-value c =
     IfOk-weaker c.build.result _ _ (λ book e. e ∙ built-three _ _ domains (c.deref.ensures.value ∙ c.in_ok-pairs.ensures.value)) c.build.ensures
 
 pub returns-clause-stations : goal.returns-clause-stations
-returns-clause-stations c = IfOk-weaker c.build.result _ _ (λ book e. ap stations_of e ∙ cut-stations 15 _ (1 ∷ 2 ∷ 3 ∷ [])) c.build.ensures
+unfolding three_stations
+returns-clause-stations c = IfOk-weaker c.build.result _ _ (λ book e. ap stations_of e) (returns-clause-value c)
