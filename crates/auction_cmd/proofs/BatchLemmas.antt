@@ -262,6 +262,17 @@ module _ (names : BatchNames) (before after : Outside) (status : ℕ) (batch : L
   batch-starved (Starved at said same none) eight = inl (none, same)
   batch-starved (Reached r) eight = inr (run-of-reached r)
 
+  batch-part : (files : List StoredFile) → Came → before.files ≡ Some files → status ≡ 8 → batch ≢ [] → IsBatchPart files names before after batch
+  batch-part files (Stopped s none) told eight some = absurd (some none)
+  batch-part files (Starved at said same none) told eight some = absurd (some none)
+  batch-part files (Reached r) told eight some = go r.ended
+    where
+      go : Ended (batch_texts r.held batch) (status_lines r.held.lines batch) (batch_status batch) before after status → IsBatchPart files names before after batch
+      go (Both is all writes) = absurd (never 8 is eight refl)
+      go (NotSaid four all rises less said) = absurd (omega arith)
+      go (NotStored x four part rises unsteady said) = absurd (omega arith)
+      go (OutOfRoom x at part said) = part-of files r x (part files told (apart-texts r files told))
+
   batch-unrecorded : Came → IsTrue (is_in (3 ∷ 5 ∷ []) status) → batch ≡ []
   batch-unrecorded (Stopped s none) h = none
   batch-unrecorded (Starved at said same none) h = none
@@ -364,16 +375,16 @@ module _ (names : BatchNames) (before after : Outside) (status : ℕ) (batch : L
       by (Unread at NoMemory) h e = inr (inl e.0)
       by (Twice name) h e = absurd (not-both held (Twice name) (sym is ∙ h))
 
-  batch-read : (files : List StoredFile) (held : HeldBatch) → Came → before.files ≡ Some files → before.steady ≡ true → batch_of files names ≡ Ok held → status ≢ 3
-  batch-read files held (Stopped s none) told steady is = λ three. elim (stopped-held files held 8 s told is) [
-    | inl eight ↦ omega (arith, eight, three)
-    | inr k ↦ elim k [
-      | inl eight ↦ omega (arith, eight, three)
-      | inr cut ↦ cut.1 steady
-    ]
-  ]
-  batch-read files held (Starved eight said same none) told steady is = λ three. omega (arith, eight, three)
-  batch-read files held (Reached r) told steady is = λ three. off (0 ∷ 1 ∷ 4 ∷ 8 ∷ 11 ∷ []) status 3 (reached-statuses r) three refl
+  batch-read : (files : List StoredFile) → Came → before.files ≡ Some files → before.steady ≡ true → ((own : InputNames) (input : Input) → batch_of files names ≢ Err (Unread own (CannotRead input))) → status ≢ 3
+  batch-read files (Stopped s none) told steady there = λ three. by s.stop (s.told files told) s.explains three
+    where
+      by : (stop : BatchStop) → StopsAsHeld before.steady (batch_of files names) stop → ExplainsStop stop before.held after.held before.cuts after.cuts status → status ≡ 3 → ⊥
+      by (Unread at (CannotRead i)) h e three = there at i (h steady)
+      by (Unread at (Refused why)) h e three = let five = e.0 in omega arith
+      by (Unread at NoMemory) h e three = let eight = e.0 in omega arith
+      by (Twice name) h e three = let five = e.0 in omega arith
+  batch-read files (Starved eight said same none) told steady there = λ three. omega (arith, eight, three)
+  batch-read files (Reached r) told steady there = λ three. off (0 ∷ 1 ∷ 4 ∷ 8 ∷ 11 ∷ []) status 3 (reached-statuses r) three refl
 
   batch-complete : (files : List StoredFile) (held : HeldBatch) → Came → before.files ≡ Some files → batch_of files names ≡ Ok held → IsOr 0 before status ⊎ IsTrue (is_in (1 ∷ 4 ∷ 11 ∷ []) status)
   batch-complete files held (Stopped s none) told is = inl (stopped-held files held 0 s told is)
@@ -444,11 +455,12 @@ module _ (names : BatchNames) (before after : Outside) (status : ℕ) (batch : L
     recorded = λ four. run-of-reached (reached-at way (one-of (0 ∷ 1 ∷ 4 ∷ 11 ∷ []) status 4 four refl));
     unrecorded = batch-unrecorded way;
     starved = batch-starved way;
+    part_stored = λ files told eight some. batch-part files way told eight some;
     refused = λ files told five. batch-refused files way told five;
     refuses = λ files stop told is refusing. batch-refuses files stop way told is refusing;
     unread = batch-unread way;
     missing = λ files own input told steady is. batch-missing files own input way told steady is;
-    surely_read = λ files held told steady is. batch-read files held way told steady is;
+    surely_read = λ files told steady there. batch-read files way told steady there;
     unwritten = batch-unwritten way;
     unstored = λ files told four. batch-unstored files way told four;
     surely_written = batch-surely way;

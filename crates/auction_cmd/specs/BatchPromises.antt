@@ -92,11 +92,13 @@ pub record BatchPromises (names : BatchNames) (before after : Outside) (status :
   pub each : (files : List StoredFile) → before.files ≡ Some files → IsTrue (is_in (DONE ∷ LEFT_OPEN ∷ SOME_UNSTARTED ∷ []) status) →
       (run : IsBatchRun names before batch)
       × MatchOption after.files ⊥ (λ new. AreStored files new (batch_texts run.held batch) × EachOf (IsRunOf files new names) run.held.lines run.held.inputs batch)
-  -- There are records at 4 too, and none at 3 and 5. At 8 there are some only where all auctions were carried out, and then texts
-  -- may be stored.
+  -- There are records at 4 too, and none at 3 and 5. At 8 there are some only where all auctions were carried out, and memory ran
+  -- out at a store: the texts before it are stored.
   pub recorded : status ≡ UNWRITTEN → IsBatchRun names before batch
   pub unrecorded : IsTrue (is_in (UNREAD ∷ REFUSED ∷ []) status) → batch ≡ []
   pub starved : status ≡ NO_MEMORY → ((batch ≡ []) × (after.files ≡ before.files)) ⊎ IsBatchRun names before batch
+  pub part_stored : (files : List StoredFile) → before.files ≡ Some files → status ≡ NO_MEMORY → batch ≢ [] →
+      IsBatchPart files names before after batch
   -- Status 5 comes exactly where the first thing that stops the reading is a file that is too long or refused, or a result's name
   -- that is given twice, and the line says which. Before that memory may run out, and a folder that isn't steady may fail.
   pub refused : (files : List StoredFile) → before.files ≡ Some files → status ≡ REFUSED →
@@ -104,15 +106,15 @@ pub record BatchPromises (names : BatchNames) (before after : Outside) (status :
   pub refuses : (files : List StoredFile) (stop : BatchStop) → before.files ≡ Some files → batch_of files names ≡ Err stop → IsRefusing stop →
       IsOr REFUSED before status
   -- Status 3 comes only where the folder's count of faults rose, and the line names a file that is read: of the words, or a scenario
-  -- of the list. Where a missing file is the first thing that stops the reading of a steady folder, it names that one, and where
-  -- none is missing it doesn't come.
+  -- of the list. Where a missing file is the first thing that stops the reading of a steady folder, it names that one; and where
+  -- that isn't so it doesn't come.
   pub unread : status ≡ UNREAD → HasRisen before.faults after.faults
       × ((own : InputNames) × (input : Input) × IsUnderList names before own × IsSaid before after (unread_line (name_of own input)))
   pub missing : (files : List StoredFile) (own : InputNames) (input : Input) → before.files ≡ Some files → before.steady ≡ true →
       batch_of files names ≡ Err (Unread own (CannotRead input)) →
       (status ≡ NO_MEMORY) ⊎ ((status ≡ UNREAD) × IsSaid before after (unread_line (name_of own input)))
-  pub surely_read : (files : List StoredFile) (held : HeldBatch) → before.files ≡ Some files → before.steady ≡ true → batch_of files names ≡ Ok held →
-      status ≢ UNREAD
+  pub surely_read : (files : List StoredFile) → before.files ≡ Some files → before.steady ≡ true →
+      ((own : InputNames) (input : Input) → batch_of files names ≢ Err (Unread own (CannotRead input))) → status ≢ UNREAD
   -- Status 4 comes only where a count of faults rose: a store failed, or the results are stored and the lines were not printed whole.
   -- It never comes over a steady folder and a sink that surely takes the lines.
   pub unwritten : status ≡ UNWRITTEN → HasRisen before.faults after.faults ⊎ HasRisen before.cuts after.cuts

@@ -2,10 +2,10 @@
 use Rattle.std.specs.Prelude.{ℕ, ◌≡◌, ◌∷◌, [], IsFalse, IsTrue}
 use Rattle.pack_defs.specs.Lists.{is_in}
 use Rattle.auction_cmd.specs.Outside.{Outside}
-use Rattle.auction_cmd.specs.Statuses.{DONE, LEFT_OPEN, UNREAD, UNWRITTEN}
+use Rattle.auction_cmd.specs.Statuses.{DONE, LEFT_OPEN, UNREAD, UNWRITTEN, SOME_UNSTARTED}
 
--- At every status but 3 and 4 the folder's count stands, and at 0 and 1 the sink's does too. At 2 and from 5 on a line may have
+-- At every status but 3 and 4 the folder's count stands, and at 0, 1 and 11 the sink's does too. At the others a line may have
 -- failed.
 pub record AreFaultsCounted (before after : Outside) (status : ℕ) : Type 0 where
   pub folder : IsFalse (is_in (UNREAD ∷ UNWRITTEN ∷ []) status) → after.faults ≡ before.faults
-  pub sink : IsTrue (is_in (DONE ∷ LEFT_OPEN ∷ []) status) → after.cuts ≡ before.cuts
+  pub sink : IsTrue (is_in (DONE ∷ LEFT_OPEN ∷ SOME_UNSTARTED ∷ []) status) → after.cuts ≡ before.cuts

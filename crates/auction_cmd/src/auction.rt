@@ -112,8 +112,8 @@ fn carry_out<F: Folder, K: Sink, G: Gate + Sync, W: Threads + Wait + Sync>(
 ///   fit that start on air, by auctions of these stations alone, stores a channel up to it for each of them and writes it.
 /// - `batch DOMAINS ROWS LIST` reads the constraint files and a list of at most 256 lines, each a scenario and a file for its
 ///   result, and the scenarios; carries all their auctions out, as many at a time as the machine has processors, as `run` does
-///   each, by solvers that share what they answered; stores the results and writes a line for each scenario, with the status
-///   that `run` would end with.
+///   each, by solvers that share what they answered; stores the results and writes a line for each scenario, with its auction's
+///   own status: 0, 1, 6 or 7, as those of `run`.
 /// - `make SEED SIZE DOMAINS ROWS SCENARIO` makes the three files of an auction of SIZE stations from the number SEED, stores
 ///   them in this order, carries the auction out as `run` does and writes the summary. The same SEED and SIZE make the same
 ///   files.

@@ -76,7 +76,7 @@ fn ends_at_start(ending: Ending) -> bool
     }
 }
 
-// The status of an auction of the batch: that which `run` would end with.
+// The status of an auction of the batch, as `run` has it: by how it ended and whether a test of it was left open.
 fn own_status(rec: &Record) -> u8
     ensures { result ≡ own_status rec.now }
 {
@@ -204,10 +204,10 @@ fn carry_all_out<G: Gate + Sync, W: Threads + Wait + Sync>(
     })
 }
 
-/// Reads the constraint files, the list, and the scenario of each of its lines, and carries all their auctions out, as many at a time
-/// as the machine has processors: each as `run` does, by solvers that share what they answered. The results of those that were carried through are stored, in the
-/// list's order, and a line is printed for each scenario with the status that `run` would end with. Nothing is stored before all
-/// auctions are done.
+/// Reads the constraint files, the list, and the scenario of each of its lines, and carries all their auctions out, as many at a
+/// time as the machine has processors: each as `run` does, by solvers that share what they answered. The results of those that were
+/// carried through are stored, in the list's order, and a line is printed for each scenario with its auction's own status: 0, 1, 6
+/// or 7, as those of `run`. Nothing is stored before all auctions are done.
 pub fn batch<F: Folder, K: Sink, G: Gate + Sync, W: Threads + Wait + Sync>(
     rt: &W,
     alloc: Global,

@@ -1,5 +1,6 @@
 //! The auctions of a batch, as many at a time as there are processors. Their solvers share a cache of answers, which says nothing
-//! but what is valid for the query and the worker that ask; so it decides how long an auction takes, and never its result.
+//! but what is valid for the query and the worker that ask. So it decides how long an auction takes, and which of its tests are
+//! left open: one on which a worker's budget would be spent may be answered. Where none is left open it decides no result.
 //!
 //! Auctions that go on side by side come to the same hard query at the same time, and each answers it for itself; those that begin
 //! later find it answered. So more of them at a time would spend more, and end no sooner.
