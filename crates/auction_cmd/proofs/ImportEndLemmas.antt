@@ -111,10 +111,10 @@ no-log names before after status found inputs rec NoLoad s is h e none files = I
 pub no-log-counted : (name : List ℕ) (before after : Outside) (status : ℕ) (why : LoadErr) → ExplainsLoad name why before.held after.held before.cuts after.cuts status → (why ≢ Failed → after.faults ≡ before.faults) → AreFaultsCounted before after status
 no-log-counted name before after status Failed e stands = record {
   folder = λ h. absurd (true≢false (sym (one-of (3 ∷ 4 ∷ []) status 3 e.0 refl) ∙ h));
-  sink = λ h. absurd (off (0 ∷ 1 ∷ []) status 3 h e.0 refl);
+  sink = λ h. absurd (off (0 ∷ 1 ∷ 11 ∷ []) status 3 h e.0 refl);
 }
-no-log-counted name before after status TooLong e stands = record { folder = λ h. stands (λ x. cc); sink = λ h. absurd (off (0 ∷ 1 ∷ []) status 5 h e.0 refl) }
-no-log-counted name before after status NoLoad e stands = record { folder = λ h. stands (λ x. cc); sink = λ h. absurd (off (0 ∷ 1 ∷ []) status 8 h e.0 refl) }
+no-log-counted name before after status TooLong e stands = record { folder = λ h. stands (λ x. cc); sink = λ h. absurd (off (0 ∷ 1 ∷ 11 ∷ []) status 5 h e.0 refl) }
+no-log-counted name before after status NoLoad e stands = record { folder = λ h. stands (λ x. cc); sink = λ h. absurd (off (0 ∷ 1 ∷ 11 ∷ []) status 8 h e.0 refl) }
 
 -- the log settled nothing
 pub not-settled : (names : ImportNames) (before after : Outside) (status : ℕ) (found : Option Record) (inputs : Inputs) (rec : Record) (log : List ℕ) (why : SettleErr) → IsShown names.shown before inputs rec → open_fault (step_at rec.steps names.step) ≡ None
