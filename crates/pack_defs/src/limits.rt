@@ -1,0 +1,37 @@
+//! The limits of an auction's files. Definitions cite these constants, and so do the readers that refuse what is above them.
+
+/// The most stations of a scenario, and so of a book. A scenario with more is refused.
+pub const MOST_STATIONS: u64 = 8_192;
+
+/// The most rounds in which the price falls. A list of more decrements is refused; a fall by rate ends with this round.
+pub const MOST_ROUNDS: u64 = 1_000;
+
+/// The greatest decrement, in cents per unit of volume. A scenario with a greater one is refused.
+pub const MOST_DECREMENT: u64 = 1_000_000;
+
+/// The greatest rate and the greatest floor of a fall by rate, in thousandths. A scenario with a greater one is refused.
+pub const MOST_THOUSANDTHS: u64 = 1_000;
+
+/// The greatest opening price, in cents per unit of volume. A scenario with a greater one is refused.
+pub const MOST_OPENING: u64 = 1_000_000;
+
+/// The greatest volume of a station, in units. A scenario with a greater one is refused.
+pub const MOST_VOLUME: u64 = 1_000_000;
+
+/// The greatest value of a station, in cents. A scenario with a greater one is refused.
+pub const MOST_VALUE: u64 = 1_000_000_000_000_000;
+
+/// The most workers of a scenario. A scenario with more is refused.
+pub const MOST_WORKERS: u64 = 16;
+
+/// The greatest budget of a worker of kind "cdcl", in proof lines for a query. A scenario with a greater one is refused.
+pub const MOST_PROOF_LINES: u64 = 100_000;
+
+/// The greatest budget of a worker of kind "walk", in moves for a query. A scenario with a greater one is refused.
+pub const MOST_MOVES: u64 = 1_000_000;
+
+/// The most pairs that interfere, of one file. A file that tells of more is refused.
+pub const MOST_PAIRS: usize = 4_000_000;
+
+/// The most rows of a file of domains. A file with more is refused.
+pub const MOST_DOMAIN_ROWS: usize = 65_536;
