@@ -132,8 +132,8 @@ impl Auction {
         ensures history { IfOk result (λ auction. auction.history ≡ []) }
         ensures why { IfErr result (λ e. Explains e (not_kept sc.now book.now prefix)) }
     {
-        // With its length a book says that it is in order, which the laws ask of it.
-        let _ = book.len();
+        // For its clause alone: that the book is in order, which the laws ask.
+        book.keeps_order();
         let clockwork = follow_kept(alloc, book, sc, prefix)?;
         Ok(Auction::of(alloc, clockwork)?)
     }

@@ -25,9 +25,9 @@ returns-clause-record_is c = is-settled c
 pub returns-clause-backed : goal.returns-clause-backed
 returns-clause-backed c =
     subst (IsBacked c.args.rec.scenario c.args.book.now c.args.rec.order) (sym (is-settled c))
-    (settled-backed c.args.rec.scenario c.args.book.now c.args.rec c.args.step c.args.proof (auction-of _ _ c.requires.limits c.len.ensures.in_order) c.requires.backed c.requires.undecided c.requires.refutes)
+    (settled-backed c.args.rec.scenario c.args.book.now c.args.rec c.args.step c.args.proof (auction-of _ _ c.requires.limits c.keeps_order.ensures) c.requires.backed c.requires.undecided c.requires.refutes)
 
 pub returns-clause-left : goal.returns-clause-left
 returns-clause-left c =
     subst (λ (r : Record). MatchOption (step_at c.args.rec.steps c.args.step) ⊤ (λ x. undecided_of r.steps ≡ without_test (test_of x) (undecided_of c.args.rec.steps))) (sym (is-settled c))
-    (settled-left c.args.rec.scenario c.args.book.now c.args.rec c.args.step c.args.proof (auction-of _ _ c.requires.limits c.len.ensures.in_order) c.requires.backed c.requires.undecided)
+    (settled-left c.args.rec.scenario c.args.book.now c.args.rec c.args.step c.args.proof (auction-of _ _ c.requires.limits c.keeps_order.ensures) c.requires.backed c.requires.undecided)

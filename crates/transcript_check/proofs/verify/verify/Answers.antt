@@ -7,7 +7,7 @@ use Rattle.transcript_check.proofs.SoundLemmas.{shown-sound}
 use Rattle.transcript_check.proofs.verify.verify.Goals as goal
 
 pub returns-clause-sound : goal.returns-clause-sound
-returns-clause-sound c = shown-sound c.args.sc.now c.args.book.now c.args.transcript (is-auction c.args.sc.now c.args.book.now c.requires c.len.ensures.in_order) c.in_ok-clockwork.ensures.all.none
+returns-clause-sound c = shown-sound c.args.sc.now c.args.book.now c.args.transcript (is-auction c.args.sc.now c.args.book.now c.requires c.keeps_order.ensures) c.in_ok-clockwork.ensures.all.none
 
 pub returns-clause-shown : goal.returns-clause-shown
 returns-clause-shown c = c.in_ok-clockwork.ensures.all.none
@@ -21,4 +21,4 @@ returns-clause-same c =
     let rec = c.in_ok-record.record in
     let is : rec ≡ record_of sc state = subst (λ s. rec ≡ record_of s state) c.in_ok-scenario.ensures c.in_ok-record.ensures.record_is in
     let backed : IsBacked sc book state.order rec = subst (λ b. IsBacked sc b state.order rec) f.book (subst (λ s. IsBacked s c.in_ok-clockwork.clockwork.book state.order rec) c.in_ok-scenario.ensures c.in_ok-record.ensures.backed) in
-    record-same sc book c.args.transcript rec state (is-auction sc book c.requires c.len.ensures.in_order) is backed f.all
+    record-same sc book c.args.transcript rec state (is-auction sc book c.requires c.keeps_order.ensures) is backed f.all
