@@ -32,7 +32,7 @@ impl Board {
         ensures back { IfErr result (λ e. e.1 ≡ auction) }
     {
         // For its clause alone: that the order is the one in which it was opened.
-        let _ = auction.posted();
+        auction.keeps_the_rule();
         let Ok(book) = auction.shared_book() else {
             return Err((NoMemory, auction));
         };
@@ -73,7 +73,7 @@ impl Board {
     {
         let turn = self.lock.enter(rt, pass);
         // For its clause alone: what the history replays to.
-        let _ = turn.value.auction.posted();
+        turn.value.auction.keeps_the_rule();
         let looked = what_stands(alloc, &turn.value.auction);
         self.lock.leave(pass, turn);
         looked
@@ -93,7 +93,7 @@ impl Board {
     {
         let turn = self.lock.enter(rt, pass);
         // For its clause alone: what the history replays to.
-        let _ = turn.value.auction.posted();
+        turn.value.auction.keeps_the_rule();
         let number = turn.value.auction.number();
         self.lock.leave(pass, turn);
         number
@@ -119,7 +119,7 @@ impl Board {
         drop(workers);
         let Kept { auction } = lock.close(passes);
         // For its clause alone: that the order is the one in which it was opened.
-        let _ = auction.posted();
+        auction.keeps_the_rule();
         auction
     }
 }

@@ -178,10 +178,10 @@ impl Board {
         let worker = pass.number();
         let mut turn = self.lock.enter(rt, pass);
         // For its clause alone: what the history replays to.
-        let _ = turn.value.auction.posted();
+        turn.value.auction.keeps_the_rule();
         match meets(alloc, &mut turn.value.auction, worker, number) {
             Ok(Met::Told(reply)) => {
-                let _ = turn.value.auction.posted();
+                turn.value.auction.keeps_the_rule();
                 self.lock.commit(pass, &mut turn);
                 self.lock.leave(pass, turn);
                 Ok(Met::Told(reply))
@@ -223,10 +223,10 @@ impl Board {
         let worker = pass.number();
         let mut turn = self.lock.enter(rt, pass);
         // For its clause alone: what the history replays to.
-        let _ = turn.value.auction.posted();
+        turn.value.auction.keeps_the_rule();
         match tells(&mut turn.value.auction, worker, number, said) {
             Ok(reply) => {
-                let _ = turn.value.auction.posted();
+                turn.value.auction.keeps_the_rule();
                 self.lock.commit(pass, &mut turn);
                 self.lock.leave(pass, turn);
                 Ok(reply)

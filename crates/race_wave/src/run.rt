@@ -110,8 +110,8 @@ fn raced<R: Racer + Send + Drop, G: Gate + Sync, W: Threads + Wait + Sync>(
     ensures nears_end { IfOk result (λ r. NearsEnd auction.scenario auction.state r.0.state) }
     ensures racers { IfOk result (λ r. map R.worker r.1.items ≡ map R.worker racers.items) }
 {
-    // With its count of postings an auction says what its history replays to.
-    let _ = auction.posted();
+    // For its clauses alone: what the history replays to.
+    auction.keeps_the_rule();
     let count = count_of(&auction);
     let room = room_for(alloc, count)?;
     let Ok((board, passes)) = Board::raise(alloc, auction, count) else {
@@ -123,7 +123,7 @@ fn raced<R: Racer + Send + Drop, G: Gate + Sync, W: Threads + Wait + Sync>(
         racers,
     } = waved(rt, alloc, &board, book, passes, racers, room, gate);
     let auction = board.close(passes);
-    let _ = auction.posted();
+    auction.keeps_the_rule();
     done?;
     Ok((auction, racers))
 }
@@ -146,13 +146,13 @@ fn finish_with<R: Racer + Send + Drop, G: Gate + Sync, W: Threads + Wait + Sync>
     ensures backed { IfOk result (IsBacked scenario book.now auction.state.order) }
     ensures goes_on { IfOk result (GoesOnIn auction.state) }
 {
-    // With its count of postings an auction says what its history replays to.
-    let _ = auction.posted();
+    // For its clauses alone: what the history replays to.
+    auction.keeps_the_rule();
     'waves: while !auction.ended() {
         (auction, racers) = raced(rt, alloc, book, auction, racers, gate)?;
         serial_turn(alloc, &mut auction, &mut racers)?;
     }
-    let _ = auction.posted();
+    auction.keeps_the_rule();
     let record = auction.into_result(alloc, scenario)?;
     Ok(record)
 }

@@ -44,7 +44,7 @@ pub returns-clause-backed : goal.returns-clause-backed
 returns-clause-backed g c =
     let old = c.args.auction in
     let new = c.waves.auction in
-    let goes = later-goes old new c.waves.invariant.beginning c.waves.invariant.history c.posted.ensures.replays c.posted-2.ensures.replays in
+    let goes = later-goes old new c.waves.invariant.beginning c.waves.invariant.history c.keeps_the_rule.ensures.replays c.keeps_the_rule-2.ensures.replays in
     subst (λ o. IsBacked c.args.scenario c.args.book.now o c.in_ok-record.record) goes.order
     (subst (λ b. IsBacked c.args.scenario b new.state.order c.in_ok-record.record) (ap (λ (b : ClockworkView). b.book) c.waves.invariant.beginning ∙ sym c.requires.book) c.in_ok-record.ensures.backed)
 
@@ -52,5 +52,5 @@ pub returns-clause-goes_on : goal.returns-clause-goes_on
 returns-clause-goes_on g c =
     let old = c.args.auction in
     let new = c.waves.auction in
-    let goes = later-goes old new c.waves.invariant.beginning c.waves.invariant.history c.posted.ensures.replays c.posted-2.ensures.replays in
+    let goes = later-goes old new c.waves.invariant.beginning c.waves.invariant.history c.keeps_the_rule.ensures.replays c.keeps_the_rule-2.ensures.replays in
     goes-in c.args.scenario old.state new.state c.in_ok-record.record goes c.in_ok-record.ensures.record_is

@@ -24,4 +24,4 @@ returns-clause-history g c =
 
 pub returns-clause-nears_end : goal.returns-clause-nears_end
 returns-clause-nears_end g c =
-    later-nears c.args.auction c.close-auction.result (returns-clause-beginning g c) (returns-clause-history g c) c.posted.ensures.replays c.posted-2.ensures.replays
+    later-nears c.args.auction c.close-auction.result (returns-clause-beginning g c) (returns-clause-history g c) c.keeps_the_rule.ensures.replays c.keeps_the_rule-2.ensures.replays

@@ -11,6 +11,6 @@ returns-clause-look g c =
     let value = c.enter-turn.result.value.auction in
     IfOk-weaker c.what_stands-looked.result _ _ (λ look h. record {
       state = value.state;
-      replays = seen-replays (raised c.args.self.now) value _ c.enter-turn.ensures.base (c.enter-turn.ensures.value ∙ sym (ap (λ k. k.seen) c.leave.ensures.known)) c.posted.ensures.replays;
+      replays = seen-replays (raised c.args.self.now) value _ c.enter-turn.ensures.base (c.enter-turn.ensures.value ∙ sym (ap (λ k. k.seen) c.leave.ensures.known)) c.keeps_the_rule.ensures.replays;
       holds = subst (λ (s : ClockworkView). LookIs s.scenario s.book value.state look) c.enter-turn.ensures.base h;
     }) c.what_stands-looked.ensures

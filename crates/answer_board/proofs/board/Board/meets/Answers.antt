@@ -62,7 +62,7 @@ returns-in-Ok-Told-clause-met g c answer =
     let whole = ap numbered taken.history ∙ (numbered-more value.history e ∙ ap (λ l. l ++ (c.number-worker.result, e) ∷ []) c.enter-turn.ensures.value) in
     subst (λ w. IsPosted (raised c.args.self.now) (record { worker = w; number = c.args.number; answer = answer }) (known_of c.args.pass.now) (known_of c.leave.new.pass) c.in-Ok-Told.reply) c.number-worker.ensures
     (posted (raised c.args.self.now) value c.meets.new.auction posting c.in-Ok-Told.reply (known_of c.args.pass.now) (known_of c.enter-turn.new.pass) (known_of c.leave.new.pass)
-    c.enter-turn.ensures.base c.enter-turn.ensures.value c.posted.ensures.replays c.posted-in-Ok-Told.ensures.replays
+    c.enter-turn.ensures.base c.enter-turn.ensures.value c.keeps_the_rule.ensures.replays c.keeps_the_rule-in-Ok-Told.ensures.replays
     taken c.enter-turn.ensures.seen c.enter-turn.ensures.mine
     (ap (λ k. k.seen) c.leave.ensures.known ∙ c.commit.ensures.seen)
     (ap (λ k. k.mine) c.leave.ensures.known ∙ c.commit.ensures.mine (c.number-worker.result, e) whole))
@@ -81,7 +81,7 @@ returns-in-Ok-Asked-clause-met g c =
         before = seen_of c.leave-in-Ok-Asked.new.pass;
         begins = starts-itself (seen_of c.leave-in-Ok-Asked.new.pass);
         state = value.state;
-        replays = seen-replays made value _ base (c.enter-turn.ensures.value ∙ sym (ap (λ k. k.seen) left)) c.posted.ensures.replays;
+        replays = seen-replays made value _ base (c.enter-turn.ensures.value ∙ sym (ap (λ k. k.seen) left)) c.keeps_the_rule.ensures.replays;
         stands = subst (λ (s : ClockworkView). task_of s.scenario s.book value.state ≡ Some c.in-Ok-Asked.task) base asked.stands;
       };
       query = subst (λ (s : ClockworkView). IsQuery s.book c.in-Ok-Asked.task) base asked.query;

@@ -15,7 +15,7 @@ tells-requires g c =
     let value = c.enter-turn.result.value.auction in
     let said : Posting = record { worker = c.number-worker.result; number = c.args.number; said = c.args.said } in
     let on = subst (λ w. StandsOn (raised c.args.self.now) (seen_of c.args.pass.now) (record { worker = w; number = c.args.number; said = c.args.said }) c.args.answer.now.value) (sym c.number-worker.ensures) c.requires.stands in
-    let stands : StandsFor value.scenario value.book value.state said c.args.answer.now.value = stands-here (raised c.args.self.now) value (seen_of c.args.pass.now) (seen_of c.enter-turn.new.pass) said c.args.answer.now.value on c.enter-turn.ensures.base c.enter-turn.ensures.value c.posted.ensures.replays c.enter-turn.ensures.seen in
+    let stands : StandsFor value.scenario value.book value.state said c.args.answer.now.value = stands-here (raised c.args.self.now) value (seen_of c.args.pass.now) (seen_of c.enter-turn.new.pass) said c.args.answer.now.value on c.enter-turn.ensures.base c.enter-turn.ensures.value c.keeps_the_rule.ensures.replays c.enter-turn.ensures.seen in
     record { said = stands-may value.scenario value.book value.state said c.args.answer.now.value stands }
 
 pub commit-requires-clause-entry : goal.commit-requires-clause-entry
@@ -23,7 +23,7 @@ commit-requires-clause-entry g c =
     let value = c.enter-turn.result.value.auction in
     let said : Posting = record { worker = c.number-worker.result; number = c.args.number; said = c.args.said } in
     let on = subst (λ w. StandsOn (raised c.args.self.now) (seen_of c.args.pass.now) (record { worker = w; number = c.args.number; said = c.args.said }) c.args.answer.now.value) (sym c.number-worker.ensures) c.requires.stands in
-    let stands : StandsFor value.scenario value.book value.state said c.args.answer.now.value = stands-here (raised c.args.self.now) value (seen_of c.args.pass.now) (seen_of c.enter-turn.new.pass) said c.args.answer.now.value on c.enter-turn.ensures.base c.enter-turn.ensures.value c.posted.ensures.replays c.enter-turn.ensures.seen in
+    let stands : StandsFor value.scenario value.book value.state said c.args.answer.now.value = stands-here (raised c.args.self.now) value (seen_of c.args.pass.now) (seen_of c.enter-turn.new.pass) said c.args.answer.now.value on c.enter-turn.ensures.base c.enter-turn.ensures.value c.keeps_the_rule.ensures.replays c.enter-turn.ensures.seen in
     let posting : PostingView = record { worker = c.number-worker.result; number = c.args.number; answer = c.args.answer.now.value } in
     let e : EntryView = entry_of posting c.in-Ok.reply in
     let taken : IsTaken value c.tells.new.auction posting c.in-Ok.reply = c.in-Ok.ensures.taken c.args.answer.now.value stands in
@@ -35,7 +35,7 @@ commit-requires-clause-base g c =
     let value = c.enter-turn.result.value.auction in
     let said : Posting = record { worker = c.number-worker.result; number = c.args.number; said = c.args.said } in
     let on = subst (λ w. StandsOn (raised c.args.self.now) (seen_of c.args.pass.now) (record { worker = w; number = c.args.number; said = c.args.said }) c.args.answer.now.value) (sym c.number-worker.ensures) c.requires.stands in
-    let stands : StandsFor value.scenario value.book value.state said c.args.answer.now.value = stands-here (raised c.args.self.now) value (seen_of c.args.pass.now) (seen_of c.enter-turn.new.pass) said c.args.answer.now.value on c.enter-turn.ensures.base c.enter-turn.ensures.value c.posted.ensures.replays c.enter-turn.ensures.seen in
+    let stands : StandsFor value.scenario value.book value.state said c.args.answer.now.value = stands-here (raised c.args.self.now) value (seen_of c.args.pass.now) (seen_of c.enter-turn.new.pass) said c.args.answer.now.value on c.enter-turn.ensures.base c.enter-turn.ensures.value c.keeps_the_rule.ensures.replays c.enter-turn.ensures.seen in
     let posting : PostingView = record { worker = c.number-worker.result; number = c.args.number; answer = c.args.answer.now.value } in
     let taken : IsTaken value c.tells.new.auction posting c.in-Ok.reply = c.in-Ok.ensures.taken c.args.answer.now.value stands in
     taken.beginning ∙ c.enter-turn.ensures.base
@@ -45,7 +45,7 @@ leave-requires-clause-base g c =
     let value = c.enter-turn.result.value.auction in
     let said : Posting = record { worker = c.number-worker.result; number = c.args.number; said = c.args.said } in
     let on = subst (λ w. StandsOn (raised c.args.self.now) (seen_of c.args.pass.now) (record { worker = w; number = c.args.number; said = c.args.said }) c.args.answer.now.value) (sym c.number-worker.ensures) c.requires.stands in
-    let stands : StandsFor value.scenario value.book value.state said c.args.answer.now.value = stands-here (raised c.args.self.now) value (seen_of c.args.pass.now) (seen_of c.enter-turn.new.pass) said c.args.answer.now.value on c.enter-turn.ensures.base c.enter-turn.ensures.value c.posted.ensures.replays c.enter-turn.ensures.seen in
+    let stands : StandsFor value.scenario value.book value.state said c.args.answer.now.value = stands-here (raised c.args.self.now) value (seen_of c.args.pass.now) (seen_of c.enter-turn.new.pass) said c.args.answer.now.value on c.enter-turn.ensures.base c.enter-turn.ensures.value c.keeps_the_rule.ensures.replays c.enter-turn.ensures.seen in
     let posting : PostingView = record { worker = c.number-worker.result; number = c.args.number; answer = c.args.answer.now.value } in
     let taken : IsTaken value c.tells.new.auction posting c.in-Ok.reply = c.in-Ok.ensures.taken c.args.answer.now.value stands in
     ap (λ t. beginning_of t.value.auction) c.commit.ensures.value ∙ (taken.beginning ∙ c.enter-turn.ensures.base)
@@ -55,7 +55,7 @@ returns-in-Ok-clause-seen g c =
     let value = c.enter-turn.result.value.auction in
     let said : Posting = record { worker = c.number-worker.result; number = c.args.number; said = c.args.said } in
     let on = subst (λ w. StandsOn (raised c.args.self.now) (seen_of c.args.pass.now) (record { worker = w; number = c.args.number; said = c.args.said }) c.args.answer.now.value) (sym c.number-worker.ensures) c.requires.stands in
-    let stands : StandsFor value.scenario value.book value.state said c.args.answer.now.value = stands-here (raised c.args.self.now) value (seen_of c.args.pass.now) (seen_of c.enter-turn.new.pass) said c.args.answer.now.value on c.enter-turn.ensures.base c.enter-turn.ensures.value c.posted.ensures.replays c.enter-turn.ensures.seen in
+    let stands : StandsFor value.scenario value.book value.state said c.args.answer.now.value = stands-here (raised c.args.self.now) value (seen_of c.args.pass.now) (seen_of c.enter-turn.new.pass) said c.args.answer.now.value on c.enter-turn.ensures.base c.enter-turn.ensures.value c.keeps_the_rule.ensures.replays c.enter-turn.ensures.seen in
     let posting : PostingView = record { worker = c.number-worker.result; number = c.args.number; answer = c.args.answer.now.value } in
     let e : EntryView = entry_of posting c.in-Ok.reply in
     let taken : IsTaken value c.tells.new.auction posting c.in-Ok.reply = c.in-Ok.ensures.taken c.args.answer.now.value stands in
@@ -69,14 +69,14 @@ returns-in-Ok-clause-posted g c =
     let value = c.enter-turn.result.value.auction in
     let said : Posting = record { worker = c.number-worker.result; number = c.args.number; said = c.args.said } in
     let on = subst (λ w. StandsOn (raised c.args.self.now) (seen_of c.args.pass.now) (record { worker = w; number = c.args.number; said = c.args.said }) c.args.answer.now.value) (sym c.number-worker.ensures) c.requires.stands in
-    let stands : StandsFor value.scenario value.book value.state said c.args.answer.now.value = stands-here (raised c.args.self.now) value (seen_of c.args.pass.now) (seen_of c.enter-turn.new.pass) said c.args.answer.now.value on c.enter-turn.ensures.base c.enter-turn.ensures.value c.posted.ensures.replays c.enter-turn.ensures.seen in
+    let stands : StandsFor value.scenario value.book value.state said c.args.answer.now.value = stands-here (raised c.args.self.now) value (seen_of c.args.pass.now) (seen_of c.enter-turn.new.pass) said c.args.answer.now.value on c.enter-turn.ensures.base c.enter-turn.ensures.value c.keeps_the_rule.ensures.replays c.enter-turn.ensures.seen in
     let posting : PostingView = record { worker = c.number-worker.result; number = c.args.number; answer = c.args.answer.now.value } in
     let e : EntryView = entry_of posting c.in-Ok.reply in
     let taken : IsTaken value c.tells.new.auction posting c.in-Ok.reply = c.in-Ok.ensures.taken c.args.answer.now.value stands in
     let whole = ap numbered taken.history ∙ (numbered-more value.history e ∙ ap (λ l. l ++ (c.number-worker.result, e) ∷ []) c.enter-turn.ensures.value) in
     subst (λ w. IsPosted (raised c.args.self.now) (record { worker = w; number = c.args.number; answer = c.args.answer.now.value }) (known_of c.args.pass.now) (known_of c.leave.new.pass) c.in-Ok.reply) c.number-worker.ensures
     (posted (raised c.args.self.now) value c.tells.new.auction posting c.in-Ok.reply (known_of c.args.pass.now) (known_of c.enter-turn.new.pass) (known_of c.leave.new.pass)
-    c.enter-turn.ensures.base c.enter-turn.ensures.value c.posted.ensures.replays c.posted-in-Ok.ensures.replays
+    c.enter-turn.ensures.base c.enter-turn.ensures.value c.keeps_the_rule.ensures.replays c.keeps_the_rule-in-Ok.ensures.replays
     taken c.enter-turn.ensures.seen c.enter-turn.ensures.mine
     (ap (λ k. k.seen) c.leave.ensures.known ∙ c.commit.ensures.seen)
     (ap (λ k. k.mine) c.leave.ensures.known ∙ c.commit.ensures.mine (c.number-worker.result, e) whole))

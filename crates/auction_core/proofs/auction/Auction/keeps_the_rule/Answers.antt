@@ -5,7 +5,7 @@ use Rattle.auction_core.specs.Postings.{GoesOn}
 use Rattle.auction_core.specs.Rule.{KeepsTheRule}
 use Rattle.auction_core.proofs.AuctionLemmas.{replayed-rule}
 use Rattle.auction_core.proofs.GoesOn.{replay-goes}
-use Rattle.auction_core.proofs.auction.Auction.posted.Goals as goal
+use Rattle.auction_core.proofs.auction.Auction.keeps_the_rule.Goals as goal
 
 pub returns-clause-rule : goal.returns-clause-rule
 returns-clause-rule c =
