@@ -9,6 +9,7 @@ use Rattle.std.proofs.lemmas.List.Elements.{All-more, All-push, All-weaker, All-
 use Rattle.clause_db.specs.declared.lit.Lit.{Lit}
 use Rattle.clause_db.specs.Clause.{opposite, has_lit, same_lit, clause_at}
 use Rattle.clause_db.specs.Clauses.{LitWithin}
+use Rattle.clause_db.proofs.Literals.{same_lit-is}
 use Rattle.trail_prop.specs.declared.entry.Entry.{Entry}
 use Rattle.trail_prop.specs.declared.turn.Moved.{Moved}
 use Rattle.trail_prop.specs.declared.turn.Places.{Places}
@@ -21,7 +22,7 @@ use Rattle.trail_prop.specs.Trails.{TrailView, Grows}
 use Rattle.trail_prop.specs.Turn.{IsMove}
 use Rattle.trail_prop.specs.Watching.{lit_at, clause_of, watches_at, IsSafe, StandsAt, HasTrue, IsFixed, watches_of, IsWatched, WatchView}
 use Rattle.trail_prop.proofs.Counting.{count-push, count-pushed}
-use Rattle.trail_prop.proofs.Known.{code-is, same_lit-is}
+use Rattle.trail_prop.proofs.Known.{code-is}
 use Rattle.trail_prop.proofs.Minding.{relisted-same, relisted-other, relisted-more}
 use Rattle.trail_prop.proofs.Trailing.{grows-level}
 use Rattle.trail_prop.proofs.Places.{known-entry, entry-known, entry-left}
