@@ -8,12 +8,13 @@ use Rattle.clause_db.specs.declared.lit.Lit.{Lit}
 use Rattle.clause_db.specs.Clause.{opposite, same_lit, has_lit, clause_at}
 use Rattle.clause_db.specs.Clauses.{Clauses}
 use Rattle.clause_db.specs.Forced.{is_false_clause, not_false, only_open, forced_by}
+use Rattle.clause_db.proofs.Literals.{same_lit-is, lit-parts, has-push_new}
 use Rattle.rup_check.specs.declared.error.LineErr.{LineErr}
 use Rattle.rup_check.specs.Follows.{line_fault, hints_fault, end_fault, with_forced, after_hint, fault_or, has_bad_lits, has_repeat}
 use Rattle.trail_prop.specs.declared.entry.Entry.{Entry}
 use Rattle.trail_prop.specs.Entries.{lits_of}
 use Rattle.trail_prop.specs.Trails.{EachFits, IsTrail, HasReason, forced_at, IsFalseAt}
-use Rattle.trail_prop.proofs.Known.{same_lit-is, lit-parts, open-apart, has-push_new}
+use Rattle.trail_prop.proofs.Known.{open-apart}
 use Rattle.trail_prop.proofs.Forcing.{only_open-is, kept-here}
 use Rattle.trail_prop.proofs.Opening.{lits-push}
 use Rattle.cdcl_prove.specs.Analysis.{entries_of, reason_of, line_of, hints_of, IsMetAt, IsReasonMet, AreClosed}

@@ -7,11 +7,12 @@ use Rattle.clause_db.specs.declared.lit.Lit.{Lit}
 use Rattle.clause_db.specs.Clause.{opposite, has_lit, clause_at}
 use Rattle.clause_db.specs.Clauses.{Clauses, LitWithin}
 use Rattle.clause_db.specs.Forced.{is_false_clause, not_false, forced_by}
+use Rattle.clause_db.proofs.Literals.{has-push_new}
 use Rattle.trail_prop.specs.declared.entry.Entry.{Entry}
 use Rattle.trail_prop.specs.Open.{LitsWithin}
 use Rattle.trail_prop.specs.Entries.{lits_of, EachOpens}
 use Rattle.trail_prop.specs.Trails.{EntryFits, EachFits, IsTrail, HasReason, forced_at, IsFalseAt}
-use Rattle.trail_prop.proofs.Known.{open-apart, has-push_new}
+use Rattle.trail_prop.proofs.Known.{open-apart}
 use Rattle.trail_prop.proofs.Forcing.{only_open-is}
 use Rattle.trail_prop.proofs.Opening.{lits-push, known-within}
 use Rattle.trail_prop.proofs.Trailing.{fits-opens}

@@ -4,10 +4,11 @@ use Rattle.std.proofs.lemmas.Bool.{cond-false, or_left, or_right}
 use Rattle.clause_db.specs.declared.lit.Lit.{Lit}
 use Rattle.clause_db.specs.Clause.{opposite, has_lit, same_lit}
 use Rattle.clause_db.specs.Forced.{not_false, only_open}
+use Rattle.clause_db.proofs.Literals.{same_lit-refl}
 use Rattle.trail_prop.specs.Find.{FindIs}
 use Rattle.trail_prop.specs.Turn.{LeavesOnly}
 use Rattle.trail_prop.specs.Watching.{lit_at}
-use Rattle.trail_prop.proofs.Known.{open-parts, same_lit-refl}
+use Rattle.trail_prop.proofs.Known.{open-parts}
 use Rattle.trail_prop.proofs.Forcing.{false-from-none, kept-here}
 
 dropped : (known xs : List Lit) (x : Lit) → has_lit known (opposite x) ≡ true → not_false known (x ∷ xs) ≡ not_false known xs

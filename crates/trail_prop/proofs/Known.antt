@@ -1,37 +1,14 @@
--- Literals: when two are one, and what one more known literal changes.
-use Rattle.std.proofs.Common.{◌≡◌, ◌≢◌, ℕ, ◌+◌, ◌-◌, ◌*◌, ◌<◌, ◌≤◌, Bool, true, false, not, ◌||◌, ◌==◌, if◌then◌else◌, List, [], ◌∷◌, ◌++◌, length, refl, sym, ap, ◌∙◌, subst, inl, inr, ◌⊎◌, eqb-true, eq-eqb, arith, get_or}
+-- Literals: their marks, and what an open variable says of them.
+use Rattle.std.proofs.Common.{◌≡◌, ◌≢◌, ℕ, ◌+◌, ◌-◌, ◌*◌, ◌<◌, ◌≤◌, Bool, true, false, not, if◌then◌else◌, List, [], ◌∷◌, ◌++◌, length, refl, sym, ap, ◌∙◌, subst, inl, inr, ◌⊎◌, arith, get_or}
 use Rattle.std.specs.Prelude.{slice_set}
-use Rattle.std.proofs.lemmas.Bool.{and_parts, and_from, or_right, false_from_ne_true, false≢true}
+use Rattle.std.proofs.lemmas.Bool.{and_parts, false≢true}
 use Rattle.std.proofs.lemmas.List.{get_or-set_same, get_or-set_other}
 use Rattle.clause_db.specs.declared.lit.Lit.{Lit}
-use Rattle.clause_db.specs.Clause.{opposite, same_lit, has_lit}
+use Rattle.clause_db.specs.Clause.{opposite, has_lit}
 use Rattle.clause_db.specs.Clauses.{LitWithin}
+use Rattle.clause_db.proofs.Literals.{lit-parts, lit_cases, has-push_new, has-push_other}
 use Rattle.trail_prop.specs.Open.{is_open}
 use Rattle.trail_prop.specs.Entries.{code_of, MarksSay}
-
-same_sign : (a b : Bool) → (if a then b else not b) ≡ true → a ≡ b
-same_sign true true e = refl
-same_sign true false e = cc
-same_sign false true e = cc
-same_sign false false e = refl
-
-sign_refl : (a : Bool) → (if a then a else not a) ≡ true
-sign_refl true = refl
-sign_refl false = refl
-
-pub lit-parts : (l m : Lit) → l.var ≡ m.var → l.positive ≡ m.positive → l ≡ m
-lit-parts l m e f = λ i. record { var = e i; positive = f i }
-
-pub same_lit-is : (l m : Lit) → same_lit l m ≡ true → l ≡ m
-same_lit-is l m s =
-    let parts = and_parts (l.var == m.var) (if l.positive then m.positive else not m.positive) s in
-    lit-parts l m (eqb-true l.var m.var parts.0) (same_sign l.positive m.positive parts.1)
-
-pub same_lit-refl : (l : Lit) → same_lit l l ≡ true
-same_lit-refl l = and_from (l.var == l.var) (if l.positive then l.positive else not l.positive) (eq-eqb l.var l.var refl) (sign_refl l.positive)
-
-pub same_lit-apart : (l m : Lit) → l ≢ m → same_lit l m ≡ false
-same_lit-apart l m n = false_from_ne_true (same_lit l m) (λ s. n (same_lit-is l m s))
 
 codes : (v w : ℕ) (a b : Bool) → 1 ≤ v → 1 ≤ w → (if a then 2 * (v - 1) else 2 * (v - 1) + 1) ≡ (if b then 2 * (w - 1) else 2 * (w - 1) + 1) → (v ≡ w) × (a ≡ b)
 codes v w true true p q e = (omega arith, refl)
@@ -48,35 +25,6 @@ code_below v vars false p q = omega arith
 
 pub code-below : (vars : ℕ) (l : Lit) → LitWithin vars l → code_of l < 2 * vars
 code-below vars l p = code_below l.var vars l.positive p.0 p.1
-
-pub has-push : (known : List Lit) (x l : Lit) → has_lit (known ++ x ∷ []) l ≡ (has_lit known l || same_lit l x)
-has-push [] x l = or-with-false (same_lit l x)
-  where
-    or-with-false : (b : Bool) → (b || false) ≡ b
-    or-with-false true = refl
-    or-with-false false = refl
-has-push (k ∷ ks) x l = or-step (same_lit l k) (has_lit (ks ++ x ∷ []) l) (has_lit ks l) (same_lit l x) (has-push ks x l)
-  where
-    or-step : (a b c d : Bool) → b ≡ (c || d) → (a || b) ≡ ((a || c) || d)
-    or-step true b c d e = refl
-    or-step false b c d e = e
-
-pub has-push_new : (known : List Lit) (x : Lit) → has_lit (known ++ x ∷ []) x ≡ true
-has-push_new known x = has-push known x x ∙ or_right (has_lit known x) (same_lit x x) (same_lit-refl x)
-
-pub has-push_other : (known : List Lit) (x l : Lit) → l ≢ x → has_lit (known ++ x ∷ []) l ≡ has_lit known l
-has-push_other known x l n = has-push known x l ∙ rw (same_lit-apart l x n) (or-false (has_lit known l))
-  where
-    or-false : (b : Bool) → (b || false) ≡ b
-    or-false true = refl
-    or-false false = refl
-
-lit_cases : (l x : Lit) (P : Type 0) → (l ≡ x → P) → (l ≢ x → P) → P
-lit_cases l x P same other =
-    (elim (same_lit l x) as (λ b. same_lit l x ≡ b → P) [
-      | true ↦ λ s. same (same_lit-is l x s)
-      | false ↦ λ s. other (λ e. false≢true (sym s ∙ (ap (λ (y : Lit). same_lit y x) e ∙ same_lit-refl x)))
-    ]) refl
 
 pub marks-push : (vars : ℕ) (marks : List Bool) (known : List Lit) (x : Lit) → MarksSay vars marks known → length marks ≡ 2 * vars → LitWithin vars x → MarksSay vars (slice_set marks (code_of x) true) (known ++ x ∷ [])
 marks-push vars marks known x m size p = λ l q.

@@ -1,14 +1,15 @@
 -- What is kept while the watches of a literal that became false are met one by one.
-use Rattle.std.proofs.Common.{◌≡◌, ◌≢◌, ℕ, zero, suc, ◌+◌, ◌-◌, ◌<◌, ◌≤◌, true, false, not, ◌==◌, List, [], ◌∷◌, ◌++◌, Some, length, get_or, take, refl, sym, ap, ◌∙◌, subst, inl, inr, arith, length-set, eq-eqb}
+use Rattle.std.proofs.Common.{◌≡◌, ◌≢◌, ℕ, ◌+◌, ◌-◌, ◌<◌, ◌≤◌, true, false, not, ◌==◌, List, [], ◌∷◌, ◌++◌, length, get_or, take, sym, ap, ◌∙◌, subst, inl, inr, ◌⊎◌, arith, length-set, eq-eqb}
 use Rattle.std.specs.Prelude.{slice_set}
 use Rattle.std.specs.List.{All}
 use Rattle.std.proofs.lemmas.Bool.{or_cases, and_from, false≢true}
 use Rattle.std.proofs.lemmas.Grind.{common_steps}
-use Rattle.std.proofs.lemmas.List.{take_more_set, get_or_default}
+use Rattle.std.proofs.lemmas.List.{take_more_set, get_or_default, get_or-set_same}
 use Rattle.std.proofs.lemmas.List.Elements.{All-more, All-push, All-weaker, All-head, All-tail}
 use Rattle.clause_db.specs.declared.lit.Lit.{Lit}
-use Rattle.clause_db.specs.Clause.{opposite, has_lit, same_lit, clause_at}
+use Rattle.clause_db.specs.Clause.{opposite, has_lit, same_lit}
 use Rattle.clause_db.specs.Clauses.{LitWithin}
+use Rattle.clause_db.proofs.Literals.{same_lit-is}
 use Rattle.trail_prop.specs.declared.entry.Entry.{Entry}
 use Rattle.trail_prop.specs.declared.turn.Moved.{Moved}
 use Rattle.trail_prop.specs.declared.turn.Places.{Places}
@@ -16,27 +17,15 @@ use Rattle.trail_prop.specs.declared.watches.Watch.{Watch}
 use Rattle.trail_prop.specs.Entries.{code_of, lits_of, level_of, IsEntry}
 use Rattle.trail_prop.specs.Good.{AreGood}
 use Rattle.trail_prop.specs.Open.{LitsWithin, is_open}
-use Rattle.trail_prop.specs.Steps.{onto, relisted, IsHeld, AreHeld, Shrinks}
+use Rattle.trail_prop.specs.Steps.{onto, relisted, IsHeld, AreHeld, IsNextWatch, Shrinks}
 use Rattle.trail_prop.specs.Trails.{TrailView, Grows}
 use Rattle.trail_prop.specs.Turn.{IsMove}
-use Rattle.trail_prop.specs.Watching.{lit_at, clause_of, watches_at, IsSafe, StandsAt, HasTrue, IsFixed, watches_of, IsWatched, WatchView}
+use Rattle.trail_prop.specs.Watching.{lit_of, lit_at, clause_of, watches_at, IsSafe, StandsAt, HasTrue, IsFixed, watches_of, IsWatched, WatchFits, WatchView}
 use Rattle.trail_prop.proofs.Counting.{count-push, count-pushed}
-use Rattle.trail_prop.proofs.Known.{code-is, same_lit-is}
+use Rattle.trail_prop.proofs.Known.{code-is}
 use Rattle.trail_prop.proofs.Minding.{relisted-same, relisted-other, relisted-more}
 use Rattle.trail_prop.proofs.Trailing.{grows-level}
 use Rattle.trail_prop.proofs.Places.{known-entry, entry-known, entry-left}
-
-pub at-number : (list : List (List Lit)) (n : ℕ) → 1 ≤ n → n ≤ length list → clause_at list n ≡ Some (clause_of list (n - 1))
-at-number [] n l h = absurd (omega arith)
-at-number (c ∷ cs) zero l h = absurd (omega arith)
-at-number (c ∷ cs) (suc zero) l h = refl
-at-number (c ∷ cs) (suc (suc n)) l h =
-    let r = at-number cs (suc n) (omega arith) (omega arith) in
-    let e : suc (suc n) - 1 ≡ suc n = omega arith in
-    let f : suc n - 1 ≡ n = omega arith in
-    let there : clause_at cs (suc n) ≡ Some (clause_of (c ∷ cs) (suc n)) = r ∙ ap (λ (k : ℕ). Some (clause_of cs k)) f in
-    let here : Some (clause_of (c ∷ cs) (suc n)) ≡ Some (clause_of (c ∷ cs) (suc (suc n) - 1)) = ap (λ (k : ℕ). Some (clause_of (c ∷ cs) k)) (sym e) in
-    grind (arith, there, e, here)
 
 pub within-has : (vars : ℕ) (clause : List Lit) (l : Lit) → LitsWithin vars clause → has_lit clause l ≡ true → LitWithin vars l
 within-has vars [] l w h = absurd (false≢true h)
@@ -89,6 +78,30 @@ pub length-put : (v : WatchView) (gone : Lit) (at : ℕ) (w : Watch) → code_of
 length-put v gone at w c =
     let ws = watches_at v.lists gone in
     ap (λ (z : List Watch). length z) (relisted-same v.lists gone (slice_set ws at w) c) ∙ length-set ws at w
+
+-- the watch that was put in its place is the next one
+pub next-put : (v : WatchView) (gone : Lit) (at : ℕ) (w : Watch) → code_of gone < length v.lists → at < length (watches_at v.lists gone) → WatchFits v.trail.clauses.list gone w → AreHeld v gone at → IsNextWatch (relisted v gone (slice_set (watches_at v.lists gone) at w)) gone at w
+next-put v gone at w c b f a =
+    let ws = watches_at v.lists gone in
+    let now : watches_at (slice_set v.lists (code_of gone) (slice_set ws at w)) gone ≡ slice_set ws at w = relisted-same v.lists gone (slice_set ws at w) c in
+    record {
+      place = subst (λ (n : ℕ). at < n) (sym (length-put v gone at w c)) b;
+      watch = sym (ap (λ (z : List Watch). get_or z at w) now ∙ get_or-set_same ws at w w b);
+      fits = f;
+      held = held-before v gone at w c a b;
+    }
+
+-- a watch that names another literal of its clause, which isn't a pair
+pub fits-named : (list : List (List Lit)) (gone other : Lit) (w named : Watch) → WatchFits list gone w → w.pair ≡ false → (named.clause ≡ w.clause) × (named.pair ≡ w.pair) → (lit_of named.blocker ≡ other) ⊎ (named.blocker ≡ w.blocker) → has_lit (clause_of list (w.clause - 1)) other ≡ true → WatchFits list gone named
+fits-named list gone other w named f long same blocker has = record {
+  from_one = subst (λ (n : ℕ). 1 ≤ n) (sym same.0) f.from_one;
+  to_last = subst (λ (n : ℕ). n ≤ length list) (sym same.0) f.to_last;
+  blocks = subst (λ (n : ℕ). has_lit (clause_of list (n - 1)) (lit_of named.blocker) ≡ true) (sym same.0) (elim blocker [
+    | inl e ↦ subst (λ (l : Lit). has_lit (clause_of list (w.clause - 1)) l ≡ true) (sym e) has
+    | inr e ↦ subst (λ (b : ℕ). has_lit (clause_of list (w.clause - 1)) (lit_of b) ≡ true) (sym e) f.blocks
+  ]);
+  pairs = λ p. absurd (false≢true (sym (same.1 ∙ long) ∙ p));
+}
 
 -- it is taken away
 pub held-shrunk : (old new : WatchView) (gone : Lit) (at : ℕ) → Shrinks old new gone at → AreHeld old gone at → AreHeld new gone at

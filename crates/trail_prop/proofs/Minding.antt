@@ -12,7 +12,7 @@ use Rattle.trail_prop.specs.declared.watches.Watch.{Watch}
 use Rattle.trail_prop.specs.Entries.{code_of}
 use Rattle.trail_prop.specs.Open.{LitsWithin}
 use Rattle.trail_prop.specs.Steps.{onto, relisted}
-use Rattle.trail_prop.specs.Watching.{lit_at, clause_of, watches_at, places_of, IsFixed, IsSafe, watches_of, IsGuarded, IsWatched, WatchFits, WatchView, waits, AreNumbers, IsWatchful}
+use Rattle.trail_prop.specs.Watching.{lit_at, clause_of, watches_at, places_of, IsFixed, IsSafe, watches_of, IsGuarded, IsWatched, WatchFits, WatchView, waits, IsNumber, AreNumbers, IsWatchOf, IsWatchful}
 use Rattle.trail_prop.proofs.Counting.{count-push, count-pushed, count-set, count-removed, all-removed, not-same}
 use Rattle.trail_prop.proofs.Known.{code-is, code-below}
 use Rattle.trail_prop.proofs.Safety.{safe-grows, fixed-grows, safe-cut, fixed-cut}
@@ -95,14 +95,14 @@ pub watchful-added : (v : WatchView) (clause : List Lit) (p : Places) (n : ℕ) 
 watchful-added v clause p n h x e =
     let list = v.trail.clauses.list in
     let longer = length-append list (clause ∷ []) in
-    let more : AreNumbers (length (list ++ clause ∷ [])) v.pending = All-weaker (λ (m : ℕ). (1 ≤ m) × (m ≤ length list)) (λ (m : ℕ). (1 ≤ m) × (m ≤ length (list ++ clause ∷ []))) (λ m b. let t = b.1 in (b.0, omega arith)) v.pending h.numbers in
+    let more : AreNumbers (length (list ++ clause ∷ [])) v.pending = All-weaker (IsNumber (length list)) (IsNumber (length (list ++ clause ∷ []))) (λ m b. let t = b.to_last in record { from_one = b.from_one; to_last = omega arith }) v.pending h.numbers in
     record {
       small = h.small;
       within = All-push (λ (c : List Lit). All (LitWithin v.trail.clauses.vars) c) v.trail.clauses.list clause h.within x;
       head = h.head;
       sized = omega (arith, longer, length-append v.places (p ∷ []), h.sized);
       listed = h.listed;
-      numbers = All-push (λ (m : ℕ). (1 ≤ m) × (m ≤ length (list ++ clause ∷ []))) v.pending n more (omega arith, omega arith);
+      numbers = All-push (IsNumber (length (list ++ clause ∷ []))) v.pending n more (record { from_one = omega arith; to_last = omega arith });
       fits = λ l w. All-weaker (WatchFits list l) (WatchFits (list ++ clause ∷ []) l) (λ x. fits-longer list clause l x) (watches_at v.lists l) (h.fits l w);
       minds = λ k b. elim (split k (length list)) [
         | inl old ↦
@@ -163,10 +163,10 @@ watchful-relisted v l ws h w a more =
 pub watchful-hung : (v : WatchView) (l : Lit) (w : Watch) → IsWatchful v → LitWithin v.trail.clauses.vars l → WatchFits v.trail.clauses.list l w → IsWatchful (relisted v l (watches_at v.lists l ++ w ∷ []))
 watchful-hung v l w h x f = watchful-relisted v l (watches_at v.lists l ++ w ∷ []) h x (All-push (WatchFits v.trail.clauses.list l) (watches_at v.lists l) w (h.fits l x) f) (λ n. count-push (λ (y : Watch). y.clause == n) (watches_at v.lists l) w)
 
-pub watchful-put : (v : WatchView) (l : Lit) (at : ℕ) (w : Watch) → IsWatchful v → LitWithin v.trail.clauses.vars l → at < length (watches_at v.lists l) → WatchFits v.trail.clauses.list l w → ((d : Watch) → (get_or (watches_at v.lists l) at d).clause ≡ w.clause) → IsWatchful (relisted v l (slice_set (watches_at v.lists l) at w))
-watchful-put v l at w h x b f s =
-    watchful-relisted v l (slice_set (watches_at v.lists l) at w) h x (All-set (WatchFits v.trail.clauses.list l) (watches_at v.lists l) at w f (h.fits l x))
-    (λ n. let same = count-set (λ (y : Watch). y.clause == n) (watches_at v.lists l) at w w b (ap (λ (c : ℕ). c == n) (sym (s w))) in omega arith)
+pub watchful-put : (v : WatchView) (l : Lit) (at : ℕ) (w : Watch) → IsWatchful v → IsWatchOf v l at w.clause → WatchFits v.trail.clauses.list l w → IsWatchful (relisted v l (slice_set (watches_at v.lists l) at w))
+watchful-put v l at w h stands f =
+    watchful-relisted v l (slice_set (watches_at v.lists l) at w) h stands.within (All-set (WatchFits v.trail.clauses.list l) (watches_at v.lists l) at w f (h.fits l stands.within))
+    (λ n. let same = count-set (λ (y : Watch). y.clause == n) (watches_at v.lists l) at w w stands.place (ap (λ (c : ℕ). c == n) (sym (stands.clause w))) in omega arith)
 
 -- a watch is gone: of the others' none is
 pub others-stay : (ws : List Watch) (at n k : ℕ) (d : Watch) → at < length ws → (get_or ws at d).clause ≡ n → k + 1 ≢ n → watches_of (k + 1) ws ≤ watches_of (k + 1) (swap_remove ws at d)
@@ -175,8 +175,11 @@ others-stay ws at n k d b e o =
     let same = count-removed (λ (y : Watch). y.clause == k + 1) ws at d b apart in
     omega arith
 
-pub watchful-shelved : (v : WatchView) (gone : Lit) (at n : ℕ) (d : Watch) → IsWatchful v → LitWithin v.trail.clauses.vars gone → 1 ≤ n → n ≤ length v.trail.clauses.list → at < length (watches_at v.lists gone) → (get_or (watches_at v.lists gone) at d).clause ≡ n → IsWatchful (record { trail = v.trail; lists = slice_set v.lists (code_of gone) (swap_remove (watches_at v.lists gone) at d); places = v.places; pending = v.pending ++ n ∷ []; head = v.head })
-watchful-shelved v gone at n d h w one last b e =
+pub watchful-shelved : (v : WatchView) (gone : Lit) (at n : ℕ) (d : Watch) → IsWatchful v → IsWatchOf v gone at n → IsNumber (length v.trail.clauses.list) n → IsWatchful (record { trail = v.trail; lists = slice_set v.lists (code_of gone) (swap_remove (watches_at v.lists gone) at d); places = v.places; pending = v.pending ++ n ∷ []; head = v.head })
+watchful-shelved v gone at n d h stands number =
+    let w = stands.within in
+    let b = stands.place in
+    let e = stands.clause d in
     let c = code-listed v gone h w in
     let ws = watches_at v.lists gone in
     record {
@@ -185,7 +188,7 @@ watchful-shelved v gone at n d h w one last b e =
       head = h.head;
       sized = h.sized;
       listed = length-set v.lists (code_of gone) (swap_remove ws at d) ∙ h.listed;
-      numbers = All-push (λ (m : ℕ). (1 ≤ m) × (m ≤ length v.trail.clauses.list)) v.pending n h.numbers (one, last);
+      numbers = All-push (IsNumber (length v.trail.clauses.list)) v.pending n h.numbers number;
       fits = relisted-fits v.trail.clauses.vars v.trail.clauses.list v.lists gone (swap_remove ws at d) c w (all-removed (WatchFits v.trail.clauses.list gone) ws at d b (h.fits gone w)) h.fits;
       minds = λ k t. elim (same-or-not (k + 1) n) [
         | inl s ↦ inl (count-pushed (λ (m : ℕ). m == k + 1) v.pending n (eq-eqb n (k + 1) (sym s)))

@@ -8,10 +8,11 @@ use Rattle.std.proofs.lemmas.Map.Steps.{length-le_from_distinct_below}
 use Rattle.clause_db.specs.declared.lit.Lit.{Lit}
 use Rattle.clause_db.specs.Clause.{same_lit, has_lit, pos_lit, neg_lit, opposite}
 use Rattle.clause_db.specs.Clauses.{LitWithin}
+use Rattle.clause_db.proofs.Literals.{has-push, has-push_new, same_lit-is, lit-parts}
 use Rattle.trail_prop.specs.Open.{is_open, value_of}
 use Rattle.trail_prop.specs.declared.entry.Entry.{Entry}
 use Rattle.trail_prop.specs.Entries.{lits_of, EachOpens}
-use Rattle.trail_prop.proofs.Known.{open-apart, has-push, has-push_new, same_lit-is, lit-parts}
+use Rattle.trail_prop.proofs.Known.{open-apart}
 
 pub lits-push : (es : List Entry) (e : Entry) → lits_of (es ++ e ∷ []) ≡ lits_of es ++ e.lit ∷ []
 lits-push es e = map-append (λ (x : Entry). x.lit) es (e ∷ [])

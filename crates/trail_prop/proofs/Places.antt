@@ -6,10 +6,11 @@ use Rattle.std.proofs.lemmas.List.{get_or_append_left, get_or_default, get_or-se
 use Rattle.clause_db.specs.declared.lit.Lit.{Lit}
 use Rattle.clause_db.specs.Clause.{has_lit, same_lit}
 use Rattle.clause_db.specs.Clauses.{LitWithin}
+use Rattle.clause_db.proofs.Literals.{same_lit-is, same_lit-refl}
 use Rattle.trail_prop.specs.declared.entry.Entry.{Entry}
 use Rattle.trail_prop.specs.Entries.{lits_of, EachOpens, IsEntry, AreIndexed}
 use Rattle.trail_prop.specs.Open.{is_open}
-use Rattle.trail_prop.proofs.Known.{same_lit-is, same_lit-refl, open-apart}
+use Rattle.trail_prop.proofs.Known.{open-apart}
 use Rattle.trail_prop.proofs.Opening.{known-within}
 
 -- entries and the literals that they make true

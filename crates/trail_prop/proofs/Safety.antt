@@ -12,7 +12,8 @@ use Rattle.trail_prop.specs.Good.{IsLateFalse, IsGood}
 use Rattle.trail_prop.specs.Open.{is_open, IsSettled}
 use Rattle.trail_prop.specs.Watching.{lit_at, HasTrue, IsSafe, IsFixed}
 use Rattle.clause_db.specs.Forced.{not_false, only_open}
-use Rattle.trail_prop.proofs.Known.{same_lit-is, has-push, open-parts, lit-parts}
+use Rattle.clause_db.proofs.Literals.{same_lit-is, has-push, lit-parts}
+use Rattle.trail_prop.proofs.Known.{open-parts}
 use Rattle.trail_prop.proofs.Opening.{lits-push}
 use Rattle.trail_prop.proofs.Forcing.{not-false-part, only_open-true, kept-here, split-at}
 use Rattle.trail_prop.proofs.Places.{known-entry, entry-known, entry-left, entry-of-left, entry-right, entry-same}

@@ -16,7 +16,7 @@ use Rattle.trail_prop.specs.Entries.{code_of, lits_of, EachOpens, IsEntry}
 use Rattle.trail_prop.specs.Open.{IsSettled, IsComplete}
 use Rattle.trail_prop.specs.Steps.{IsHeld, Shrinks}
 use Rattle.trail_prop.specs.Turn.{IsMove, IsOneOf}
-use Rattle.trail_prop.specs.Watching.{lit_at, clause_of, watches_at, places_of, StandsAt, HasTrue, IsFixed, IsSafe, watches_of, IsGuarded, IsWatched, WatchFits, WatchView, waits, AllWait, IsWatchful}
+use Rattle.trail_prop.specs.Watching.{lit_at, clause_of, watches_at, places_of, StandsAt, HasTrue, IsFixed, IsSafe, watches_of, IsGuarded, IsWatched, WatchFits, WatchView, waits, IsNumber, IsWatchOf, IsWaiting, AllWait, IsWatchful}
 use Rattle.trail_prop.proofs.Counting.{count-push, count-pushed, take-removed, length-removed, count-removed, found, all-removed, not-same}
 use Rattle.trail_prop.proofs.Known.{code-is}
 use Rattle.trail_prop.proofs.Minding.{Minds, minds-safe, minds-more, others-stay, relisted-same, relisted-other, relisted-more, relisted-fits, code-listed, same-or-not}
@@ -69,8 +69,13 @@ placed-same places k p b = get_or-set_same places k p (record { first = 0; secon
 placed-other : (places : List Places) (j k : ℕ) (p : Places) → k ≢ j → places_of (slice_set places j p) k ≡ places_of places k
 placed-other places j k p n = get_or-set_other places j k p (record { first = 0; second = 0 }) n
 
-pub watchful-left : (v : WatchView) (gone : Lit) (at n : ℕ) (d : Watch) (m : Moved) → IsWatchful v → LitWithin v.trail.clauses.vars gone → LitWithin v.trail.clauses.vars m.lit → LitWithin v.trail.clauses.vars m.other → 1 ≤ n → n ≤ length v.trail.clauses.list → at < length (watches_at v.lists gone) → (get_or (watches_at v.lists gone) at d).clause ≡ n → has_lit (lits_of v.trail.entries) (opposite gone) ≡ true → IsMove (lits_of v.trail.entries) (clause_of v.trail.clauses.list (n - 1)) (places_of v.places (n - 1)) gone m → 0 < watches_of n (watches_at v.lists m.lit) → IsWatchful (record { trail = v.trail; lists = slice_set v.lists (code_of gone) (swap_remove (watches_at v.lists gone) at d); places = slice_set v.places (n - 1) m.places; pending = v.pending; head = v.head })
-watchful-left v gone at n d m h w wl wo one last b e f mv hung =
+pub watchful-left : (v : WatchView) (gone : Lit) (at n : ℕ) (d : Watch) (m : Moved) → IsWatchful v → IsWatchOf v gone at n → IsNumber (length v.trail.clauses.list) n → LitWithin v.trail.clauses.vars m.lit → LitWithin v.trail.clauses.vars m.other → has_lit (lits_of v.trail.entries) (opposite gone) ≡ true → IsMove (lits_of v.trail.entries) (clause_of v.trail.clauses.list (n - 1)) (places_of v.places (n - 1)) gone m → 0 < watches_of n (watches_at v.lists m.lit) → IsWatchful (record { trail = v.trail; lists = slice_set v.lists (code_of gone) (swap_remove (watches_at v.lists gone) at d); places = slice_set v.places (n - 1) m.places; pending = v.pending; head = v.head })
+watchful-left v gone at n d m h stands number wl wo f mv hung =
+    let w = stands.within in
+    let b = stands.place in
+    let e = stands.clause d in
+    let one = number.from_one in
+    let last = number.to_last in
     let c = code-listed v gone h w in
     let ws = watches_at v.lists gone in
     let ws' = swap_remove ws at d in
@@ -111,7 +116,7 @@ watchful-forgot v at d h b f = record {
   head = h.head;
   sized = h.sized;
   listed = h.listed;
-  numbers = all-removed (λ (m : ℕ). (1 ≤ m) × (m ≤ length v.trail.clauses.list)) v.pending at d b h.numbers;
+  numbers = all-removed (IsNumber (length v.trail.clauses.list)) v.pending at d b h.numbers;
   fits = h.fits;
   minds = λ k t. elim (same-or-not (get_or v.pending at d) (k + 1)) [
     | inl s ↦
@@ -121,28 +126,33 @@ watchful-forgot v at d h b f = record {
   ];
 }
 
-pub watchful-settled : (v : WatchView) (at n d : ℕ) (p : Places) → IsWatchful v → at < length v.pending → get_or v.pending at d ≡ n → 1 ≤ n → n ≤ length v.trail.clauses.list → IsWatched v.trail.entries v.head v.lists n (clause_of v.trail.clauses.list (n - 1)) p → IsWatchful (record { trail = v.trail; lists = v.lists; places = slice_set v.places (n - 1) p; pending = swap_remove v.pending at d; head = v.head })
-watchful-settled v at n d p h b e one last w = record {
-  small = h.small;
-  within = h.within;
-  head = h.head;
-  sized = length-set v.places (n - 1) p ∙ h.sized;
-  listed = h.listed;
-  numbers = all-removed (λ (m : ℕ). (1 ≤ m) × (m ≤ length v.trail.clauses.list)) v.pending at d b h.numbers;
-  fits = h.fits;
-  minds = λ k t. elim (same-or-not k (n - 1)) [
-    | inl s ↦
-        let next : n ≡ k + 1 = omega arith in
-        let there : k < length v.places = omega (arith, h.sized) in
-        let w' : IsWatched v.trail.entries v.head v.lists (k + 1) (clause_of v.trail.clauses.list (n - 1)) p = subst (λ (j : ℕ). IsWatched v.trail.entries v.head v.lists j (clause_of v.trail.clauses.list (n - 1)) p) next w in
-        let w'' : IsWatched v.trail.entries v.head v.lists (k + 1) (clause_of v.trail.clauses.list k) p = subst (λ (j : ℕ). IsWatched v.trail.entries v.head v.lists (k + 1) (clause_of v.trail.clauses.list j) p) (sym s) w' in
-        let placed : places_of (slice_set v.places (n - 1) p) k ≡ p = subst (λ (j : ℕ). places_of (slice_set v.places j p) k ≡ p) s (placed-same v.places k p there) in
-        inr (inr (subst (λ (q : Places). IsWatched v.trail.entries v.head v.lists (k + 1) (clause_of v.trail.clauses.list k) q) (sym placed) w''))
-    | inr o ↦
-        let other : get_or v.pending at d ≢ k + 1 = λ q. o (omega arith) in
-        minds-more v.trail.entries v.head v.lists v.lists v.pending (swap_remove v.pending at d) k (clause_of v.trail.clauses.list k) (places_of v.places k) (places_of (slice_set v.places (n - 1) p) k) (others-wait v.pending at k d b other) (λ m. omega arith) (placed-other v.places (n - 1) k p o) (h.minds k t)
-  ];
-}
+pub watchful-settled : (v : WatchView) (at n d : ℕ) (p : Places) → IsWatchful v → IsWaiting v at n → IsNumber (length v.trail.clauses.list) n → IsWatched v.trail.entries v.head v.lists n (clause_of v.trail.clauses.list (n - 1)) p → IsWatchful (record { trail = v.trail; lists = v.lists; places = slice_set v.places (n - 1) p; pending = swap_remove v.pending at d; head = v.head })
+watchful-settled v at n d p h waits number w =
+    let b = waits.place in
+    let e : get_or v.pending at d ≡ n = sym (waits.number ∙ get_or_default v.pending at n d b) in
+    let one = number.from_one in
+    let last = number.to_last in
+    record {
+      small = h.small;
+      within = h.within;
+      head = h.head;
+      sized = length-set v.places (n - 1) p ∙ h.sized;
+      listed = h.listed;
+      numbers = all-removed (IsNumber (length v.trail.clauses.list)) v.pending at d b h.numbers;
+      fits = h.fits;
+      minds = λ k t. elim (same-or-not k (n - 1)) [
+        | inl s ↦
+            let next : n ≡ k + 1 = omega arith in
+            let there : k < length v.places = omega (arith, h.sized) in
+            let w' : IsWatched v.trail.entries v.head v.lists (k + 1) (clause_of v.trail.clauses.list (n - 1)) p = subst (λ (j : ℕ). IsWatched v.trail.entries v.head v.lists j (clause_of v.trail.clauses.list (n - 1)) p) next w in
+            let w'' : IsWatched v.trail.entries v.head v.lists (k + 1) (clause_of v.trail.clauses.list k) p = subst (λ (j : ℕ). IsWatched v.trail.entries v.head v.lists (k + 1) (clause_of v.trail.clauses.list j) p) (sym s) w' in
+            let placed : places_of (slice_set v.places (n - 1) p) k ≡ p = subst (λ (j : ℕ). places_of (slice_set v.places j p) k ≡ p) s (placed-same v.places k p there) in
+            inr (inr (subst (λ (q : Places). IsWatched v.trail.entries v.head v.lists (k + 1) (clause_of v.trail.clauses.list k) q) (sym placed) w''))
+        | inr o ↦
+            let other : get_or v.pending at d ≢ k + 1 = λ q. o (omega arith) in
+            minds-more v.trail.entries v.head v.lists v.lists v.pending (swap_remove v.pending at d) k (clause_of v.trail.clauses.list k) (places_of v.places k) (places_of (slice_set v.places (n - 1) p) k) (others-wait v.pending at k d b other) (λ m. omega arith) (placed-other v.places (n - 1) k p o) (h.minds k t)
+      ];
+    }
 
 -- the entry at the head is passed
 held-true : (v : WatchView) (gone l : Lit) (k : ℕ) → code_of l ≡ code_of gone → 0 < watches_of (k + 1) (watches_at v.lists l) → All (IsHeld v) (watches_at v.lists gone) → HasTrue (lits_of v.trail.entries) (clause_of v.trail.clauses.list k)
@@ -226,7 +236,7 @@ watchful-new clauses lists places pending small x e n p w = record {
 -- so many clauses wait
 pub all-wait-more : (count : ℕ) (pending : List ℕ) → AllWait count pending → AllWait (count + 1) (pending ++ (count + 1) ∷ [])
 all-wait-more count pending w = (
-  All-push (λ (n : ℕ). (1 ≤ n) × (n ≤ count + 1)) pending (count + 1) (All-weaker (λ (n : ℕ). (1 ≤ n) × (n ≤ count)) (λ (n : ℕ). (1 ≤ n) × (n ≤ count + 1)) (λ n b. let t = b.1 in (b.0, omega arith)) pending w.0) (omega arith, omega arith),
+  All-push (IsNumber (count + 1)) pending (count + 1) (All-weaker (IsNumber count) (IsNumber (count + 1)) (λ n b. let t = b.to_last in record { from_one = b.from_one; to_last = omega arith }) pending w.0) (record { from_one = omega arith; to_last = omega arith }),
   λ k b. elim (same-or-not k count) [
     | inl e ↦ count-pushed (λ (m : ℕ). m == k + 1) pending (count + 1) (eq-eqb (count + 1) (k + 1) (ap (λ (n : ℕ). n + 1) (sym e)))
     | inr o ↦

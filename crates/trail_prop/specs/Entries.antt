@@ -1,5 +1,5 @@
 -- The entries of a trail, and the literals that they make true.
-use Rattle.std.specs.Prelude.{ℕ, ◌≡◌, ◌+◌, ◌*◌, ◌-◌, ◌<◌, length, Bool, true, false, if◌then◌else◌, List, [], ◌∷◌, ◌++◌, map, count_by, is_none, slice_index_or}
+use Rattle.std.specs.Prelude.{ℕ, ◌≡◌, ◌+◌, ◌*◌, ◌-◌, ◌^◌, ◌<◌, ◌≤◌, length, Bool, true, false, if◌then◌else◌, List, [], ◌∷◌, ◌++◌, map, count_by, is_none, slice_index_or}
 use Rattle.clause_db.specs.declared.lit.Lit.{Lit}
 use Rattle.clause_db.specs.Clause.{has_lit}
 use Rattle.clause_db.specs.Clauses.{LitWithin}
@@ -45,3 +45,28 @@ AreIndexed index entries = (k : ℕ) (e : Entry) → IsEntry entries k e → sli
 pub record Assigned : Type 0 where
   pub vars : ℕ
   pub entries : List Entry
+
+-- what stands in an assignment's type: its entries, a mark for each literal, the place of each variable's entry, and
+-- for how many entries there is room
+pub record AssignmentHolds (vars : ℕ) (entries : List Entry) (marks : List Bool) (index : List ℕ) (capacity : ℕ) : Type 0 where
+  -- each entry is of an open variable
+  pub opens : EachOpens vars [] entries
+  -- the marks say which literals are true
+  pub marked : MarksSay vars marks (lits_of entries)
+  -- each literal has a mark
+  pub size : length marks ≡ 2 * vars
+  -- an entry of each variable can be pushed without memory
+  pub room : vars ≤ capacity
+  -- codes and places are small enough for a machine's numbers
+  pub small : vars < 2 ^ 32
+  -- the places are those of the entries
+  pub indexed : AreIndexed index entries
+  -- each variable has a place
+  pub places : length index ≡ vars
+
+-- a literal whose code a machine's number holds
+pub record HasCode (l : Lit) : Type 0 where
+  -- variables are counted from 1
+  pub from_one : 1 ≤ l.var
+  -- as many as a trail can have
+  pub small : l.var < 2 ^ 32

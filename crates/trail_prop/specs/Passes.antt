@@ -1,16 +1,31 @@
 -- What one pass over the clauses finds.
-use Rattle.std.specs.Prelude.{◌<◌, ◌≤◌, length, List}
+use Rattle.std.specs.Prelude.{ℕ, ◌≡◌, ◌<◌, ◌≤◌, Bool, true, false, length, List, [], slice_index_or}
 use Rattle.clause_db.specs.Clause.{clause_at}
 use Rattle.clause_db.specs.Clauses.{Clauses}
-use Rattle.trail_prop.specs.Open.{IsComplete}
+use Rattle.trail_prop.specs.Open.{IsComplete, IsSettled}
 use Rattle.trail_prop.specs.declared.entry.Entry.{Entry}
 use Rattle.trail_prop.specs.declared.plain.Pass.{Pass}
 use Rattle.trail_prop.specs.declared.plain.Pass.TheVariants.{Found, Quiet, Moved}
 use Rattle.trail_prop.specs.Entries.{lits_of}
-use Rattle.trail_prop.specs.Trails.{IsFalseAt}
+use Rattle.trail_prop.specs.Trails.{IsFalseAt, Grows, TrailView}
 
 -- what one pass over the clauses found: a false clause; that none is false and none forces; or that the trail grew
 abbrev pub PassIs : Clauses → List Entry → List Entry → Pass → Type 0
 PassIs clauses earlier later (Found conflict) = IsFalseAt (lits_of later) (clause_at clauses.list conflict.clause)
 PassIs clauses earlier later Quiet = IsComplete clauses.list (lits_of later)
 PassIs clauses earlier later Moved = (length earlier < length later) × (length later ≤ clauses.vars)
+
+-- what stays so while the clauses, so many, are looked at one by one, up to a place, where moved says whether the trail grew
+pub record PassKeeps (old new : TrailView) (moved : Bool) (at many : ℕ) : Type 0 where
+  -- so many clauses there are
+  pub count : many ≡ length new.clauses.list
+  -- the clauses stand
+  pub clauses : new.clauses ≡ old.clauses
+  -- entries are added by force alone
+  pub grows : Grows old.entries new.entries
+  -- while none is added, none of the clauses before the place is false or forces a literal
+  pub quiet : moved ≡ false → (k : ℕ) → k < at → IsSettled (lits_of new.entries) (slice_index_or new.clauses.list k [])
+  -- the trail grew where it is said to
+  pub moves : moved ≡ true → length old.entries < length new.entries
+  -- and then has at most one entry of each variable
+  pub room : moved ≡ true → length new.entries ≤ new.clauses.vars

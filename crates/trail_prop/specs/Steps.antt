@@ -1,5 +1,5 @@
 -- What the steps of propagation over watched clauses leave.
-use Rattle.std.specs.Prelude.{ℕ, ◌≡◌, ◌+◌, ◌-◌, ◌*◌, ◌<◌, ◌≤◌, List, Option, Some, None, length, take, slice_set}
+use Rattle.std.specs.Prelude.{ℕ, ◌≡◌, ◌+◌, ◌-◌, ◌*◌, ◌<◌, ◌≤◌, false, List, Option, Some, None, length, take, slice_set, slice_index_or}
 use Rattle.std.specs.List.{All}
 use Rattle.clause_db.specs.declared.lit.Lit.{Lit}
 use Rattle.clause_db.specs.Clause.{clause_at}
@@ -11,9 +11,9 @@ use Rattle.trail_prop.specs.declared.plain.Pass.TheVariants.{Found, Quiet, Moved
 use Rattle.trail_prop.specs.declared.propagate.Met.{Met}
 use Rattle.trail_prop.specs.declared.propagate.Met.TheVariants.{False, Stays, Leaves}
 use Rattle.trail_prop.specs.Entries.{lits_of, code_of, IsEntry}
-use Rattle.trail_prop.specs.Open.{IsComplete}
-use Rattle.trail_prop.specs.Trails.{TrailView, IsFalseAt}
-use Rattle.trail_prop.specs.Watching.{WatchView, HasTrue, clause_of, watches_at}
+use Rattle.trail_prop.specs.Open.{IsComplete, IsSettled}
+use Rattle.trail_prop.specs.Trails.{TrailView, IsFalseAt, Grows}
+use Rattle.trail_prop.specs.Watching.{WatchView, WatchFits, HasTrue, clause_of, watches_at}
 
 -- another trail, or other watches of a literal
 abbrev pub onto : WatchView → TrailView → WatchView
@@ -29,6 +29,26 @@ IsHeld v w = HasTrue (lits_of v.trail.entries) (clause_of v.trail.clauses.list (
 -- the clauses of the first so many watches of the literal each have a true literal
 abbrev pub AreHeld : WatchView → Lit → ℕ → Type 0
 AreHeld v gone at = All (IsHeld v) (take at (watches_at v.lists gone))
+
+-- a watch in the list of a literal that became false, whose turn it is to be met
+pub record IsNextWatch (v : WatchView) (gone : Lit) (at : ℕ) (w : Watch) : Type 0 where
+  -- the literal has a watch at the place
+  pub place : at < length (watches_at v.lists gone)
+  -- and it is this one
+  pub watch : w ≡ slice_index_or (watches_at v.lists gone) at w
+  -- it is of a clause of the trail, one of whose literals it names
+  pub fits : WatchFits v.trail.clauses.list gone w
+  -- the clauses of the watches before it are done with
+  pub held : AreHeld v gone at
+
+-- such a watch whose clause must be read, since it isn't known to have two literals alone
+pub record IsNextLong (v : WatchView) (gone : Lit) (at : ℕ) (w : Watch) : Type 0 where
+  -- the literal's variable is one of the trail's
+  pub within : LitWithin v.trail.clauses.vars gone
+  -- its turn has come
+  pub next : IsNextWatch v gone at w
+  -- it doesn't say that its clause is a pair
+  pub long : w.pair ≡ false
 
 -- one watch of a literal is gone, behind the first so many; the trail stands
 pub record Shrinks (old new : WatchView) (gone : Lit) (at : ℕ) : Type 0 where
@@ -53,3 +73,27 @@ abbrev pub StepIs : WatchView → WatchView → Pass → Type 0
 StepIs old new (Found conflict) = IsFalseAt (lits_of new.trail.entries) (clause_at new.trail.clauses.list conflict.clause)
 StepIs old new Quiet = IsComplete new.trail.clauses.list (lits_of new.trail.entries)
 StepIs old new Moved = (length old.trail.entries + old.head < length new.trail.entries + new.head) × (length new.trail.entries + new.head ≤ 2 * new.trail.clauses.vars)
+
+-- what stays so while the watches of a literal are met one by one, up to a place
+pub record VisitKeeps (old new : WatchView) (gone : Lit) (at : ℕ) : Type 0 where
+  -- the clauses stand
+  pub clauses : new.trail.clauses ≡ old.trail.clauses
+  -- the entry isn't passed yet
+  pub head : new.head ≡ old.head
+  -- entries are added by force alone
+  pub grows : Grows old.trail.entries new.trail.entries
+  -- the clauses of the watches before the place are done with
+  pub held : AreHeld new gone at
+
+-- what stays so while the clauses that wait, so many at the start, are looked at one by one, up to a place
+pub record LooksKeep (old new : WatchView) (at many : ℕ) : Type 0 where
+  -- as many wait as at the start
+  pub count : many ≡ length new.pending
+  -- the clauses stand
+  pub clauses : new.trail.clauses ≡ old.trail.clauses
+  -- no entry is passed
+  pub head : new.head ≡ old.head
+  -- entries are added by force alone
+  pub grows : Grows old.trail.entries new.trail.entries
+  -- while none is added, none of the clauses before the place is false or forces a literal
+  pub quiet : length new.trail.entries ≡ length old.trail.entries → All (λ (n : ℕ). IsSettled (lits_of new.trail.entries) (clause_of new.trail.clauses.list (n - 1))) (take at new.pending)

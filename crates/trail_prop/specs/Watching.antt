@@ -48,6 +48,13 @@ IsSafe entries head clause l = (k : ℕ) (e : Entry) → k < head → IsEntry en
 abbrev pub watches_of : ℕ → List Watch → ℕ
 watches_of n ws = count_by (λ w. w.clause == n) ws
 
+-- the list of a code has a watch at a place
+pub record IsListed (lists : List (List Watch)) (code at : ℕ) : Type 0 where
+  -- there is a list of the code
+  pub list : code < length lists
+  -- which is longer than that
+  pub place : at < length (slice_index_or lists code [])
+
 -- the clause of this number watches its literal at a place
 pub record IsGuarded (entries : List Entry) (head : ℕ) (lists : List (List Watch)) (n : ℕ) (clause : List Lit) (i : ℕ) : Type 0 where
   pub within : i < length clause
@@ -80,6 +87,29 @@ pub record WatchView : Type 0 where
   pub pending : List ℕ
   pub head : ℕ
 
+-- the number of one of so many clauses
+pub record IsNumber (count n : ℕ) : Type 0 where
+  -- numbers are counted from 1
+  pub from_one : 1 ≤ n
+  -- and end with the last clause
+  pub to_last : n ≤ count
+
+-- the literal's watch at a place is of the clause of this number
+pub record IsWatchOf (v : WatchView) (l : Lit) (at n : ℕ) : Type 0 where
+  -- the literal's variable is one of the trail's
+  pub within : LitWithin v.trail.clauses.vars l
+  -- the literal has a watch at the place
+  pub place : at < length (watches_at v.lists l)
+  -- and that is of the clause
+  pub clause : (d : Watch) → (slice_index_or (watches_at v.lists l) at d).clause ≡ n
+
+-- the clause of this number is the one that waits for a look at a place
+pub record IsWaiting (v : WatchView) (at n : ℕ) : Type 0 where
+  -- one waits at the place
+  pub place : at < length v.pending
+  -- and it has this number
+  pub number : n ≡ slice_index_or v.pending at n
+
 -- how often the clause of this number waits for a look
 abbrev pub waits : ℕ → List ℕ → ℕ
 waits n pending = count_by (λ m. m == n) pending
@@ -90,7 +120,7 @@ IsMinded v k = (0 < waits (k + 1) v.pending) ⊎ (IsFixed v.trail.entries (claus
 
 -- each is the number of a clause of so many
 abbrev pub AreNumbers : ℕ → List ℕ → Type 0
-AreNumbers count pending = All (λ n. (1 ≤ n) × (n ≤ count)) pending
+AreNumbers count pending = All (IsNumber count) pending
 
 -- all so many clauses wait for a look
 abbrev pub AllWait : ℕ → List ℕ → Type 0

@@ -1,11 +1,11 @@
 //! The literals that are true, in order, and a mark for each.
 
-ghost use Rattle.std.specs.Prelude.{ℕ, ◌≡◌, ◌≢◌, ◌+◌, ◌-◌, ◌*◌, ◌^◌, ◌<◌, ◌≤◌, ◌++◌, ◌∷◌, [], length, IfOk, IfSome, OnOk, OnErr, Some, None, true, false, slice_index_or};
+ghost use Rattle.std.specs.Prelude.{ℕ, ◌≡◌, ◌≢◌, ◌+◌, ◌-◌, ◌*◌, ◌<◌, ◌≤◌, ◌++◌, ◌∷◌, [], length, IfOk, IfSome, OnOk, OnErr, Some, None, true, false, slice_index_or};
 ghost use Rattle.clause_db.specs.Clause.{has_lit};
 ghost use Rattle.clause_db.specs.Clauses.{LitWithin};
 ghost use Rattle.trail_prop.specs.Open.{is_open};
 ghost use Rattle.trail_prop.specs.declared.entry.Entry.{Entry};
-ghost use Rattle.trail_prop.specs.Entries.{lits_of, code_of, IsEntry, IsEntryOf};
+ghost use Rattle.trail_prop.specs.Entries.{lits_of, code_of, HasCode, IsEntry, IsEntryOf};
 
 use crate::entry::Entry;
 use clause_db::lit::Lit;
@@ -22,21 +22,19 @@ pub struct Assignment {
 }
 
 impl Model for Assignment {
-    ghost use Rattle.std.specs.Prelude.{◌≡◌, ◌<◌, ◌≤◌, ◌*◌, ◌^◌, [], length};
     ghost use Rattle.std.specs.Vec.{vec_capacity};
-    ghost use Rattle.trail_prop.specs.Entries.{Assigned, AreIndexed, EachOpens, MarksSay, lits_of};
+    ghost use Rattle.trail_prop.specs.Entries.{Assigned, AssignmentHolds};
 
     ghost Value = { Assigned };
 
     ghost view = { λ a. record { vars = a.vars; entries = a.entries.items } };
 
-    ghost invariant = { λ a. record { opens : EachOpens a.vars [] a.entries.items; marked : MarksSay a.vars a.marks.items (lits_of a.entries.items); size : length a.marks.items ≡ 2 * a.vars; room : a.vars ≤ vec_capacity a.entries; small : a.vars < 2 ^ 32; indexed : AreIndexed a.index.items a.entries.items; places : length a.index.items ≡ a.vars } };
+    ghost invariant = { λ a. AssignmentHolds a.vars a.entries.items a.marks.items a.index.items (vec_capacity a.entries) };
 }
 
 /// The place of a literal's mark, or of its watches: two places for each variable.
 pub fn code(lit: Lit) -> usize
-    requires from_one { 1 ≤ lit.var }
-    requires small { lit.var < 2 ^ 32 }
+    requires { HasCode lit }
     ensures { result ≡ code_of lit }
 {
     let at = 2 * (lit.var - 1) as usize;

@@ -1,6 +1,6 @@
 //! Propagation over watched clauses.
 
-ghost use Rattle.std.specs.Prelude.{ℕ, ◌≡◌, ◌+◌, ◌-◌, ◌*◌, ◌<◌, ◌≤◌, ◌++◌, ◌∷◌, [], length, if◌then◌else◌, IfOk, IfSome, IfNone, OnOk, OnErr, Some, None, true, false, slice_index_or, slice_set};
+ghost use Rattle.std.specs.Prelude.{ℕ, ◌≡◌, ◌+◌, ◌-◌, ◌*◌, ◌<◌, ◌++◌, ◌∷◌, [], length, if◌then◌else◌, IfOk, IfSome, IfNone, OnOk, OnErr, Some, None, true, false, slice_set};
 ghost use Rattle.clause_db.specs.Clause.{clause_at, opposite, has_lit};
 ghost use Rattle.clause_db.specs.Clauses.{LitWithin};
 ghost use Rattle.trail_prop.specs.declared.watches.Watch.{Watch};
@@ -9,8 +9,8 @@ ghost use Rattle.trail_prop.specs.Open.{IsComplete};
 ghost use Rattle.trail_prop.specs.Trails.{IsFalseAt, Grows};
 ghost use Rattle.trail_prop.specs.Turn.{IsMove, LeavesOnly};
 ghost use Rattle.trail_prop.specs.Good.{AreGood};
-ghost use Rattle.trail_prop.specs.Watching.{IsWatchful, WatchFits, watches_at, clause_of, places_of, StandsAt};
-ghost use Rattle.trail_prop.specs.Steps.{AreHeld, MetIs, StepIs};
+ghost use Rattle.trail_prop.specs.Watching.{IsWatchful, IsNumber, IsWaiting, watches_at, clause_of, places_of, StandsAt};
+ghost use Rattle.trail_prop.specs.Steps.{AreHeld, IsNextWatch, IsNextLong, MetIs, StepIs};
 
 use crate::entry::Conflict;
 use crate::good::{good_places, has_true};
@@ -119,12 +119,9 @@ fn meet(watching: &mut Watching, gone: Lit, at: usize) -> Result<Met, NoMemory>
 // Forces the one literal of a clause that may be open, the others being false.
 fn follow(watching: &mut Watching, gone: Lit, at: usize, watch: Watch, lit: Lit) -> Met
     requires within { LitWithin watching.old.trail.clauses.vars lit }
-    requires place { at < length (watches_at watching.old.lists gone) }
-    requires watch { watch ≡ slice_index_or (watches_at watching.old.lists gone) at watch }
-    requires fits { WatchFits watching.old.trail.clauses.list gone watch }
+    requires next { IsNextWatch watching.old gone at watch }
     requires only { LeavesOnly (lits_of watching.old.trail.entries) (clause_of watching.old.trail.clauses.list (watch.clause - 1)) lit }
     requires unknown { has_lit (lits_of watching.old.trail.entries) lit ≡ false }
-    requires held { AreHeld watching.old gone at }
     ensures clauses { watching.new.trail.clauses ≡ watching.old.trail.clauses }
     ensures head { watching.new.head ≡ watching.old.head }
     ensures grows { Grows watching.old.trail.entries watching.new.trail.entries }
@@ -140,13 +137,8 @@ fn follow(watching: &mut Watching, gone: Lit, at: usize, watch: Watch, lit: Lit)
 
 // Looks at a clause of more than two literals.
 fn meet_long(watching: &mut Watching, gone: Lit, at: usize, watch: Watch) -> Result<Met, NoMemory>
-    requires within { LitWithin watching.old.trail.clauses.vars gone }
-    requires place { at < length (watches_at watching.old.lists gone) }
-    requires watch { watch ≡ slice_index_or (watches_at watching.old.lists gone) at watch }
-    requires fits { WatchFits watching.old.trail.clauses.list gone watch }
-    requires long { watch.pair ≡ false }
+    requires next { IsNextLong watching.old gone at watch }
     requires gone { has_lit (lits_of watching.old.trail.entries) (opposite gone) ≡ true }
-    requires held { AreHeld watching.old gone at }
     ensures clauses { watching.new.trail.clauses ≡ watching.old.trail.clauses }
     ensures head { watching.new.head ≡ watching.old.head }
     ensures grows { Grows watching.old.trail.entries watching.new.trail.entries }
@@ -171,16 +163,11 @@ fn meet_long(watching: &mut Watching, gone: Lit, at: usize, watch: Watch) -> Res
 
 // Names the literal of a clause that may be open in its watch, and forces it.
 fn keep_on(watching: &mut Watching, gone: Lit, at: usize, watch: Watch, other: Lit) -> Met
-    requires within { LitWithin watching.old.trail.clauses.vars gone }
+    requires next { IsNextLong watching.old gone at watch }
     requires other { LitWithin watching.old.trail.clauses.vars other }
     requires watchful { IsWatchful watching.old }
-    requires place { at < length (watches_at watching.old.lists gone) }
-    requires watch { watch ≡ slice_index_or (watches_at watching.old.lists gone) at watch }
-    requires fits { WatchFits watching.old.trail.clauses.list gone watch }
-    requires long { watch.pair ≡ false }
     requires only { LeavesOnly (lits_of watching.old.trail.entries) (clause_of watching.old.trail.clauses.list (watch.clause - 1)) other }
     requires unknown { has_lit (lits_of watching.old.trail.entries) other ≡ false }
-    requires held { AreHeld watching.old gone at }
     ensures clauses { watching.new.trail.clauses ≡ watching.old.trail.clauses }
     ensures head { watching.new.head ≡ watching.old.head }
     ensures grows { Grows watching.old.trail.entries watching.new.trail.entries }
@@ -199,17 +186,12 @@ fn rewatch(
     watch: Watch,
     moved: Moved,
 ) -> Result<Met, NoMemory>
-    requires within { LitWithin watching.old.trail.clauses.vars gone }
+    requires next { IsNextLong watching.old gone at watch }
     requires watchful { IsWatchful watching.old }
     requires lit { LitWithin watching.old.trail.clauses.vars moved.lit }
     requires other { LitWithin watching.old.trail.clauses.vars moved.other }
-    requires place { at < length (watches_at watching.old.lists gone) }
-    requires watch { watch ≡ slice_index_or (watches_at watching.old.lists gone) at watch }
-    requires fits { WatchFits watching.old.trail.clauses.list gone watch }
-    requires long { watch.pair ≡ false }
     requires gone { has_lit (lits_of watching.old.trail.entries) (opposite gone) ≡ true }
     requires moved { IsMove (lits_of watching.old.trail.entries) (clause_of watching.old.trail.clauses.list (watch.clause - 1)) (places_of watching.old.places (watch.clause - 1)) gone moved }
-    requires held { AreHeld watching.old gone at }
     ensures trail { watching.new.trail ≡ watching.old.trail }
     ensures head { watching.new.head ≡ watching.old.head }
     ensures met { IfOk result (MetIs watching.old watching.new gone at) }
@@ -297,10 +279,8 @@ fn watch_two(
     number: u64,
     places: Places,
 ) -> Result<bool, NoMemory>
-    requires place { at < length watching.old.pending }
-    requires number { number ≡ slice_index_or watching.old.pending at number }
-    requires from_one { 1 ≤ number }
-    requires to_last { number ≤ length watching.old.trail.clauses.list }
+    requires waits { IsWaiting watching.old at number }
+    requires number { IsNumber (length watching.old.trail.clauses.list) number }
     requires good { AreGood watching.old.trail.entries (clause_of watching.old.trail.clauses.list (number - 1)) places }
     ensures trail { watching.new.trail ≡ watching.old.trail }
     ensures head { watching.new.head ≡ watching.old.head }

@@ -1,8 +1,9 @@
 //! The clauses that watch each literal.
 
-ghost use Rattle.std.specs.Prelude.{ℕ, ◌≡◌, ◌≢◌, ◌+◌, ◌*◌, ◌<◌, ◌≤◌, ◌^◌, ◌++◌, ◌⊎◌, ◌∷◌, [], length, replicate, swap_remove, IfOk, IfSome, OnOk, OnErr, slice_index_or, slice_set};
+ghost use Rattle.std.specs.Prelude.{ℕ, ◌≡◌, ◌≢◌, ◌+◌, ◌*◌, ◌<◌, ◌++◌, ◌⊎◌, ◌∷◌, [], length, replicate, swap_remove, IfOk, IfSome, OnOk, OnErr, slice_index_or, slice_set};
 ghost use Rattle.trail_prop.specs.declared.watches.Watch.{Watch};
-ghost use Rattle.trail_prop.specs.Watching.{lit_of};
+ghost use Rattle.trail_prop.specs.Entries.{HasCode};
+ghost use Rattle.trail_prop.specs.Watching.{lit_of, IsListed};
 
 use crate::assignment::code;
 use clause_db::lit::Lit;
@@ -21,8 +22,7 @@ pub struct Watch {
 impl Watch {
     /// A watch of this clause, where the numbers are small enough for one.
     pub fn of(number: u64, blocker: Lit, pair: bool) -> Option<Watch>
-        requires from_one { 1 ≤ blocker.var }
-        requires small { blocker.var < 2 ^ 32 }
+        requires { HasCode blocker }
         ensures { IfSome result (λ w. (w.clause ≡ number) × (lit_of w.blocker ≡ blocker) × (w.pair ≡ pair)) }
     {
         let Ok(clause) = u32::try_from(number) else {
@@ -40,8 +40,7 @@ impl Watch {
 
     /// The same watch with this blocker, or as it was where the literal's code is too large for one.
     pub fn blocked_by(self, other: Lit) -> Watch
-        requires from_one { 1 ≤ other.var }
-        requires small { other.var < 2 ^ 32 }
+        requires { HasCode other }
         ensures same { (result.clause ≡ self.clause) × (result.pair ≡ self.pair) }
         ensures blocker { (lit_of result.blocker ≡ other) ⊎ (result.blocker ≡ self.blocker) }
     {
@@ -105,8 +104,7 @@ impl Watches {
 
     /// A literal's watch at a place.
     pub fn at(&self, code: usize, at: usize) -> Watch
-        requires list { code < length self.now }
-        requires place { at < length (slice_index_or self.now code []) }
+        requires { IsListed self.now code at }
         ensures { result ≡ slice_index_or (slice_index_or self.now code []) at result }
     {
         self.lists[code][at]
@@ -126,8 +124,7 @@ impl Watches {
 
     /// Puts a watch in the place of one of a literal's.
     pub fn set(&mut self, code: usize, at: usize, watch: Watch)
-        requires list { code < length self.old }
-        requires place { at < length (slice_index_or self.old code []) }
+        requires { IsListed self.old code at }
         ensures { self.new ≡ slice_set self.old code (slice_set (slice_index_or self.old code []) at watch) }
     {
         self.lists[code][at] = watch;
@@ -135,8 +132,7 @@ impl Watches {
 
     /// Takes one of a literal's watches away, and puts the last in its place.
     pub fn remove(&mut self, code: usize, at: usize) -> Watch
-        requires list { code < length self.old }
-        requires place { at < length (slice_index_or self.old code []) }
+        requires { IsListed self.old code at }
         ensures value { result ≡ slice_index_or (slice_index_or self.old code []) at result }
         ensures left { self.new ≡ slice_set self.old code (swap_remove (slice_index_or self.old code []) at result) }
     {

@@ -4,12 +4,11 @@ ghost use Rattle.std.specs.Prelude.{ℕ, ◌≡◌, ◌≢◌, ◌+◌, ◌-◌,
 ghost use Rattle.std.specs.List.{All};
 ghost use Rattle.clause_db.specs.Clause.{clause_at, opposite, has_lit};
 ghost use Rattle.clause_db.specs.Clauses.{LitWithin, ClausesWithin};
-ghost use Rattle.trail_prop.specs.declared.watches.Watch.{Watch};
 ghost use Rattle.trail_prop.specs.Entries.{lits_of, level_of};
 ghost use Rattle.trail_prop.specs.Open.{LitsWithin, value_of, IsComplete};
 ghost use Rattle.trail_prop.specs.Trails.{forced_at, IsFalseAt, Grows, is_up_to};
 ghost use Rattle.trail_prop.specs.Turn.{IsMove};
-ghost use Rattle.trail_prop.specs.Watching.{WatchFits, IsWatched, IsFixed, IsWatchful, watches_at, watches_of, waits, clause_of, places_of, AllWait, StandsAt};
+ghost use Rattle.trail_prop.specs.Watching.{WatchFits, IsNumber, IsWatchOf, IsWaiting, IsWatched, IsFixed, IsWatchful, watches_at, watches_of, waits, clause_of, places_of, AllWait, StandsAt};
 ghost use Rattle.trail_prop.specs.Steps.{onto, relisted, Shrinks, IsHeld, NextIs};
 
 use crate::assignment::code;
@@ -125,8 +124,7 @@ impl Watching {
 
     /// The places that the clause of a number watches, if it does.
     pub fn places(&self, number: u64) -> Places
-        requires from_one { 1 ≤ number }
-        requires to_last { number ≤ length self.now.trail.clauses.list }
+        requires { IsNumber (length self.now.trail.clauses.list) number }
         ensures { result ≡ places_of self.now.places (number - 1) }
     {
         self.places[(number - 1) as usize]
@@ -142,9 +140,8 @@ impl Watching {
     /// The number of a clause that waits for a look.
     pub fn waiting(&self, at: usize) -> u64
         requires { at < length self.now.pending }
-        ensures number { result ≡ slice_index_or self.now.pending at result }
-        ensures from_one { 1 ≤ result }
-        ensures to_last { result ≤ length self.now.trail.clauses.list }
+        ensures waits { IsWaiting self.now at result }
+        ensures number { IsNumber (length self.now.trail.clauses.list) result }
     {
         self.pending[at]
     }
@@ -217,10 +214,8 @@ impl Watching {
 
     /// Puts a watch in the place of another of the same clause.
     pub fn put(&mut self, gone: Lit, at: usize, watch: Watch)
-        requires within { LitWithin self.old.trail.clauses.vars gone }
-        requires place { at < length (watches_at self.old.lists gone) }
+        requires stands { IsWatchOf self.old gone at watch.clause }
         requires fits { WatchFits self.old.trail.clauses.list gone watch }
-        requires same { (d : Watch) → (slice_index_or (watches_at self.old.lists gone) at d).clause ≡ watch.clause }
         ensures { self.new ≡ relisted self.old gone (slice_set (watches_at self.old.lists gone) at watch) }
     {
         self.watches.set(code(gone), at, watch);
@@ -239,11 +234,8 @@ impl Watching {
 
     /// Has the clause of a watch wait for a look, and takes the watch away.
     pub fn shelve(&mut self, gone: Lit, at: usize, number: u64) -> Result<(), NoMemory>
-        requires within { LitWithin self.old.trail.clauses.vars gone }
-        requires from_one { 1 ≤ number }
-        requires to_last { number ≤ length self.old.trail.clauses.list }
-        requires place { at < length (watches_at self.old.lists gone) }
-        requires watch { (d : Watch) → (slice_index_or (watches_at self.old.lists gone) at d).clause ≡ number }
+        requires stands { IsWatchOf self.old gone at number }
+        requires number { IsNumber (length self.old.trail.clauses.list) number }
         ensures shrinks { OnOk result (Shrinks self.old self.new gone at) }
         ensures unchanged { OnErr result (self.new ≡ self.old) }
     {
@@ -254,11 +246,8 @@ impl Watching {
 
     /// Takes away a watch whose clause watches another literal from now on.
     pub fn leave(&mut self, gone: Lit, at: usize, number: u64, moved: Moved)
-        requires within { LitWithin self.old.trail.clauses.vars gone }
-        requires from_one { 1 ≤ number }
-        requires to_last { number ≤ length self.old.trail.clauses.list }
-        requires place { at < length (watches_at self.old.lists gone) }
-        requires watch { (d : Watch) → (slice_index_or (watches_at self.old.lists gone) at d).clause ≡ number }
+        requires stands { IsWatchOf self.old gone at number }
+        requires number { IsNumber (length self.old.trail.clauses.list) number }
         requires gone { has_lit (lits_of self.old.trail.entries) (opposite gone) ≡ true }
         requires moved { IsMove (lits_of self.old.trail.entries) (clause_of self.old.trail.clauses.list (number - 1)) (places_of self.old.places (number - 1)) gone moved }
         requires lit { LitWithin self.old.trail.clauses.vars moved.lit }
@@ -272,8 +261,7 @@ impl Watching {
 
     /// Has a clause wait no longer that is true for good.
     pub fn forget(&mut self, at: usize, number: u64)
-        requires place { at < length self.old.pending }
-        requires number { number ≡ slice_index_or self.old.pending at number }
+        requires waits { IsWaiting self.old at number }
         requires fixed { IsFixed self.old.trail.entries (clause_of self.old.trail.clauses.list (number - 1)) }
         ensures trail { self.new.trail ≡ self.old.trail }
         ensures head { self.new.head ≡ self.old.head }
@@ -284,10 +272,8 @@ impl Watching {
 
     /// Has a clause wait no longer that is watched from now on.
     pub fn settle(&mut self, at: usize, number: u64, places: Places)
-        requires place { at < length self.old.pending }
-        requires number { number ≡ slice_index_or self.old.pending at number }
-        requires from_one { 1 ≤ number }
-        requires to_last { number ≤ length self.old.trail.clauses.list }
+        requires waits { IsWaiting self.old at number }
+        requires number { IsNumber (length self.old.trail.clauses.list) number }
         requires watched { IsWatched self.old.trail.entries self.old.head self.old.lists number (clause_of self.old.trail.clauses.list (number - 1)) places }
         ensures trail { self.new.trail ≡ self.old.trail }
         ensures head { self.new.head ≡ self.old.head }

@@ -1,17 +1,21 @@
 use Rattle.std.proofs.Common.{sym, subst, arith}
-use Rattle.trail_prop.specs.Steps.{AreHeld}
+use Rattle.trail_prop.specs.Steps.{IsNextWatch}
 use Rattle.trail_prop.specs.Watching.{WatchView}
 use Rattle.trail_prop.proofs.Minding.{code-listed}
-use Rattle.trail_prop.proofs.Meeting.{held-before}
+use Rattle.trail_prop.proofs.Meeting.{next-put, fits-named}
 use Rattle.trail_prop.proofs.propagate.keep_on.Goals as goal
 
-pub blocked_by-named-requires-clause-small : goal.blocked_by-named-requires-clause-small
-blocked_by-named-requires-clause-small c =
+pub blocked_by-named-requires : goal.blocked_by-named-requires
+blocked_by-named-requires c =
     let w = c.requires.other.1 in
     let s = c.requires.watchful.small in
-    omega arith
+    record { from_one = c.requires.other.0; small = omega arith }
 
-pub follow-requires-clause-held : goal.follow-requires-clause-held
-follow-requires-clause-held c =
+pub follow-requires-clause-next : goal.follow-requires-clause-next
+follow-requires-clause-next c =
     let v = c.args.watching.now in
-    subst (λ (h : WatchView). AreHeld h c.args.gone c.args.at) (sym c.put.ensures) (held-before v c.args.gone c.args.at c.blocked_by-named.result (code-listed v c.args.gone c.requires.watchful c.requires.within) c.requires.held c.requires.place)
+    let n = c.requires.next.next in
+    let named = c.blocked_by-named.result in
+    let says = c.blocked_by-named.ensures in
+    let f = fits-named v.trail.clauses.list c.args.gone c.args.other c.args.watch named n.fits c.requires.next.long says.same says.blocker c.requires.only.has in
+    subst (λ (h : WatchView). IsNextWatch h c.args.gone c.args.at named) (sym c.put.ensures) (next-put v c.args.gone c.args.at named (code-listed v c.args.gone c.requires.watchful c.requires.next.within) n.place f n.held)

@@ -1,4 +1,4 @@
-use Rattle.std.proofs.Common.{◌≡◌, ◌+◌, ◌-◌, ◌<◌, ℕ, List, [], ◌∷◌, ◌++◌, length, get_or, take, false, refl, sym, ap, ◌∙◌, subst, arith, Some, length-append}
+use Rattle.std.proofs.Common.{◌≡◌, ◌+◌, ◌-◌, ◌<◌, ℕ, List, [], ◌∷◌, ◌++◌, length, get_or, false, refl, sym, ap, ◌∙◌, subst, arith, Some, length-append}
 use Rattle.std.specs.List.{All}
 use Rattle.std.proofs.lemmas.List.{take_all}
 use Rattle.std.proofs.lemmas.List.Elements.{All-more}
@@ -7,48 +7,38 @@ use Rattle.clause_db.specs.Clauses.{Clauses}
 use Rattle.trail_prop.specs.declared.entry.Entry.{Entry}
 use Rattle.trail_prop.specs.Entries.{Assigned, lits_of, level_of, is_decision}
 use Rattle.trail_prop.specs.Open.{IsSettled}
-use Rattle.trail_prop.specs.Steps.{onto}
-use Rattle.trail_prop.specs.Trails.{Grows, IsTrail, TrailView}
+use Rattle.trail_prop.specs.Steps.{onto, LooksKeep}
+use Rattle.trail_prop.specs.Trails.{IsTrail, TrailView}
 use Rattle.trail_prop.specs.Watching.{WatchView, clause_of}
 use Rattle.trail_prop.proofs.Settling.{watchful-complete}
 use Rattle.trail_prop.proofs.Trailing.{grows-trans, grows-push, fits-opens, no-more-entries}
 use Rattle.trail_prop.proofs.propagate.look_again.Goals as goal
 use Rattle.trail_prop.proofs.propagate.look_again.Goals.{in-Forces, in-Settled}
 
--- what the loop keeps, from the clauses at its start to the clauses now
-abbrev Kept : WatchView → WatchView → ℕ → ℕ → Type 0
-Kept start now at end = record {
-  count : end ≡ length now.pending;
-  clauses : now.trail.clauses ≡ start.trail.clauses;
-  head : now.head ≡ start.head;
-  grows : Grows start.trail.entries now.trail.entries;
-  quiet : length now.trail.entries ≡ length start.trail.entries → All (λ (n : ℕ). IsSettled (lits_of now.trail.entries) (clause_of now.trail.clauses.list (n - 1))) (take at now.pending);
-}
-
-after-settled : (start was now : WatchView) (at end n : ℕ) → Kept start was at end → now ≡ was → at < length was.pending → n ≡ get_or was.pending at n → IsSettled (lits_of was.trail.entries) (clause_of was.trail.clauses.list (n - 1)) → Kept start now (at + 1) end
+after-settled : (start was now : WatchView) (at end n : ℕ) → LooksKeep start was at end → now ≡ was → at < length was.pending → n ≡ get_or was.pending at n → IsSettled (lits_of was.trail.entries) (clause_of was.trail.clauses.list (n - 1)) → LooksKeep start now (at + 1) end
 after-settled start was now at end n k e b r s =
-    let here : Kept start was (at + 1) end = record {
+    let here : LooksKeep start was (at + 1) end = record {
       count = k.count;
       clauses = k.clauses;
       head = k.head;
       grows = k.grows;
       quiet = λ q. All-more (λ (m : ℕ). IsSettled (lits_of was.trail.entries) (clause_of was.trail.clauses.list (m - 1))) was.pending at n b (k.quiet q) (subst (λ (m : ℕ). IsSettled (lits_of was.trail.entries) (clause_of was.trail.clauses.list (m - 1))) r s);
     } in
-    subst (λ (v : WatchView). Kept start v (at + 1) end) (sym e) here
+    subst (λ (v : WatchView). LooksKeep start v (at + 1) end) (sym e) here
 
-after-forced : (start was now : WatchView) (at end : ℕ) (x : Entry) → Kept start was at end → is_decision x ≡ false → x.level ≡ level_of was.trail.entries → now ≡ onto was (record { clauses = was.trail.clauses; entries = was.trail.entries ++ x ∷ [] }) → Kept start now (at + 1) end
+after-forced : (start was now : WatchView) (at end : ℕ) (x : Entry) → LooksKeep start was at end → is_decision x ≡ false → x.level ≡ level_of was.trail.entries → now ≡ onto was (record { clauses = was.trail.clauses; entries = was.trail.entries ++ x ∷ [] }) → LooksKeep start now (at + 1) end
 after-forced start was now at end x k d l e =
     let es = was.trail.entries in
     let first : length es ≡ length start.trail.entries + length k.grows.more = ap (λ (z : List Entry). length z) k.grows.follows ∙ length-append start.trail.entries k.grows.more in
     let longer = length-append es (x ∷ []) in
-    let here : Kept start (onto was (record { clauses = was.trail.clauses; entries = es ++ x ∷ [] })) (at + 1) end = record {
+    let here : LooksKeep start (onto was (record { clauses = was.trail.clauses; entries = es ++ x ∷ [] })) (at + 1) end = record {
       count = k.count;
       clauses = k.clauses;
       head = k.head;
       grows = grows-trans start.trail.entries es (es ++ x ∷ []) k.grows (grows-push es x d l);
       quiet = λ q. absurd (omega (arith, q, first, longer));
     } in
-    subst (λ (v : WatchView). Kept start v (at + 1) end) (sym e) here
+    subst (λ (v : WatchView). LooksKeep start v (at + 1) end) (sym e) here
 
 pub loop-at-preserved : goal.loop-at-preserved
 loop-at-preserved c =
@@ -63,7 +53,7 @@ loop-at-preserved c =
           let two : IsSettled (lits_of v.trail.entries) (clause_of v.trail.clauses.list (n - 1)) = subst (λ (z : List Lit). IsSettled (lits_of v.trail.entries) z) read one in
           let more = c.loop-at-test.true in
           let count = c.loop-at.invariant.count in
-          after-settled c.args.watching.now v c.match-look_at.watching c.loop-at.at c.pending-at-end.result n c.loop-at.invariant w.watching-is (omega arith) c.waiting-number.ensures.number two
+          after-settled c.args.watching.now v c.match-look_at.watching c.loop-at.at c.pending-at-end.result n c.loop-at.invariant w.watching-is (omega arith) c.waiting-number.ensures.waits.number two
     ]
 
 pub returns-then-entries-before-clause-step : goal.returns-then-entries-before-clause-step

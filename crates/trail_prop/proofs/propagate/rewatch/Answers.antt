@@ -1,4 +1,4 @@
-use Rattle.std.proofs.Common.{◌≡◌, List, length, get_or, sym, ap, ◌∙◌, subst, arith}
+use Rattle.std.proofs.Common.{◌≡◌, ◌<◌, List, length, get_or, sym, ap, ◌∙◌, subst, arith}
 use Rattle.clause_db.specs.Clauses.{LitWithin}
 use Rattle.trail_prop.specs.declared.watches.Watch.{Watch}
 use Rattle.trail_prop.specs.Watching.{WatchView, watches_at}
@@ -6,24 +6,26 @@ use Rattle.trail_prop.proofs.Minding.{code-listed}
 use Rattle.trail_prop.proofs.Meeting.{same-watch, held-shrunk, moved-apart, hung-gone, hung-held, hung-new}
 use Rattle.trail_prop.proofs.propagate.rewatch.Goals as goal
 
-pub blocked_by-requires-clause-from_one : goal.blocked_by-requires-clause-from_one
-blocked_by-requires-clause-from_one c = c.requires.other.0
-
-pub blocked_by-requires-clause-small : goal.blocked_by-requires-clause-small
-blocked_by-requires-clause-small c =
+pub blocked_by-requires : goal.blocked_by-requires
+blocked_by-requires c =
     let w = c.requires.other.1 in
     let s = c.requires.watchful.small in
-    omega arith
+    record { from_one = c.requires.other.0; small = omega arith }
 
 pub hang-requires-clause-within : goal.hang-requires-clause-within
 hang-requires-clause-within c = c.requires.lit
 
-pub leave-requires-clause-watch : goal.leave-requires-clause-watch
-leave-requires-clause-watch c =
+pub leave-requires-clause-stands : goal.leave-requires-clause-stands
+leave-requires-clause-stands c =
     let v = c.args.watching.now in
-    let apart = moved-apart v.trail.clauses.vars v.trail.entries _ _ c.args.gone c.args.moved c.requires.within c.requires.lit c.requires.gone c.requires.moved in
+    let apart = moved-apart v.trail.clauses.vars v.trail.entries _ _ c.args.gone c.args.moved c.requires.next.within c.requires.lit c.requires.gone c.requires.moved in
     let same = hung-gone v c.hang.new.self c.args.moved.lit c.args.gone _ c.in_ok-hang.ensures.hung apart in
-    subst (λ (z : List Watch). (d : Watch) → (get_or z c.args.at d).clause ≡ c.args.watch.clause) (sym same) (same-watch (watches_at v.lists c.args.gone) c.args.at c.args.watch c.requires.place c.requires.watch)
+    let n = c.requires.next.next in
+    record {
+      within = subst (λ (h : WatchView). LitWithin h.trail.clauses.vars c.args.gone) (sym c.in_ok-hang.ensures.hung) c.requires.next.within;
+      place = subst (λ (z : List Watch). c.args.at < length z) (sym same) n.place;
+      clause = subst (λ (z : List Watch). (d : Watch) → (get_or z c.args.at d).clause ≡ c.args.watch.clause) (sym same) (same-watch (watches_at v.lists c.args.gone) c.args.at c.args.watch n.place n.watch);
+    }
 
 pub leave-requires-clause-lit : goal.leave-requires-clause-lit
 leave-requires-clause-lit c = subst (λ (h : WatchView). LitWithin h.trail.clauses.vars c.args.moved.lit) (sym c.in_ok-hang.ensures.hung) c.requires.lit
@@ -37,7 +39,7 @@ leave-requires-clause-hung c = hung-new c.args.watching.now c.hang.new.self c.ar
 pub returns-clause-met : goal.returns-clause-met
 returns-clause-met c =
     let v = c.args.watching.now in
-    let apart = moved-apart v.trail.clauses.vars v.trail.entries _ _ c.args.gone c.args.moved c.requires.within c.requires.lit c.requires.gone c.requires.moved in
+    let apart = moved-apart v.trail.clauses.vars v.trail.entries _ _ c.args.gone c.args.moved c.requires.next.within c.requires.lit c.requires.gone c.requires.moved in
     let same = hung-gone v c.hang.new.self c.args.moved.lit c.args.gone _ c.in_ok-hang.ensures.hung apart in
-    let held = hung-held v c.hang.new.self c.args.moved.lit c.args.gone c.args.at _ c.in_ok-hang.ensures.hung apart c.requires.held in
+    let held = hung-held v c.hang.new.self c.args.moved.lit c.args.gone c.args.at _ c.in_ok-hang.ensures.hung apart c.requires.next.next.held in
     (held-shrunk c.hang.new.self c.leave.new.self c.args.gone c.args.at c.leave.ensures held, c.leave.ensures.left ∙ ap (λ (z : List Watch). length z) same)

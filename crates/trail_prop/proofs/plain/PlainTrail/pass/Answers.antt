@@ -6,6 +6,7 @@ use Rattle.clause_db.specs.declared.lit.Lit.{Lit}
 use Rattle.trail_prop.specs.Open.{IsSettled}
 use Rattle.trail_prop.specs.declared.entry.Entry.{Entry}
 use Rattle.trail_prop.specs.Entries.{lits_of, level_of, is_decision}
+use Rattle.trail_prop.specs.Passes.{PassKeeps}
 use Rattle.trail_prop.specs.Trails.{Grows, TrailView}
 use Rattle.trail_prop.proofs.Trailing.{grows-trans, grows-push}
 use Rattle.trail_prop.proofs.plain.PlainTrail.pass.Goals as goal
@@ -17,20 +18,9 @@ returns-else-moved-clause-found c = λ k d h.
     let e = get_or_default c.loop-at.self.clauses.list k [] d h in
     subst (λ (z : List Lit). IsSettled (lits_of c.loop-at.self.entries) z) e (c.loop-at.invariant.quiet c.if-moved.false k b)
 
--- what the loop keeps, from the trail at its start to the trail now
-abbrev Kept : TrailView → TrailView → Bool → ℕ → ℕ → Type 0
-Kept start now moved at end = record {
-  count : end ≡ length now.clauses.list;
-  clauses : now.clauses ≡ start.clauses;
-  grows : Grows start.entries now.entries;
-  quiet : moved ≡ false → (k : ℕ) → k < at → IsSettled (lits_of now.entries) (get_or now.clauses.list k []);
-  moves : moved ≡ true → length start.entries < length now.entries;
-  room : moved ≡ true → length now.entries ≤ now.clauses.vars;
-}
-
-after-settled : (start was now : TrailView) (b moved : Bool) (at end : ℕ) → Kept start was b at end → now ≡ was → moved ≡ b → IsSettled (lits_of was.entries) (get_or was.clauses.list at []) → Kept start now moved (at + 1) end
+after-settled : (start was now : TrailView) (b moved : Bool) (at end : ℕ) → PassKeeps start was b at end → now ≡ was → moved ≡ b → IsSettled (lits_of was.entries) (get_or was.clauses.list at []) → PassKeeps start now moved (at + 1) end
 after-settled start was now b moved at end k e m s =
-    let here : Kept start was b (at + 1) end = record {
+    let here : PassKeeps start was b (at + 1) end = record {
       count = k.count;
       clauses = k.clauses;
       grows = k.grows;
@@ -38,9 +28,9 @@ after-settled start was now b moved at end k e m s =
       moves = k.moves;
       room = k.room;
     } in
-    subst (λ (v : TrailView). Kept start v moved (at + 1) end) (sym e) (subst (λ (d : Bool). Kept start was d (at + 1) end) (sym m) here)
+    subst (λ (v : TrailView). PassKeeps start v moved (at + 1) end) (sym e) (subst (λ (d : Bool). PassKeeps start was d (at + 1) end) (sym m) here)
 
-after-forced : (start was now : TrailView) (b moved : Bool) (at end : ℕ) (e : Entry) → Kept start was b at end → is_decision e ≡ false → e.level ≡ level_of was.entries → now ≡ record { clauses = was.clauses; entries = was.entries ++ e ∷ [] } → length now.entries ≤ now.clauses.vars → moved ≡ true → Kept start now moved (at + 1) end
+after-forced : (start was now : TrailView) (b moved : Bool) (at end : ℕ) (e : Entry) → PassKeeps start was b at end → is_decision e ≡ false → e.level ≡ level_of was.entries → now ≡ record { clauses = was.clauses; entries = was.entries ++ e ∷ [] } → length now.entries ≤ now.clauses.vars → moved ≡ true → PassKeeps start now moved (at + 1) end
 after-forced start was now b moved at end e k d l n r m =
     let same : now.clauses ≡ was.clauses = ap (λ (v : TrailView). v.clauses) n in
     let longer : now.entries ≡ was.entries ++ e ∷ [] = ap (λ (v : TrailView). v.entries) n in

@@ -1,5 +1,5 @@
-use Rattle.std.proofs.Common.{◌≡◌, ℕ, ◌-◌, ◌<◌, List, length, get_or, sym, ◌∙◌, subst}
-use Rattle.trail_prop.specs.Watching.{WatchView, IsWatchful, IsFixed, clause_of}
+use Rattle.std.proofs.Common.{◌≡◌, ℕ, ◌-◌, List, get_or, sym, ◌∙◌, subst}
+use Rattle.trail_prop.specs.Watching.{WatchView, IsWatchful, IsWaiting, IsFixed, clause_of}
 use Rattle.trail_prop.proofs.Settling.{watchful-forgot}
 use Rattle.std.proofs.lemmas.List.{get_or_default}
 use Rattle.trail_prop.proofs.watching.Watching.forget.Goals as goal
@@ -7,10 +7,9 @@ use Rattle.trail_prop.proofs.watching.Watching.forget.Goals as goal
 pub invariant_of-self : goal.invariant_of-self
 invariant_of-self c =
     let v : WatchView = record { trail = c.self.inside.plain; lists = c.self.inside.watches; places = c.self.inside.places.items; pending = c.self.inside.pending.items; head = c.self.inside.head } in
-    let b : c.args.at < length v.pending = subst (λ (x : WatchView). c.args.at < length x.pending) (sym c.self.view_is) c.requires.place in
-    let e : c.args.number ≡ get_or v.pending c.args.at c.args.number = subst (λ (x : WatchView). c.args.number ≡ get_or x.pending c.args.at c.args.number) (sym c.self.view_is) c.requires.number in
+    let q : IsWaiting v c.args.at c.args.number = subst (λ (x : WatchView). IsWaiting x c.args.at c.args.number) (sym c.self.view_is) c.requires.waits in
     let d = c.swap_remove-number.result in
-    let e' : get_or v.pending c.args.at d ≡ c.args.number = sym (e ∙ get_or_default v.pending c.args.at c.args.number d b) in
+    let e' : get_or v.pending c.args.at d ≡ c.args.number = sym (q.number ∙ get_or_default v.pending c.args.at c.args.number d q.place) in
     let f : IsFixed v.trail.entries (clause_of v.trail.clauses.list (c.args.number - 1)) = subst (λ (x : WatchView). IsFixed x.trail.entries (clause_of x.trail.clauses.list (c.args.number - 1))) (sym c.self.view_is) c.requires.fixed in
     let f' = subst (λ (n : ℕ). IsFixed v.trail.entries (clause_of v.trail.clauses.list (n - 1))) (sym e') f in
-    subst (λ (ns : List ℕ). IsWatchful (record { trail = v.trail; lists = v.lists; places = v.places; pending = ns; head = v.head })) (sym c.swap_remove-number.ensures.items) (watchful-forgot v c.args.at d c.self.invariant b f')
+    subst (λ (ns : List ℕ). IsWatchful (record { trail = v.trail; lists = v.lists; places = v.places; pending = ns; head = v.head })) (sym c.swap_remove-number.ensures.items) (watchful-forgot v c.args.at d c.self.invariant q.place f')
