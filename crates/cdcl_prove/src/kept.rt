@@ -8,6 +8,7 @@ ghost use Rattle.cert_types.specs.Query.{AttemptIs, IsQuery};
 ghost use Rattle.cert_types.specs.Refutes.{is_subset};
 ghost use Rattle.cdcl_prove.specs.Kept.{AskedIs};
 
+use crate::policy::LINES_BETWEEN_POLLS;
 use crate::solve::polled;
 use cert_types::answer::{Answer, CertifyFault, CertifyWhy, Place, Refutation};
 use cert_types::certify::certify_query;
@@ -21,9 +22,6 @@ use pack_defs::channel_map::ChannelMap;
 use pack_defs::items::Items;
 use pack_defs::worker::Worker;
 use std::alloc::{AllocError as NoMemory, Global};
-
-// The poll is asked before the first conflict and then after so many.
-const BETWEEN: u32 = 16;
 
 /// What came of asking the searcher.
 #[derive(Debug, Drop)]
@@ -57,7 +55,7 @@ pub(crate) fn ask<P: Poll>(
         if let Some(now) = polled(poll, task.number) {
             return Ok(Asked::Came(Attempt::Moved { now }));
         }
-        match searcher.go_on(alloc, set, &task.last, BETWEEN)? {
+        match searcher.go_on(alloc, set, &task.last, LINES_BETWEEN_POLLS)? {
             Progress::Open => {}
             Progress::Ended(suggestion) => {
                 return judged(alloc, book, task, worker, suggestion, searcher);

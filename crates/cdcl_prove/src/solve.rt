@@ -3,14 +3,11 @@
 ghost use Rattle.std.specs.Prelude.{ℕ, ◌≡◌, ◌≢◌, ◌≤◌, IfOk, IfSome, length};
 ghost use Rattle.cdcl_prove.specs.Search.{OutcomeIs};
 
+use crate::policy::LINES_BETWEEN_POLLS;
 use crate::search::{Search, Step};
 use cert_types::poll::Poll;
 use rup_check::line::Line;
 use std::alloc::{AllocError as NoMemory, Global};
-
-// The poll is asked before the first line and then after so many. Asking takes a turn of a lock that other threads share, and
-// where another query stands, so many lines are soon learnt in vain.
-const BETWEEN: usize = 16;
 
 /// How a search ended.
 #[derive(Debug, Drop)]
@@ -57,7 +54,7 @@ fn moved<P: Poll>(poll: &mut P, number: u64, lines: usize) -> Option<u64>
     ensures moved { IfSome result (λ now. (P.last poll.new ≡ now) × (now ≢ number)) }
     ensures goes { P.goes poll.old poll.new }
 {
-    if lines % BETWEEN != 0 {
+    if lines % LINES_BETWEEN_POLLS as usize != 0 {
         return None;
     }
     polled(poll, number)

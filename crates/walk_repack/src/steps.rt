@@ -7,13 +7,11 @@ ghost use Rattle.walk_repack.specs.Steps.{OutcomeIs, StepIs};
 use crate::course::Course;
 use crate::guide::Guide;
 use crate::look::{Sight, look, other_channel};
+use crate::policy::MOVES_BETWEEN_POLLS;
 use cert_types::poll::Poll;
 use pack_defs::book::Book;
 use pack_defs::pair::Pair;
 use std::alloc::AllocError as NoMemory;
-
-// The poll is asked before the first move and then after so many.
-const BETWEEN: usize = 1024;
 
 /// What a step of a walk comes to.
 #[derive(Debug, Drop)]
@@ -112,7 +110,7 @@ fn moved<P: Poll>(poll: &mut P, number: u64, moves: usize) -> Option<u64>
     ensures moved { IfSome result (λ now. (P.last poll.new ≡ now) × (now ≢ number)) }
     ensures goes { P.goes poll.old poll.new }
 {
-    if moves % BETWEEN != 0 {
+    if moves % MOVES_BETWEEN_POLLS != 0 {
         return None;
     }
     let now = poll.current();
