@@ -9,10 +9,9 @@ ghost use Rattle.cert_types.specs.Refutes.{is_subset};
 ghost use Rattle.cdcl_prove.specs.Kept.{AskedIs};
 
 use crate::policy::LINES_BETWEEN_POLLS;
-use crate::solve::polled;
 use cert_types::answer::{Answer, CertifyFault, CertifyWhy, Place, Refutation};
 use cert_types::certify::certify_query;
-use cert_types::poll::{Attempt, Poll};
+use cert_types::poll::{Attempt, Poll, polled};
 use cert_types::subset::is_subset;
 use cert_types::task::Task;
 use kept_search::searcher::{Progress, Searcher};
