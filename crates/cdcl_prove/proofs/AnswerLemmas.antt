@@ -1,17 +1,15 @@
 -- The answers that a search ends with are valid.
-use Rattle.std.proofs.Common.{Bool, ◌≡◌, ℕ, ◌+◌, ◌<◌, true, false, ◌==◌, List, [], ◌∷◌, ◌++◌, map, length, None, refl, sym, ap, ◌∙◌, subst, arith, append_assoc, length-append, eq-eqb, ⊎_elim, filter, cond}
+use Rattle.std.proofs.Common.{◌≡◌, ℕ, ◌+◌, ◌<◌, true, false, ◌==◌, List, [], ◌∷◌, ◌++◌, map, length, None, refl, sym, ap, ◌∙◌, subst, arith, append_assoc, length-append, eq-eqb}
 use Rattle.std.specs.List.{list_all}
-use Rattle.std.proofs.lemmas.Bool.{and_from, or_left, or_right, or_cases, cond-false}
+use Rattle.std.proofs.lemmas.Bool.{and_from, or_left, or_right, cond-false}
 use Rattle.clause_db.specs.declared.lit.Lit.{Lit}
 use Rattle.clause_db.specs.Clause.{is_empty_clause}
 use Rattle.clause_db.specs.Clauses.{Clauses}
 use Rattle.pack_defs.specs.Book.{BookView}
 use Rattle.pack_defs.specs.ChannelMap.{overlaid}
-use Rattle.pack_defs.specs.Lists.{is_in, is_ascending, has_station}
+use Rattle.pack_defs.specs.Lists.{is_in, is_ascending}
 use Rattle.pack_defs.specs.Packing.{IsPacking, IsClean}
 use Rattle.pack_defs.specs.declared.worker.Worker.{Worker}
-use Rattle.pack_defs.proofs.Chains.{ascending-filter}
-use Rattle.pack_defs.proofs.Words.{list_any-map}
 use Rattle.assign_check.proofs.Faultless.{on-stations}
 use Rattle.cnf_encode.specs.Formula.{packing_formula, variables_in}
 use Rattle.rup_check.specs.declared.line.Line.{Line}
@@ -30,9 +28,6 @@ use Rattle.cdcl_prove.specs.Formulas.{IsFormulaOf}
 use Rattle.cdcl_prove.proofs.Following.{append-nil}
 
 -- ---- a fit
-
-pub stations-kept : (last map' : List (ℕ × ℕ)) (set : List ℕ) → map (λ (x : ℕ × ℕ). x.0) map' ≡ set → ((s : ℕ) → has_station last s ≡ true → is_in set s ≡ true) → (s : ℕ) → has_station last s ≡ true → has_station map' s ≡ true
-stations-kept last map' set e of s h = sym (list_any-map (λ y. y == s) (λ (x : ℕ × ℕ). x.0) map') ∙ subst (λ (xs : List ℕ). is_in xs s ≡ true) (sym e) (of s h)
 
 pub fit-valid : (book : BookView) (task : Task) (worker : Worker) (map' d : List (ℕ × ℕ)) → IsPacking book task.set map' → overlaid task.last d ≡ map' → IsValid book task worker (Fit d)
 fit-valid book task worker map' d p e = means-fit book task worker d (on-stations book task.set (overlaid task.last d) (subst (λ (m : List (ℕ × ℕ)). map (λ (x : ℕ × ℕ). x.0) m ≡ task.set) (sym e) p.stations) (subst (λ (m : List (ℕ × ℕ)). IsClean book m) (sym e) p.clean))
@@ -75,20 +70,6 @@ all-in (x ∷ xs) set f = and_from (is_in set x) (list_all (is_in set) xs) (f x 
 
 pub whole-subset : (set : List ℕ) → is_ascending set ≡ true → is_subset set set ≡ true
 whole-subset set a = and_from (is_ascending set) (list_all (is_in set) set) a (all-in set set (λ s h. h))
-
-filter-in : (p : ℕ → Bool) (xs : List ℕ) (s : ℕ) → is_in (filter p xs) s ≡ true → is_in xs s ≡ true
-filter-in p [] s h = h
-filter-in p (x ∷ xs) s h = step (p x) h (filter-in p xs s)
-  where
-    step : (b : Bool) → is_in (cond b (x ∷ filter p xs) (filter p xs)) s ≡ true → (is_in (filter p xs) s ≡ true → is_in xs s ≡ true) → is_in (x ∷ xs) s ≡ true
-    step true h f = ⊎_elim (λ e. or_left (x == s) (is_in xs s) e) (λ r. or_right (x == s) (is_in xs s) (f r)) (or_cases (x == s) (is_in (filter p xs) s) h)
-    step false h f = or_right (x == s) (is_in xs s) (f h)
-
--- some stations of the query's set are a subset of it
-pub some-subset : (p : ℕ → Bool) (set part : List ℕ) → is_ascending set ≡ true → part ≡ filter p set → is_subset part set ≡ true
-some-subset p set part a e =
-    subst (λ (xs : List ℕ). is_subset xs set ≡ true) (sym e)
-    (and_from (is_ascending (filter p set)) (list_all (is_in set) (filter p set)) (ascending-filter p set a) (all-in (filter p set) set (λ s h. filter-in p set s h)))
 
 -- ---- a receipt
 

@@ -10,6 +10,7 @@ ghost use Rattle.cdcl_prove.specs.Formulas.{IsFormulaOf};
 use crate::answers::{fit, receipt, refutation};
 use crate::guide::Guide;
 use crate::kept::{Asked, ask};
+use crate::policy::{STEPS_OF_LAST_CHANNEL, STEPS_WITHOUT_CHANNEL};
 use crate::search::Search;
 use crate::solve::{Outcome, solve};
 use cert_types::answer::Answer;
@@ -292,10 +293,10 @@ fn guide_by(
         for c in book.domain(*s) {
             var = var.saturating_add(1);
             match last {
-                None => guide.prefer(var, 2.0),
+                None => guide.prefer(var, STEPS_WITHOUT_CHANNEL),
                 Some(d) => {
                     if d == *c {
-                        guide.prefer(var, 1.0);
+                        guide.prefer(var, STEPS_OF_LAST_CHANNEL);
                     }
                 }
             }

@@ -1,18 +1,16 @@
-//! The search's policy: which variable comes next, and with which value.
+//! What guides the search: which variable comes next, and with which value.
 
 ghost use Rattle.std.specs.Prelude.{ℕ, ◌≡◌, ◌≤◌, IfSome};
 ghost use Rattle.trail_prop.specs.Entries.{lits_of};
 ghost use Rattle.cdcl_prove.specs.Picks.{IsOpenVariable, PickIs, VariableIs};
 
+use crate::policy::{STEPS_OF_CONFLICT, VARIABLE_DECAY};
 use clause_db::lit::Lit;
 use kept_search::order::Order;
 use kept_search::ties::Ties;
 use std::alloc::{AllocError as NoMemory, Global};
 use trail_prop::entry::Entry;
 use trail_prop::trail::Trail;
-
-// A conflict makes the variables that it meets more active by so much more than the conflict before did.
-const DECAY: f64 = 0.95;
 
 /// What guides the search: the order in which variables are decided, the value that each is tried with first, and the
 /// level at which each got its value. Nothing that the solver says rests on it.
@@ -76,7 +74,8 @@ impl Guide {
 
     /// A conflict involves the variable. Whether it got its value at this level.
     pub(crate) fn involve(&mut self, var: u64, level: u32) -> bool {
-        self.order.raise(var.min(u32::MAX as u64) as u32, 1.0);
+        self.order
+            .raise(var.min(u32::MAX as u64) as u32, STEPS_OF_CONFLICT);
         self.level(var) == level
     }
 
@@ -143,7 +142,7 @@ impl Guide {
 // The variables from 1 to so many, each as active as the ties draw it; where that is alike, in their order.
 fn ordered(alloc: Global, vars: u32, ties: Ties) -> Result<Order, NoMemory> {
     let mut ties = ties;
-    let mut order = Order::new(alloc, vars, DECAY)?;
+    let mut order = Order::new(alloc, vars, VARIABLE_DECAY)?;
     for v in 0..vars {
         order.raise(v + 1, ties.draw());
         order.put(v + 1)?;

@@ -8,10 +8,10 @@ ghost use Rattle.cert_types.specs.Query.{AttemptIs, IsQuery};
 ghost use Rattle.cert_types.specs.Refutes.{is_subset};
 ghost use Rattle.cdcl_prove.specs.Kept.{AskedIs};
 
-use crate::solve::polled;
+use crate::policy::LINES_BETWEEN_POLLS;
 use cert_types::answer::{Answer, CertifyFault, CertifyWhy, Place, Refutation};
 use cert_types::certify::certify_query;
-use cert_types::poll::{Attempt, Poll};
+use cert_types::poll::{Attempt, Poll, polled};
 use cert_types::subset::is_subset;
 use cert_types::task::Task;
 use kept_search::searcher::{Progress, Searcher};
@@ -21,9 +21,6 @@ use pack_defs::channel_map::ChannelMap;
 use pack_defs::items::Items;
 use pack_defs::worker::Worker;
 use std::alloc::{AllocError as NoMemory, Global};
-
-// The poll is asked before the first conflict and then after so many.
-const BETWEEN: u32 = 16;
 
 /// What came of asking the searcher.
 #[derive(Debug, Drop)]
@@ -57,7 +54,7 @@ pub(crate) fn ask<P: Poll>(
         if let Some(now) = polled(poll, task.number) {
             return Ok(Asked::Came(Attempt::Moved { now }));
         }
-        match searcher.go_on(alloc, set, &task.last, BETWEEN)? {
+        match searcher.go_on(alloc, set, &task.last, LINES_BETWEEN_POLLS)? {
             Progress::Open => {}
             Progress::Ended(suggestion) => {
                 return judged(alloc, book, task, worker, suggestion, searcher);

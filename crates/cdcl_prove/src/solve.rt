@@ -1,16 +1,13 @@
 //! The whole search: step after step, until it is decided, its budget is spent or another query stands.
 
-ghost use Rattle.std.specs.Prelude.{ℕ, ◌≡◌, ◌≢◌, ◌≤◌, IfOk, IfSome, length};
+ghost use Rattle.std.specs.Prelude.{◌≡◌, ◌≤◌, IfOk, length};
 ghost use Rattle.cdcl_prove.specs.Search.{OutcomeIs};
 
+use crate::policy::LINES_BETWEEN_POLLS;
 use crate::search::{Search, Step};
-use cert_types::poll::Poll;
+use cert_types::poll::{Poll, moved};
 use rup_check::line::Line;
 use std::alloc::{AllocError as NoMemory, Global};
-
-// The poll is asked before the first line and then after so many. Asking takes a turn of a lock that other threads share, and
-// where another query stands, so many lines are soon learnt in vain.
-const BETWEEN: usize = 16;
 
 /// How a search ended.
 #[derive(Debug, Drop)]
@@ -40,7 +37,12 @@ pub(crate) fn solve<P: Poll>(
     ensures goes { P.goes poll.old poll.new }
 {
     'lines: while search.derivation.len() < budget as usize {
-        if let Some(now) = moved(poll, number, search.derivation.len()) {
+        if let Some(now) = moved(
+            poll,
+            number,
+            search.derivation.len(),
+            LINES_BETWEEN_POLLS as usize,
+        ) {
             return Ok(Outcome::Moved { now });
         }
         match search.step(alloc)? {
@@ -50,27 +52,4 @@ pub(crate) fn solve<P: Poll>(
         }
     }
     Ok(Outcome::Spent)
-}
-
-// The number that the poll answers, where it is asked after so many lines and that is another one.
-fn moved<P: Poll>(poll: &mut P, number: u64, lines: usize) -> Option<u64>
-    ensures moved { IfSome result (λ now. (P.last poll.new ≡ now) × (now ≢ number)) }
-    ensures goes { P.goes poll.old poll.new }
-{
-    if lines % BETWEEN != 0 {
-        return None;
-    }
-    polled(poll, number)
-}
-
-/// The number that the poll answers, where that is another one.
-pub(crate) fn polled<P: Poll>(poll: &mut P, number: u64) -> Option<u64>
-    ensures moved { IfSome result (λ now. (P.last poll.new ≡ now) × (now ≢ number)) }
-    ensures goes { P.goes poll.old poll.new }
-{
-    let now = poll.current();
-    if now == number {
-        return None;
-    }
-    Some(now)
 }

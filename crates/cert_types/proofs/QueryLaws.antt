@@ -1,8 +1,9 @@
 -- What it says that a task is a query, part by part, and back.
-use Rattle.std.proofs.Common.{◌≡◌, ◌&&◌, ◌==◌, ℕ, true, is_none, List, [], ◌∷◌, None, ap, subst, ⊎_elim, eqb-true}
+use Rattle.std.proofs.Common.{◌≡◌, ◌∙◌, ◌&&◌, ◌==◌, ℕ, true, is_none, List, [], ◌∷◌, None, ap, map, subst, sym, ⊎_elim, eqb-true}
 use Rattle.std.proofs.lemmas.Bool.{and_from, and_parts, or_cases}
 use Rattle.pack_defs.specs.Book.{BookView, domain_of}
 use Rattle.pack_defs.specs.Lists.{has_station, is_ascending, is_in}
+use Rattle.pack_defs.proofs.Words.{list_any-map}
 use Rattle.assign_check.specs.Fault.{violation}
 use Rattle.cert_types.specs.declared.task.Task.{Task}
 use Rattle.cert_types.specs.Certificate.{IsTaskOf}
@@ -51,3 +52,10 @@ last-of book set (x ∷ xs) s d h =
 -- a station of the last map is one of the set
 pub query-of_set : (book : BookView) (task : Task) → IsQuery book task → (s : ℕ) → has_station task.last s ≡ true → is_in task.set s ≡ true
 query-of_set book task q s h = last-of book task.set task.last s (query-parts book task q).domains h
+
+-- a map of the set's stations has each station of the last map
+pub query-kept : (book : BookView) (task : Task) (entries : List (ℕ × ℕ)) → IsQuery book task → map (λ (x : ℕ × ℕ). x.0) entries ≡ task.set → (s : ℕ) → has_station task.last s ≡ true → has_station entries s ≡ true
+query-kept book task entries q e s h =
+    sym (list_any-map (λ y. y == s) (λ (y : ℕ × ℕ). y.0) entries)
+    ∙ ap (λ (xs : List ℕ). is_in xs s) e
+    ∙ query-of_set book task q s h

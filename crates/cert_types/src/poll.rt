@@ -1,6 +1,6 @@
 //! How a solver learns that its query no longer stands, and what comes of an attempt at one.
 
-ghost use Rattle.std.specs.Prelude.{◌≡◌, ℕ};
+ghost use Rattle.std.specs.Prelude.{ℕ, ◌≡◌, ◌≢◌, ◌≤◌, IfSome};
 
 use crate::answer::Answer;
 
@@ -31,4 +31,28 @@ pub enum Attempt {
     Said(Answer),
     /// The poll answered that another query stands, which has this number.
     Moved { now: u64 },
+}
+
+/// The number that a poll answers, where that is another one than this.
+pub fn polled<P: Poll>(poll: &mut P, number: u64) -> Option<u64>
+    ensures moved { IfSome result (λ now. (P.last poll.new ≡ now) × (now ≢ number)) }
+    ensures goes { P.goes poll.old poll.new }
+{
+    let now = poll.current();
+    if now == number {
+        return None;
+    }
+    Some(now)
+}
+
+/// The same, of a poll that is asked before the first step of a search and then after each `between`, once so many are made.
+pub fn moved<P: Poll>(poll: &mut P, number: u64, steps: usize, between: usize) -> Option<u64>
+    requires { 1 ≤ between }
+    ensures moved { IfSome result (λ now. (P.last poll.new ≡ now) × (now ≢ number)) }
+    ensures goes { P.goes poll.old poll.new }
+{
+    if steps % between != 0 {
+        return None;
+    }
+    polled(poll, number)
 }

@@ -7,10 +7,10 @@ use Rattle.pack_defs.specs.declared.worker.Worker.{Worker}
 use Rattle.pack_defs.specs.declared.pair.Pair.{Pair}
 use Rattle.pack_defs.specs.Book.{BookView, domain_of}
 use Rattle.pack_defs.specs.ChannelMap.{channel_of, overlaid}
-use Rattle.pack_defs.specs.Lists.{has_entry, has_station, is_empty, is_in}
+use Rattle.pack_defs.specs.Lists.{has_entry, is_empty, is_in}
 use Rattle.assign_check.specs.Fault.{IsCleanOn}
 use Rattle.pack_defs.proofs.Members.{list_all-gives}
-use Rattle.pack_defs.proofs.Words.{Contains-from_has_entry, list_any-map}
+use Rattle.pack_defs.proofs.Words.{Contains-from_has_entry}
 use Rattle.assign_check.specs.Violations.{violations}
 use Rattle.assign_check.proofs.CountLaws.{any-violated, counted-clean}
 use Rattle.cert_types.specs.declared.task.Task.{Task}
@@ -22,7 +22,7 @@ use Rattle.cert_types.specs.Refutes.{is_dead}
 use Rattle.cert_types.specs.Valid.{IsValid, learns}
 use Rattle.cert_types.specs.Walks.{AreSpentMoves, least_of, start_map, violates_some}
 use Rattle.cert_types.proofs.Meaning.{means-dead, means-fit, means-moves}
-use Rattle.cert_types.proofs.QueryLaws.{query-of_set, query-parts}
+use Rattle.cert_types.proofs.QueryLaws.{query-parts}
 use Rattle.walk_repack.specs.Course.{AreOnDomains, CourseView, IsCourse}
 use Rattle.walk_repack.specs.Steps.{stations_in}
 
@@ -72,13 +72,6 @@ pub course-stations : (book : BookView) (task : Task) (v : CourseView) → IsCou
 course-stations book task v h e = h.stations ∙ ap stations_in e ∙ start-stations book task.last task.set
 
 -- ---- a fit
-
--- a walk keeps each station that stood in the last map
-pub last-kept : (book : BookView) (task : Task) (entries : List (ℕ × ℕ)) → IsQuery book task → stations_in entries ≡ task.set → (s : ℕ) → has_station task.last s ≡ true → has_station entries s ≡ true
-last-kept book task entries q e s h =
-    sym (list_any-map (λ y. y == s) (λ (y : ℕ × ℕ). y.0) entries)
-    ∙ ap (λ (xs : List ℕ). is_in xs s) e
-    ∙ query-of_set book task q s h
 
 no-number : (n : ℕ) → nat_lt 0 n ≡ false → n ≡ 0
 no-number n h = grind (arith, nat_tests)

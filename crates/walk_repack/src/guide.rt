@@ -1,19 +1,12 @@
-//! The walk's policy: which violated pair, which of its stations, and which channel.
+//! What guides the walk: which violated pair, which of its stations, and which channel.
 
 use crate::chance::Chance;
 use crate::memory::Memory;
 use crate::pick::Pick;
+use crate::policy::{BEHIND_OPEN, SHORTEST_CLOSED, SPREAD_CLOSED};
 use crate::tables::Tables;
 use pack_defs::book::Book;
 use std::alloc::{AllocError as NoMemory, Global};
-
-// How long a channel is closed to a station that left it: at least so many moves, and at most so many more.
-const SHORTEST: u32 = 3;
-
-const SPREAD: u32 = 10;
-
-// A closed channel comes behind every open one.
-const BEHIND: u32 = 1 << 24;
 
 /// Where a walk goes next: which violated pair it looks at, which of its stations moves, and where to. Each choice is
 /// tested where it is made use of, so nothing that the walk says rests on it.
@@ -88,7 +81,10 @@ impl<'a> Guide<'a> {
     /// Notes a move, and closes the channel that the station leaves.
     pub(crate) fn note(&mut self, station: u32, from: u8, to: u8) {
         self.tables.shift(station, from, to);
-        let moves = self.chance.below(SPREAD).saturating_add(SHORTEST);
+        let moves = self
+            .chance
+            .below(SPREAD_CLOSED)
+            .saturating_add(SHORTEST_CLOSED);
         self.memory.leave(self.tables.cell(station, from), moves);
     }
 
@@ -97,7 +93,7 @@ impl<'a> Guide<'a> {
         let cell = self.tables.cell(station, channel);
         let count = self.tables.count(cell);
         if self.memory.is_closed(cell) {
-            count.saturating_add(BEHIND)
+            count.saturating_add(BEHIND_OPEN)
         } else {
             count
         }

@@ -10,6 +10,7 @@ mod look;
 mod memory;
 mod pick;
 mod places;
+mod policy;
 mod steps;
 mod tables;
 mod trouble;

@@ -1,5 +1,6 @@
 //! Where each station stands in a set, found at once for most.
 
+use crate::policy::{LEAST_SLOTS, SLOT_DOUBLINGS, SLOTS_OF_STATION};
 use std::alloc::{AllocError as NoMemory, Global};
 
 // A slot that no station has.
@@ -53,9 +54,9 @@ impl Places {
 
 // The number of slots for so many stations, a power of two.
 fn slots_for(stations: usize) -> usize {
-    let mut slots: usize = 64;
-    for _ in 0..16 {
-        if slots / 4 >= stations {
+    let mut slots = LEAST_SLOTS;
+    for _ in 0..SLOT_DOUBLINGS {
+        if slots / SLOTS_OF_STATION >= stations {
             break;
         }
         slots = slots.saturating_mul(2);

@@ -1,19 +1,17 @@
 //! The whole walk: move after move, until no pair is violated, one is dead, the budget is spent or another query
 //! stands.
 
-ghost use Rattle.std.specs.Prelude.{ℕ, ◌≡◌, ◌≢◌, ◌≤◌, IfOk, IfSome, length};
+ghost use Rattle.std.specs.Prelude.{ℕ, ◌≡◌, ◌≤◌, IfOk, length};
 ghost use Rattle.walk_repack.specs.Steps.{OutcomeIs, StepIs};
 
 use crate::course::Course;
 use crate::guide::Guide;
 use crate::look::{Sight, look, other_channel};
-use cert_types::poll::Poll;
+use crate::policy::MOVES_BETWEEN_POLLS;
+use cert_types::poll::{Poll, moved};
 use pack_defs::book::Book;
 use pack_defs::pair::Pair;
 use std::alloc::AllocError as NoMemory;
-
-// The poll is asked before the first move and then after so many.
-const BETWEEN: usize = 1024;
 
 /// What a step of a walk comes to.
 #[derive(Debug, Drop)]
@@ -57,7 +55,7 @@ pub(crate) fn run<P: Poll>(
     ensures goes { P.goes poll.old poll.new }
 {
     'moves: while course.len() < budget as usize {
-        if let Some(now) = moved(poll, number, course.len()) {
+        if let Some(now) = moved(poll, number, course.len(), MOVES_BETWEEN_POLLS) {
             return Ok(Outcome::Moved { now });
         }
         match advance(book, course, guide)? {
@@ -105,19 +103,4 @@ fn last_look(book: &Book, course: &Course, guide: &mut Guide) -> Outcome
             channel: _,
         } => Outcome::Spent,
     }
-}
-
-// The number that the poll answers, where it is asked after so many moves and that is another one.
-fn moved<P: Poll>(poll: &mut P, number: u64, moves: usize) -> Option<u64>
-    ensures moved { IfSome result (λ now. (P.last poll.new ≡ now) × (now ≢ number)) }
-    ensures goes { P.goes poll.old poll.new }
-{
-    if moves % BETWEEN != 0 {
-        return None;
-    }
-    let now = poll.current();
-    if now == number {
-        return None;
-    }
-    Some(now)
 }

@@ -10,8 +10,8 @@ use Rattle.cnf_encode.specs.Formula.{packing_formula}
 use Rattle.trail_prop.specs.Entries.{lits_of}
 use Rattle.trail_prop.specs.Trails.{TrailView}
 use Rattle.cdcl_prove.proofs.ModelLemmas.{Reads, model-satisfies}
-use Rattle.cert_types.proofs.QueryLaws.{query-of_set, query-parts}
-use Rattle.cdcl_prove.proofs.AnswerLemmas.{stations-kept, fit-valid}
+use Rattle.cert_types.proofs.QueryLaws.{query-kept, query-parts}
+use Rattle.cdcl_prove.proofs.AnswerLemmas.{fit-valid}
 use Rattle.cdcl_prove.proofs.answers.fit.Goals as goal
 
 pub decode-requires-clause-ascending : goal.decode-requires-clause-ascending
@@ -29,7 +29,7 @@ pub returns-clause-valid : goal.returns-clause-valid
 returns-clause-valid c worker =
     let packing : IsPacking c.args.book.now c.args.task.now.set c.in_ok-map.map = subst (λ (xs : List ℕ). IsPacking c.args.book.now xs c.in_ok-map.map) c.as_slice.ensures c.in_ok-map.ensures.packing in
     fit-valid c.args.book.now c.args.task.now worker c.in_ok-map.map c.in_ok-delta.field-0 packing
-    (c.in_ok-delta.ensures.whole (stations-kept c.args.task.now.last c.in_ok-map.map c.args.task.now.set packing.stations (query-of_set c.args.book.now c.args.task.now c.requires.query)))
+    (c.in_ok-delta.ensures.whole (query-kept c.args.book.now c.args.task.now c.in_ok-map.map c.requires.query packing.stations))
 
 pub returns-clause-changes : goal.returns-clause-changes
 returns-clause-changes c =
