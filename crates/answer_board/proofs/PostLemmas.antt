@@ -27,6 +27,7 @@ use Rattle.auction_core.specs.Take.{PostingView, take, turned_away}
 use Rattle.auction_core.proofs.TakingLemmas.{taken-told, taken-turned}
 use Rattle.auction_core.proofs.TaskLemmas.{no-task}
 use Rattle.auction_core.proofs.Replays.{turned-cases}
+use Rattle.auction_core.proofs.AuctionLemmas.{none-kept}
 use Rattle.answer_board.specs.Entries.{entries_of, numbered}
 use Rattle.turn_lock.specs.declared.chronicle.Known.{Known}
 use Rattle.turn_lock.specs.Turns.{StartsWith}
@@ -84,10 +85,6 @@ pub stands-may : (sc : Scenario) (book : BookView) (state : CoreState) (posting 
 stands-may sc book state posting answer h t = said-may sc book state posting answer posting.said (h t)
 
 -- ---- what the history keeps
-
-none-kept : (reply : Reply) (o : Option Answer) → ((answer : Answer) → kept_answer reply answer ≡ None) → option_and_then (kept_answer reply) o ≡ None
-none-kept reply None h = refl
-none-kept reply (Some answer) h = h answer
 
 turned-kept : (sc : Scenario) (state : CoreState) (w number : ℕ) (reply : Reply) → turned_away sc state w number ≡ Some reply → (answer : Answer) → kept_answer reply answer ≡ None
 turned-kept sc state w number reply t answer = turned-cases sc state w number (λ r. kept_answer r answer ≡ None) reply refl refl refl t

@@ -21,6 +21,7 @@ use Rattle.auction_core.proofs.Cases.{all_spent, noted_as, take-cases}
 use Rattle.auction_core.proofs.QueryLemmas.{answered-number}
 use Rattle.auction_core.proofs.TakingLemmas.{task-noted}
 use Rattle.auction_core.proofs.TaskLemmas.{task-has}
+use Rattle.auction_core.proofs.Replays.{if-some}
 use Rattle.turn_lock.specs.Turns.{StartsWith}
 use Rattle.answer_board.specs.Entries.{entries_of}
 use Rattle.answer_board.specs.Posts.{HasStood, StandsOn, left_by}
@@ -50,10 +51,6 @@ take-goes sc book state p =
       more = λ receipt t f a n k. inr refl;
     })
 
-if-some : {A : Type 0} (b : Bool) (x y : A) → (if b then Some x else None) ≡ Some y → x ≡ y
-if-some true x y e = cc
-if-some false x y e = cc
-
 entry-goes : (sc : Scenario) (book : BookView) (state new : CoreState) (e : EntryView) (o : Option Answer) → after_entry sc book state e o ≡ Some new → Goes state new
 entry-goes sc book state new e (Some answer) s =
     let p : PostingView = record { worker = e.worker; number = e.number; answer = answer } in
@@ -72,7 +69,7 @@ replay-goes sc book (e ∷ es) state new s =
 
 -- ---- histories that go on
 
-replay-more : (sc : Scenario) (book : BookView) (es fs : List EntryView) (state : CoreState) → replay_from sc book (es ++ fs) state ≡ option_and_then (replay_from sc book fs) (replay_from sc book es state)
+pub replay-more : (sc : Scenario) (book : BookView) (es fs : List EntryView) (state : CoreState) → replay_from sc book (es ++ fs) state ≡ option_and_then (replay_from sc book fs) (replay_from sc book es state)
 replay-more sc book [] fs state = refl
 replay-more sc book (e ∷ es) fs state =
     elim (after_entry sc book state e e.answer) as (λ o. option_and_then (replay_from sc book (es ++ fs)) o ≡ option_and_then (replay_from sc book fs) (option_and_then (replay_from sc book es) o)) [
@@ -80,11 +77,11 @@ replay-more sc book (e ∷ es) fs state =
       | Some next ↦ replay-more sc book es fs next
     ]
 
-replay-rest : (sc : Scenario) (book : BookView) (es fs : List EntryView) (first old new : CoreState) → replay_from sc book es first ≡ Some old → replay_from sc book (es ++ fs) first ≡ Some new → replay_from sc book fs old ≡ Some new
+pub replay-rest : (sc : Scenario) (book : BookView) (es fs : List EntryView) (first old new : CoreState) → replay_from sc book es first ≡ Some old → replay_from sc book (es ++ fs) first ≡ Some new → replay_from sc book fs old ≡ Some new
 replay-rest sc book es fs first old new e f =
     sym (ap (λ o. option_and_then (replay_from sc book fs) o) e) ∙ (sym (replay-more sc book es fs first) ∙ f)
 
-entries-more : (xs ys : List (ℕ × EntryView)) → entries_of (xs ++ ys) ≡ entries_of xs ++ entries_of ys
+pub entries-more : (xs ys : List (ℕ × EntryView)) → entries_of (xs ++ ys) ≡ entries_of xs ++ entries_of ys
 entries-more [] ys = refl
 entries-more (x ∷ xs) ys = ap (λ l. x.1 ∷ l) (entries-more xs ys)
 

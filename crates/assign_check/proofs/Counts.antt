@@ -3,15 +3,17 @@ use Rattle.std.proofs.Common.{◌≡◌, ℕ, ◌+◌, ◌-◌, ◌<◌, ◌≤�
 use Rattle.std.specs.List.{list_any}
 use Rattle.std.proofs.lemmas.Bool.{and_parts, or_cases, or_parts, both_ways, false_from_ne_true, lt-ltb, true≢false}
 use Rattle.std.proofs.lemmas.List.Sums.{sum_by-cons}
+use Rattle.std.proofs.Math.Bool.{and-false}
 use Rattle.pack_defs.specs.declared.pair.Pair.{Pair}
 use Rattle.pack_defs.specs.Book.{BookView}
 use Rattle.pack_defs.specs.ChannelMap.{IsAscending, put}
 use Rattle.pack_defs.specs.Lists.{has_entry, has_station, same_entry}
 use Rattle.pack_defs.proofs.MapLemmas.{put-ascending}
+use Rattle.pack_defs.proofs.Words.{eq_swap}
 use Rattle.assign_check.specs.Fault.{is_violated}
 use Rattle.assign_check.specs.Violations.{IsCounted, is_of, violations, violations_of}
 use Rattle.assign_check.proofs.Moves.{has_station-more, station-fresh}
-use Rattle.assign_check.proofs.Violations.{eq_swap, from_own, is_violated_from, own-channel, station-has}
+use Rattle.assign_check.proofs.Violations.{from_own, is_violated_from, own-channel, station-has}
 
 -- ---- counts of any list
 
@@ -110,11 +112,6 @@ station-fewer book entries s = counts-fewer (is_of s) (is_violated entries) book
 -- an entry of another station stands as before
 other-step : (x y z : ℕ × ℕ) (b : Bool) → (x.0 == z.0) ≡ false → (same_entry x z || b) ≡ b
 other-step x y z b other = ap (λ c. (c && (x.1 == z.1)) || b) other
-
-swap_or : (a b c : Bool) → (a || (b || c)) ≡ (b || (a || c))
-swap_or true true c = refl
-swap_or true false c = refl
-swap_or false b c = refl
 
 pub put-other : (x z : ℕ × ℕ) (xs : List (ℕ × ℕ)) → (x.0 == z.0) ≡ false → has_entry (put x xs) z ≡ has_entry xs z
 put-other x z [] other = other-step x x z false other
@@ -241,16 +238,12 @@ one-more entries pairs i a l =
     ap (λ b. one_if (b && is_violated entries p)) (has_station-more entries i p.f (0, 0) l ∙ ap (λ b. has_station (take i entries) p.f || b) (eq_swap x.0 p.f))
     ∙ more-test (has_station (take i entries) p.f) (p.f == x.0) (is_violated entries p) (λ h. station-fresh entries i p.f (0, 0) a l h))
 
-and_false : (b : Bool) → (b && false) ≡ false
-and_false true = refl
-and_false false = refl
-
 -- and all of them, at the end
 all-test : (entries : List (ℕ × ℕ)) (p : Pair) → (has_station entries p.f && is_violated entries p) ≡ is_violated entries p
 all-test entries p =
     (elim (is_violated entries p) as (λ b. is_violated entries p ≡ b → (has_station entries p.f && b) ≡ b) [
       | true ↦ λ v. ap (λ b. b && true) (station-has entries (p.f, p.a) (and_parts (has_entry entries (p.f, p.a)) (has_entry entries (p.g, p.b)) v).0)
-      | false ↦ λ v. and_false (has_station entries p.f)
+      | false ↦ λ v. and-false (has_station entries p.f)
     ]) refl
 
 pub all-among : (book : BookView) (entries : List (ℕ × ℕ)) (i : ℕ) → length entries ≤ i → count_by (violated_among entries i) book.pairs ≡ violations book entries

@@ -1,8 +1,9 @@
 -- An ascending map in which a station moves, and its stations one by one.
-use Rattle.std.proofs.Common.{◌≡◌, ℕ, zero, suc, ◌+◌, ◌<◌, Bool, true, false, ◌==◌, ◌||◌, List, [], ◌∷◌, map, take, set, length, get_or, inl, inr, refl, sym, ap, ◌∙◌, arith, eqb-true, ne_eqb}
+use Rattle.std.proofs.Common.{◌≡◌, ℕ, zero, suc, ◌+◌, ◌<◌, true, false, ◌==◌, ◌||◌, List, [], ◌∷◌, map, take, set, length, get_or, inl, inr, sym, ap, ◌∙◌, arith, eqb-true, ne_eqb}
 use Rattle.std.proofs.lemmas.Bool.{or_cases}
 use Rattle.std.proofs.lemmas.List.{get_or_default, take_more}
 use Rattle.std.proofs.lemmas.List.Folds.{list_any-append}
+use Rattle.std.proofs.Math.Bool.{or-false}
 use Rattle.pack_defs.specs.ChannelMap.{IsAscending, put}
 use Rattle.pack_defs.specs.Lists.{has_station}
 use Rattle.pack_defs.proofs.MapLemmas.{put-behind, put-here, stations}
@@ -49,12 +50,8 @@ station-fresh (y ∷ ys) (suc i) s d a l h =
       | inr later ↦ station-fresh ys i s d (ascending-rest y.0 (stations ys) a) (omega arith) later
     ]
 
-or_false : (b : Bool) → (b || false) ≡ b
-or_false true = refl
-or_false false = refl
-
 -- the stations up to a place, one more
 pub has_station-more : (xs : List (ℕ × ℕ)) (i s : ℕ) (d : ℕ × ℕ) → i < length xs → has_station (take (i + 1) xs) s ≡ (has_station (take i xs) s || ((get_or xs i d).0 == s))
 has_station-more xs i s d l =
     ap (λ es. has_station es s) (take_more xs i d l) ∙ list_any-append (λ y. y.0 == s) (take i xs) (get_or xs i d ∷ [])
-    ∙ ap (λ b. has_station (take i xs) s || b) (or_false ((get_or xs i d).0 == s))
+    ∙ ap (λ b. has_station (take i xs) s || b) (or-false ((get_or xs i d).0 == s))

@@ -4,14 +4,13 @@ use Rattle.std.specs.List.{list_any}
 use Rattle.std.specs.List.Sorted.{IsNonDecreasingBy}
 use Rattle.std.specs.Option.{option_eq}
 use Rattle.std.proofs.lemmas.Bool.{and_parts, or_cases, or_parts, or_from, both_ways, cases_Bool, cond-true, cond-false, false_from_ne_true}
-use Rattle.std.proofs.lemmas.Bool.Decides.{nat_tests}
 use Rattle.std.proofs.lemmas.List.{take_more, take_all}
 use Rattle.std.proofs.lemmas.List.Folds.{list_any-append}
 use Rattle.pack_defs.specs.declared.pair.Pair.{Pair}
 use Rattle.pack_defs.specs.ChannelMap.{IsAscending, channel_of}
 use Rattle.pack_defs.specs.Lists.{has_entry, has_station}
 use Rattle.pack_defs.proofs.Members.{Contains-here, Contains-there, Contains-filter, Contains-from_filter, list_any-from}
-use Rattle.pack_defs.proofs.Words.{below-later, ascending-rest, list_any-from_each, list_any-map, station-in}
+use Rattle.pack_defs.proofs.Words.{below-later, ascending-rest, list_any-from_each, list_any-map, station-in, eq_swap}
 use Rattle.assign_check.specs.Fault.{is_violated}
 use Rattle.assign_check.proofs.Faultless.{found-none, none-found}
 use Rattle.assign_check.proofs.Finds.{stands-exactly, stands-only}
@@ -19,9 +18,6 @@ use Rattle.assign_check.proofs.Finds.{stands-exactly, stands-only}
 -- the pair is on this entry's channel, and its other entry stands in the map
 abbrev pub is_violated_from : List (ℕ × ℕ) → ℕ × ℕ → Pair → Bool
 is_violated_from entries own p = (p.a == own.1) && has_entry entries (p.g, p.b)
-
-pub eq_swap : (a b : ℕ) → (a == b) ≡ (b == a)
-eq_swap a b = grind (arith, nat_tests)
 
 -- an entry's station has no other channel
 pub own-channel : (entries : List (ℕ × ℕ)) (own : ℕ × ℕ) (c : ℕ) → IsAscending entries → has_entry entries own ≡ true → has_entry entries (own.0, c) ≡ (c == own.1)

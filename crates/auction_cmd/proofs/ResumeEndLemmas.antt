@@ -1,9 +1,10 @@
 -- How `resume` ends, from what its parts did; and what a beginning that is gone on from says of the start.
-use Rattle.std.proofs.Common.{◌≡◌, ◌⊎◌, ◌≤◌, ◌∙◌, ◌||◌, ◌++◌, ℕ, Bool, true, false, inl, inr, List, if◌then◌else◌, refl, sym, ap, ap₂, subst, append_assoc, arith}
+use Rattle.std.proofs.Common.{◌≡◌, ◌⊎◌, ◌≤◌, ◌∙◌, ◌++◌, ℕ, Bool, true, false, inl, inr, List, if◌then◌else◌, refl, sym, ap, subst, append_assoc, arith}
 use Rattle.std.specs.Prelude.{Option, Some, None, Ok, Err, Result, MatchOption, nat_le, ⊤}
 use Rattle.std.specs.List.{list_any}
 use Rattle.std.proofs.lemmas.Bool.Decides.{nat_tests}
 use Rattle.std.proofs.lemmas.List.Folds.{list_any-append}
+use Rattle.std.proofs.lemmas.Bool.{or_from}
 use Rattle.outside_io.specs.Files.{StoredFile}
 use Rattle.outside_io.specs.declared.folder.LoadErr.{LoadErr}
 use Rattle.outside_io.specs.declared.folder.LoadErr.TheVariants.{Failed, TooLong, NoMemory as NoLoad}
@@ -101,9 +102,6 @@ start-kept : (o : Option Shown) (rec : Record) → ((shown : Shown) → o ≡ So
 start-kept None rec h = tt
 start-kept (Some shown) rec h = h shown refl
 
-none-of : (a b : Bool) → a ≡ false → b ≡ false → (a || b) ≡ false
-none-of a b e f = ap₂ (λ x y. x || y) e f
-
 -- a record that goes on from where the auction stood goes on from what was kept
 pub goes-from : (inputs : Inputs) (kept : Prefix) (auction : AuctionView) (rec : Record) → IsAuction inputs.scenario inputs.book → StandsBehind inputs kept auction → GoesOnIn auction.state rec → GoesOnFrom kept rec
 goes-from inputs kept auction rec a behind goes =
@@ -119,7 +117,7 @@ goes-from inputs kept auction rec a behind goes =
       start = start-kept kept.start rec (λ shown is. h.start shown (g.start shown is));
       more = g.more ++ h.more;
       steps = h.steps ∙ (ap (λ xs. xs ++ h.more) g.steps ∙ append_assoc steps g.more h.more);
-      own = list_any-append outside_step g.more h.more ∙ none-of (list_any outside_step g.more) (list_any outside_step h.more) g.own h.own;
+      own = list_any-append outside_step g.more h.more ∙ or_from (list_any outside_step g.more) (list_any outside_step h.more) g.own h.own;
     }
 
 -- the end where the auction goes on

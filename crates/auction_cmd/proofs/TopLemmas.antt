@@ -15,6 +15,7 @@ use Rattle.pack_defs.specs.Prices.{bidders, declines, start_set}
 use Rattle.pack_defs.specs.Scenario.{IsWithinLimits, StationsAscend, facilities}
 use Rattle.pack_defs.specs.declared.order.Order.{Order}
 use Rattle.pack_defs.specs.declared.scenario.Scenario.{Scenario}
+use Rattle.pack_defs.proofs.ComponentLaws.{filter_no_longer}
 use Rattle.auction_core.specs.Setup.{IsOfAuction}
 use Rattle.auction_core.specs.declared.record.Ending.{Ending}
 use Rattle.auction_core.specs.declared.record.Ending.TheVariants.{Done, StartRefuted, StartUndecided}
@@ -22,7 +23,7 @@ use Rattle.auction_core.specs.declared.record.Record.{Record}
 use Rattle.auction_core.specs.Backed.{undecided_of}
 use Rattle.scenario_json.specs.Joined.{joined}
 use Rattle.scenario_json.specs.StartOnly.{start_only}
-use Rattle.scenario_json.proofs.StartLemmas.{keeps-all, kept_at_most, only-facilities, only-joined, only-limits, only-starts}
+use Rattle.scenario_json.proofs.StartLemmas.{keeps-all, only-facilities, only-joined, only-limits, only-starts}
 use Rattle.target_seek.specs.Tops.{AreTrue, AskedTop, IsTrueAt, SeekBase, WasTold, book_at, fits_at}
 use Rattle.target_seek.specs.declared.top_test.TopAnswer.{TopAnswer}
 use Rattle.target_seek.specs.declared.top_test.TopAnswer.TheVariants.{Fits, Unfit, Open}
@@ -82,7 +83,7 @@ nobody p (x ∷ xs) e =
           rw t (nobody p xs rest)
       | inr f ↦
           let fewer : filter p xs ≡ x ∷ xs = rw f at e in
-          let most = kept_at_most p xs in
+          let most = filter_no_longer p xs in
           let same = ap length fewer in
           absurd (omega (arith, most, same))
     ]

@@ -56,7 +56,7 @@ abbrev Leads : Scenario → BookView → CoreState → Posting → Reply → Cor
 Leads sc book state posting reply new =
     after_entry sc book state (entry_told posting reply) (option_and_then (kept_answer reply) (let_through posting.said)) ≡ Some new
 
-none-kept : (reply : Reply) (o : Option Answer) → ((answer : Answer) → kept_answer reply answer ≡ None) → option_and_then (kept_answer reply) o ≡ None
+pub none-kept : (reply : Reply) (o : Option Answer) → ((answer : Answer) → kept_answer reply answer ≡ None) → option_and_then (kept_answer reply) o ≡ None
 none-kept reply None h = refl
 none-kept reply (Some answer) h = h answer
 

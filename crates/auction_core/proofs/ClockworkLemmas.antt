@@ -1,5 +1,5 @@
 -- An auction between two queries, as the program keeps it.
-use Rattle.std.proofs.Common.{◌≡◌, ◌∙◌, ℕ, zero, suc, ◌+◌, ◌-◌, ◌*◌, ◌<◌, ◌≤◌, ◌^◌, Bool, true, false, not, ◌&&◌, cond, inl, inr, List, [], ◌∷◌, length, map, filter, Option, Some, None, is_none, option_map, refl, sym, ap, subst, arith, nat_le, length-append}
+use Rattle.std.proofs.Common.{◌≡◌, ◌∙◌, ℕ, zero, suc, ◌+◌, ◌-◌, ◌*◌, ◌<◌, ◌≤◌, ◌^◌, true, false, not, ◌&&◌, cond, inl, inr, List, [], ◌∷◌, length, map, Option, Some, None, is_none, option_map, refl, sym, ap, subst, arith, nat_le, length-append}
 use Rattle.std.specs.Option.{option_map_or}
 use Rattle.std.proofs.lemmas.Bool.{and_parts, both_ways, cond-false, le-leb, leb-true}
 use Rattle.std.proofs.lemmas.List.{length-map}
@@ -13,6 +13,7 @@ use Rattle.pack_defs.specs.declared.scenario.Scenario.{Scenario}
 use Rattle.pack_defs.specs.declared.station.Station.{Station}
 use Rattle.pack_defs.proofs.Falls.{rounds-within}
 use Rattle.pack_defs.proofs.Turns.{turns-length}
+use Rattle.pack_defs.proofs.ComponentLaws.{filter_no_longer}
 use Rattle.auction_core.specs.declared.record.Shown.{Shown}
 use Rattle.auction_core.specs.Clockwork.{IsClockwork}
 use Rattle.auction_core.specs.Course.{CourseView, IsAtRest, IsCourse, IsDue, IsSettled, core_state, is_roomy, left_of, next_test, tests_left, turns_left}
@@ -35,17 +36,9 @@ tests-most xs r (suc n) few =
     let both = length-append (map test xs) (tests_of xs (r + 1) n) in
     omega (arith, one, rest, both, few)
 
-kept_at_most : (p : ℕ → Bool) (xs : List ℕ) → length (filter p xs) ≤ length xs
-kept_at_most p [] = omega arith
-kept_at_most p (x ∷ xs) =
-    elim (p x) as (λ b. length (cond b (x ∷ filter p xs) (filter p xs)) ≤ length (x ∷ xs)) [
-      | true ↦ let rest = kept_at_most p xs in omega (arith, rest)
-      | false ↦ let rest = kept_at_most p xs in omega (arith, rest)
-    ]
-
 tests-few : (sc : Scenario) (order : Order) → IsWithinLimits sc → length (clock_tests sc order) ≤ 8200192
 tests-few sc order l =
-    let bids = kept_at_most (λ f. not (declines sc f 0)) (turns sc order) in
+    let bids = filter_no_longer (λ f. not (declines sc f 0)) (turns sc order) in
     let each = turns-length sc order in
     let all = length-map sc.stations (λ (x : Station). x.id) in
     let stations = l.stations in

@@ -136,7 +136,7 @@ get_or-set_other (x ∷ xs) (suc i) zero n d other = refl
 get_or-set_other (x ∷ xs) (suc i) (suc k) n d other = get_or-set_other xs i k n d (λ e. other (ap suc e))
 
 -- a number has one place in a list that rises
-one-place : (xs : List ℕ) (i k : ℕ) → IsStrictlyIncreasing xs → i < length xs → k < length xs → get_or xs i 0 ≡ get_or xs k 0 → i ≡ k
+pub one-place : (xs : List ℕ) (i k : ℕ) → IsStrictlyIncreasing xs → i < length xs → k < length xs → get_or xs i 0 ≡ get_or xs k 0 → i ≡ k
 one-place xs i k up a b e =
     let less = AllPairs-from_increasing xs up in
     elim (cases_lt i k) [

@@ -1,7 +1,7 @@
 -- A map overwritten on a component of the stations on air stays clean.
 use Rattle.std.proofs.Common.{◌≡◌, ℕ, ◌<◌, Bool, true, false, cond, ◌==◌, nat_lt, if◌then◌else◌, List, [], ◌∷◌, map, Some, unwrap_or, refl, sym, ap, ◌∙◌, subst, ⊎_elim, inl, inr, eqb-true, eq-eqb, ne_eqb, arith, ◌⊎◌}
 use Rattle.std.proofs.lemmas.Bool.{and_parts, and_from, or_cases, or_left, or_right, both_ways, cases_order, lt-ltb, ltb-false, false≢true}
-use Rattle.pack_defs.specs.ChannelMap.{channel_of, put, overlaid}
+use Rattle.pack_defs.specs.ChannelMap.{channel_of, put}
 use Rattle.pack_defs.specs.Lists.{is_in, is_ascending, has_entry, same_entry}
 use Rattle.auction_core.specs.State.{restricted}
 use Rattle.pack_defs.proofs.Words.{below-later, ascending-rest, station-in}
@@ -96,7 +96,3 @@ put-ascending x (y ∷ ys) a =
       ]
     ] in
     go (nat_lt x.0 y.0) (x.0 == y.0) refl refl
-
-pub overlaid-ascending : (m d : List (ℕ × ℕ)) → is_ascending (map (λ y. y.0) m) ≡ true → is_ascending (map (λ y. y.0) (overlaid m d)) ≡ true
-overlaid-ascending m [] a = a
-overlaid-ascending m (x ∷ xs) a = overlaid-ascending (put x m) xs (put-ascending x m a)

@@ -1,5 +1,5 @@
 -- The entries of the stations that have a channel at their place.
-use Rattle.std.proofs.Common.{◌≡◌, ℕ, zero, suc, ◌+◌, ◌<◌, ◌≤◌, true, false, ◌==◌, nat_lt, List, [], ◌∷◌, ◌++◌, map, drop, length, get_or, slice_set, Option, Some, None, MatchOption, Result, Ok, Err, refl, sym, ap, ◌∙◌, subst, arith, eq-eqb, ne_eqb, append_assoc, append-nil}
+use Rattle.std.proofs.Common.{◌≡◌, ℕ, zero, suc, ◌+◌, ◌<◌, ◌≤◌, true, false, ◌==◌, nat_lt, List, [], ◌∷◌, ◌++◌, drop, length, get_or, slice_set, Option, Some, None, MatchOption, Result, Ok, Err, refl, sym, ap, ◌∙◌, subst, arith, eq-eqb, ne_eqb, append_assoc, append-nil}
 use Rattle.std.specs.List.Sorted.{IsBinarySearchResult, IsSearchInRange}
 use Rattle.std.specs.Ordering.{nat_cmp}
 use Rattle.std.specs.Result.{result_ok}
@@ -9,15 +9,11 @@ use Rattle.std.proofs.Math.ListN.{drop_of_length-le}
 use Rattle.pack_defs.specs.ChannelMap.{IsAscending, channel_of, overlaid, put}
 use Rattle.pack_defs.specs.Lists.{has_station, is_ascending, is_in}
 use Rattle.pack_defs.proofs.Chains.{ascending-skip}
-use Rattle.pack_defs.proofs.MapLemmas.{channel_of-none, put-before, put-behind, put-here}
+use Rattle.pack_defs.proofs.MapLemmas.{channel_of-none, put-before, put-behind, put-here, stations}
 use Rattle.pack_defs.proofs.Members.{is_in-from}
 use Rattle.pack_defs.proofs.Searches.{found-key, found-number}
 use Rattle.pack_defs.proofs.Words.{ascending-rest, below-later}
 use Rattle.auction_core.specs.AirMap.{placed_entries}
-
--- the stations of a map
-abbrev pub stations : List (ℕ × ℕ) → List ℕ
-stations xs = map (λ x. x.0) xs
 
 -- ---- a search for a place
 

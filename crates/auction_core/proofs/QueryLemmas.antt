@@ -15,6 +15,7 @@ use Rattle.pack_defs.specs.Scenario.{facilities}
 use Rattle.pack_defs.specs.ClockRule.{ClockTest, asked_set, clock_tests, is_active, is_on_air, on_air_set}
 use Rattle.pack_defs.proofs.Members.{Contains-filter, Contains-from_filter, Contains-from_map, Contains-nil, is_in-from, is_in-gives, list_all-from, list_any-from}
 use Rattle.pack_defs.proofs.Words.{ascending-from}
+use Rattle.pack_defs.proofs.Chains.{ascending-filter}
 use Rattle.assign_check.specs.declared.fault.MapFault.TheVariants.{Violates}
 use Rattle.assign_check.specs.Fault.{extra, first_fault, is_violated, missing, off_domain, violation}
 use Rattle.assign_check.proofs.Faultless.{faultless, on-stations}
@@ -27,7 +28,7 @@ use Rattle.auction_core.specs.Course.{CourseView, core_state, is_roomy}
 use Rattle.auction_core.specs.Rule.{IsQuery as IsNext, KeepsTheRule}
 use Rattle.auction_core.specs.Setup.{IsOfAuction, SetupView}
 use Rattle.auction_core.specs.State.{CoreState, answered, first_task, go_on, has_ended, is_same, past_first, queries_left, restricted, settled, settled_unasked, shows_room, start_task, start_unasked, started, task_of, test_task}
-use Rattle.auction_core.proofs.Answers.{component-ascending, filter-ascending, filter-in, in-filter}
+use Rattle.auction_core.proofs.Answers.{component-ascending, filter-in, in-filter}
 use Rattle.auction_core.proofs.ClockworkLemmas.{first_state, go_on-fewer, started-start}
 use Rattle.auction_core.proofs.Keeps.{go-on-start, task-is}
 use Rattle.auction_core.proofs.Kept.{IsAtStart, IsUnderWay, Stands, match-false, match-true, rule-kept}
@@ -66,7 +67,7 @@ none-violated (p ∷ ps) = none-violated ps
 
 start-query : (sc : Scenario) (book : BookView) (state : CoreState) → IsOfAuction sc book → start_unasked sc book ≡ None → MayBeAsked book (start_task sc state.number)
 start-query sc book state a h =
-    from-parts book state.number 0 None (start_set sc) [] (filter-ascending (λ f. declines sc f 0) (facilities sc) (ascending-from (facilities sc) a.limits.ascend)) (start-channels sc book h) refl (ap (option_map Violates) (none-violated book.pairs)) refl
+    from-parts book state.number 0 None (start_set sc) [] (ascending-filter (λ f. declines sc f 0) (facilities sc) (ascending-from (facilities sc) a.limits.ascend)) (start-channels sc book h) refl (ap (option_map Violates) (none-violated book.pairs)) refl
 
 -- ---- the query of a test
 
@@ -144,7 +145,7 @@ asks-channel sc book state t e =
 test-query : (sc : Scenario) (book : BookView) (state : CoreState) (t : ClockTest) → IsOfAuction sc book → IsClean book state.map → map (λ x. x.0) state.map ≡ on_air_set sc state.clock → is_empty (domain_of book t.station) ≡ false → MayBeAsked book (test_task sc book state t)
 test-query sc book state t a clean stations own =
     let set : List ℕ = component book (asked_set sc state.clock t.station) t.station in
-    let rises = component-ascending book (asked_set sc state.clock t.station) t.station (filter-ascending (λ f. is_on_air state.clock f || (f == t.station)) (facilities sc) (ascending-from (facilities sc) a.limits.ascend)) in
+    let rises = component-ascending book (asked_set sc state.clock t.station) t.station (ascending-filter (λ f. is_on_air state.clock f || (f == t.station)) (facilities sc) (ascending-from (facilities sc) a.limits.ascend)) in
     let channels : has_channels book set ≡ true = list_all-from (λ s. not (is_empty (domain_of book s))) set (λ s listed. ap not (asked-channel sc book state t s clean stations own (is_in-from set s listed))) in
     let on : is_on_domains book set (restricted state.map set) ≡ true = list_all-from (λ (x : ℕ × ℕ). is_in set x.0 && is_in (domain_of book x.0) x.1) (restricted state.map set) (λ x listed.
     let parts = Contains-from_filter (λ (x : ℕ × ℕ). is_in set x.0) state.map x listed in

@@ -21,6 +21,8 @@ use Rattle.cert_types.specs.declared.task.Task.{Task}
 use Rattle.cert_types.specs.declared.answer.Answer.TheVariants.{Refuted as Refutes'}
 use Rattle.cert_types.specs.declared.answer.Refutation.{Refutation}
 use Rattle.pack_defs.specs.declared.worker.Worker.{Worker}
+use Rattle.pack_defs.proofs.Chains.{ascending-filter}
+use Rattle.pack_defs.proofs.MapLemmas.{overlaid-ascending}
 use Rattle.cert_types.specs.Refutes.{Refutes, ByStation}
 use Rattle.cert_types.specs.Valid.{IsValid}
 use Rattle.assign_check.specs.Fault.{IsCleanOn}
@@ -32,9 +34,8 @@ use Rattle.auction_core.specs.State.{CoreState, restricted, test_task, shows_roo
 use Rattle.auction_core.specs.Backed.{is_undecided, IsValidOf, IsSettledBy, IsStepShown}
 use Rattle.auction_core.specs.Rule.{IsAuction}
 use Rattle.auction_core.specs.Walked.{FitsStand}
-use Rattle.auction_core.proofs.Overlay.{overlaid-ascending}
 use Rattle.auction_core.proofs.Merged.{restricted-ascending, IsTest, merged-clean, merged-stations}
-use Rattle.auction_core.proofs.Answers.{filter-in, in-filter, filter-ascending, component-ascending, clean-fits}
+use Rattle.auction_core.proofs.Answers.{filter-in, in-filter, component-ascending, clean-fits}
 use Rattle.auction_core.proofs.Sets.{step_of, delta-fits, unasked-cases}
 
 -- a clean map of the stations on air, and a station of the scenario that isn't on air
@@ -49,11 +50,11 @@ pub record IsReady (sc : Scenario) (book : BookView) (state : CoreState) (s : �
 
 on-air-rises : (sc : Scenario) (book : BookView) (state : CoreState) (s : ℕ) → IsReady sc book state s → is_ascending (map (λ x. x.0) state.map) ≡ true
 on-air-rises sc book state s r =
-    subst (λ xs. is_ascending xs ≡ true) (sym r.stations) (filter-ascending (λ f. is_on_air state.clock f) (facilities sc) (ascending-from (facilities sc) r.auction.stations))
+    subst (λ xs. is_ascending xs ≡ true) (sym r.stations) (ascending-filter (λ f. is_on_air state.clock f) (facilities sc) (ascending-from (facilities sc) r.auction.stations))
 
 asked-rises : (sc : Scenario) (book : BookView) (state : CoreState) (s : ℕ) → IsReady sc book state s → is_ascending (asked_set sc state.clock s) ≡ true
 asked-rises sc book state s r =
-    filter-ascending (λ f. is_on_air state.clock f || (f == s)) (facilities sc) (ascending-from (facilities sc) r.auction.stations)
+    ascending-filter (λ f. is_on_air state.clock f || (f == s)) (facilities sc) (ascending-from (facilities sc) r.auction.stations)
 
 asked-has : (sc : Scenario) (book : BookView) (state : CoreState) (s : ℕ) → IsReady sc book state s → is_in (asked_set sc state.clock s) s ≡ true
 asked-has sc book state s r =

@@ -4,7 +4,7 @@ use Rattle.std.specs.Option.{option_map_or}
 use Rattle.std.proofs.lemmas.Bool.{and_parts, or_cases, or_left, or_right, both_ways, false_from_ne_true, cases_eq, cond-true, cond-false}
 use Rattle.std.proofs.lemmas.List.Folds.{list_any-append}
 use Rattle.pack_defs.proofs.Members.{is_in-gives, is_in-from, Contains-filter, Contains-from_filter}
-use Rattle.pack_defs.proofs.Words.{ascending-from, same-ascending, list_any-map}
+use Rattle.pack_defs.proofs.Words.{ascending-from, same-ascending, list_any-map, swap_or}
 use Rattle.pack_defs.proofs.ComponentLaws.{component-gives, component-from, component-within}
 use Rattle.pack_defs.proofs.ClockSteps.{is_in-without}
 use Rattle.pack_defs.specs.Book.{BookView, domain_of}
@@ -15,6 +15,7 @@ use Rattle.pack_defs.specs.Scenario.{facilities}
 use Rattle.pack_defs.specs.Components.{Reaches}
 use Rattle.pack_defs.specs.Components.Reaches.{here, next}
 use Rattle.pack_defs.specs.ClockRule.{ClockTest, ClockState, OnAirSince, opening_state, is_active, is_on_air, asked_set, freezes, goes_on_air, exits, after_answer}
+use Rattle.pack_defs.proofs.Chains.{ascending-filter}
 use Rattle.assign_check.specs.Fault.{IsCleanOn}
 use Rattle.auction_core.specs.declared.record.Shown.{Shown}
 use Rattle.auction_core.specs.declared.record.Shown.TheVariants.{Empty, Fits, Same, NoChannel, Refuted, Outside, Undecided}
@@ -23,7 +24,7 @@ use Rattle.auction_core.specs.State.{CoreState, test_of, shows_room, fit_of, las
 use Rattle.auction_core.specs.Backed.{IsSettledBy, IsStepShown}
 use Rattle.auction_core.specs.Rule.{IsAuction}
 use Rattle.auction_core.specs.Walked.{FitsStand, IsFitKept, clock_after}
-use Rattle.auction_core.proofs.Answers.{filter-in, filter-ascending, component-ascending}
+use Rattle.auction_core.proofs.Answers.{filter-in, component-ascending}
 use Rattle.auction_core.proofs.Overlay.{its-channel}
 use Rattle.auction_core.proofs.Merged.{interferes-back}
 
@@ -147,7 +148,7 @@ own-test sc c t true h =
 
 pub tested-rises : (sc : Scenario) (book : BookView) (c : ClockState) (s : ℕ) → IsAuction sc book → is_ascending (tested_set sc book c s) ≡ true
 tested-rises sc book c s a =
-    component-ascending book (asked_set sc c s) s (filter-ascending (λ f. is_on_air c f || (f == s)) (facilities sc) (ascending-from (facilities sc) a.stations))
+    component-ascending book (asked_set sc c s) s (ascending-filter (λ f. is_on_air c f || (f == s)) (facilities sc) (ascending-from (facilities sc) a.stations))
 
 pub asked-more : (sc : Scenario) (c d : ClockState) (s : ℕ) → IsLater c d → (z : ℕ) → Contains (asked_set sc c s) z → Contains (asked_set sc d s) z
 asked-more sc c d s later z h =
@@ -188,11 +189,6 @@ twice true false r e = refl
 twice false true r e = cc
 twice false false r e = refl
 
-swap : (a b r : Bool) → (a || (b || r)) ≡ (b || (a || r))
-swap true true r = refl
-swap true false r = refl
-swap false b r = refl
-
 put-has : (x : ℕ × ℕ) (m : List (ℕ × ℕ)) (z : ℕ) → has_station (put x m) z ≡ ((x.0 == z) || has_station m z)
 put-has x [] z = refl
 put-has x (y ∷ ys) z =
@@ -201,7 +197,7 @@ put-has x (y ∷ ys) z =
       | true ↦ λ e. refl
       | false ↦ elim b as (λ b. (x.0 == y.0) ≡ b → has_station (if b then x ∷ ys else y ∷ put x ys) z ≡ ((x.0 == z) || ((y.0 == z) || has_station ys z))) [
         | true ↦ λ e. twice (x.0 == z) (y.0 == z) (has_station ys z) (ap (λ w. w == z) (eqb-true x.0 y.0 e))
-        | false ↦ λ e. ap (λ b. (y.0 == z) || b) (put-has x ys z) ∙ swap (y.0 == z) (x.0 == z) (has_station ys z)
+        | false ↦ λ e. ap (λ b. (y.0 == z) || b) (put-has x ys z) ∙ swap_or (y.0 == z) (x.0 == z) (has_station ys z)
       ]
     ] in
     go (nat_lt x.0 y.0) (x.0 == y.0) refl

@@ -27,7 +27,7 @@ use Rattle.auction_core.proofs.Done.{AreListed, asked-apart, listed-shown, done-
 use Rattle.auction_core.specs.declared.transcript.Transcript.{Transcript}
 use Rattle.auction_core.specs.NotShown.{start_fault, steps_fault, not_shown}
 use Rattle.auction_core.specs.LogNumbers.{steps_in, AreNumbered}
-use Rattle.auction_core.proofs.StepLemmas.{unless-from, absurd-place, clean-fit}
+use Rattle.auction_core.proofs.StepLemmas.{absurd-place, clean-fit}
 use Rattle.auction_core.proofs.WalkLemmas.{step_or-parts, followed, ruled}
 
 -- ---- the start

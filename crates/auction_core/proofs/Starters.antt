@@ -13,6 +13,7 @@ use Rattle.pack_defs.specs.Prices.{declines, start_set}
 use Rattle.pack_defs.specs.ClockRule.{ClockState, ClockTest, OnAirSince, goes_on_air, is_on_air, opening_state}
 use Rattle.pack_defs.proofs.Members.{Contains-from_filter, is_in-from}
 use Rattle.pack_defs.proofs.Words.{list_any-map}
+use Rattle.pack_defs.proofs.OneRow.{start_entry}
 use Rattle.auction_core.specs.declared.clock.Standing.{Standing}
 use Rattle.auction_core.specs.Clock.{AreStandings, stands_on_air}
 use Rattle.auction_core.specs.Past.{PastView}
@@ -23,17 +24,13 @@ use Rattle.auction_core.proofs.ClockLemmas.{is_on_air_at}
 use Rattle.auction_core.proofs.Since.{joined-parts}
 use Rattle.auction_core.proofs.StartLemmas.{starts-more}
 
--- a station on air from the start
-abbrev starter : ℕ → OnAirSince
-starter s = record { station = s; round = 0 }
-
 -- those of the first so many stations that start on air
 abbrev starters : Scenario → ℕ → List ℕ
 starters sc i = filter (λ s. declines sc s 0) (take i (facilities sc))
 
 -- the opening, had only these gone on air
 abbrev pub aired : Scenario → ℕ → ClockState
-aired sc i = record (opening_state sc) { on_air = map starter (starters sc i) }
+aired sc i = record (opening_state sc) { on_air = map start_entry (starters sc i) }
 
 -- the parts hang on the list of those on air alone
 parts-same : (sc : Scenario) (book : BookView) (a b : ClockState) (parts : PartsView) → a.on_air ≡ b.on_air → IsPartsOf sc book a parts → IsPartsOf sc book b parts
@@ -73,7 +70,7 @@ known-at sc i inside = is_in-from (facilities sc) (get_or (facilities sc) i 0) (
 starts-by : (sc : Scenario) (standings : List Standing) (i : ℕ) (d : Standing) → AreStandings sc (opening_state sc) standings → i < length sc.stations → declines sc (get_or (facilities sc) i 0) 0 ≡ stands_on_air (get_or standings i d)
 starts-by sc standings i d are inside =
     let f : ℕ = get_or (facilities sc) i 0 in
-    sym (list_any-map (λ (x : OnAirSince). x.station == f) starter (start_set sc) ∙ member-passes (λ s. declines sc s 0) (facilities sc) f (known-at sc i inside))
+    sym (list_any-map (λ (x : OnAirSince). x.station == f) start_entry (start_set sc) ∙ member-passes (λ s. declines sc s 0) (facilities sc) f (known-at sc i inside))
     ∙ is_on_air_at i f d are inside refl
 
 -- a number of a list that rises is not among those before it
@@ -90,16 +87,16 @@ not-before (x ∷ xs) (suc i) up inside =
 -- one that doesn't start on air
 pub passed-list : (sc : Scenario) (standings : List Standing) (i : ℕ) (d : Standing) → AreStandings sc (opening_state sc) standings → i < length sc.stations → stands_on_air (get_or standings i d) ≡ false → (aired sc (i + 1)).on_air ≡ (aired sc i).on_air
 passed-list sc standings i d are inside off =
-    ap (map starter) (starts-more sc i inside ∙ (ap (λ z. starters sc i ++ z) (cond-false _ _ _ (starts-by sc standings i d are inside ∙ off)) ∙ append-nil (starters sc i)))
+    ap (map start_entry) (starts-more sc i inside ∙ (ap (λ z. starters sc i ++ z) (cond-false _ _ _ (starts-by sc standings i d are inside ∙ off)) ∙ append-nil (starters sc i)))
 
 pub aired-passed : (sc : Scenario) (book : BookView) (standings : List Standing) (i : ℕ) (d : Standing) (parts : PartsView) → AreStandings sc (opening_state sc) standings → i < length sc.stations → stands_on_air (get_or standings i d) ≡ false → IsPartsOf sc book (aired sc i) parts → IsPartsOf sc book (aired sc (i + 1)) parts
 aired-passed sc book standings i d parts are inside off h = parts-same sc book (aired sc i) (aired sc (i + 1)) parts (sym (passed-list sc standings i d are inside off)) h
 
 -- one that does
-pub taken-list : (sc : Scenario) (standings : List Standing) (i : ℕ) (d : Standing) → AreStandings sc (opening_state sc) standings → i < length sc.stations → stands_on_air (get_or standings i d) ≡ true → (aired sc (i + 1)).on_air ≡ (aired sc i).on_air ++ starter (get_or (facilities sc) i 0) ∷ []
+pub taken-list : (sc : Scenario) (standings : List Standing) (i : ℕ) (d : Standing) → AreStandings sc (opening_state sc) standings → i < length sc.stations → stands_on_air (get_or standings i d) ≡ true → (aired sc (i + 1)).on_air ≡ (aired sc i).on_air ++ start_entry (get_or (facilities sc) i 0) ∷ []
 taken-list sc standings i d are inside on =
-    ap (map starter) (starts-more sc i inside ∙ ap (λ z. starters sc i ++ z) (cond-true _ _ _ (starts-by sc standings i d are inside ∙ on)))
-    ∙ map-append starter (starters sc i) (get_or (facilities sc) i 0 ∷ [])
+    ap (map start_entry) (starts-more sc i inside ∙ ap (λ z. starters sc i ++ z) (cond-true _ _ _ (starts-by sc standings i d are inside ∙ on)))
+    ∙ map-append start_entry (starters sc i) (get_or (facilities sc) i 0 ∷ [])
 
 pub aired-taken : (sc : Scenario) (book : BookView) (standings : List Standing) (i : ℕ) (d : Standing) (old new : PartsView) (n : ℕ) → StationsAscend sc → AreStandings sc (opening_state sc) standings → i < length sc.stations → stands_on_air (get_or standings i d) ≡ true →
     IsPartsOf sc book (aired sc i) old → n ≡ length (aired sc i).on_air → new.stations ≡ old.stations → ((z : ℕ) → label_of new z ≡ relabelled book (labelled old) (label_of old) (get_or (facilities sc) i 0) (n + 1) z) → IsPartsOf sc book (aired sc (i + 1)) new
@@ -109,7 +106,7 @@ aired-taken sc book standings i d old new n ascend are inside on h count same la
     let all = length-map sc.stations (λ (x : Station). x.id) in
     let within : i < length (facilities sc) = rw all inside in
     let off : is_on_air (aired sc i) f ≡ false =
-    list_any-map (λ (x : OnAirSince). x.station == f) starter (starters sc i)
+    list_any-map (λ (x : OnAirSince). x.station == f) start_entry (starters sc i)
     ∙ false_from_ne_true (is_in (starters sc i) f) (λ yes. both_ways (is_in (take i (facilities sc)) f) (not-before (facilities sc) i (λ j k l m. AllPairs-from_increasing (facilities sc) ascend j k 0 l m) within) (filter-in (λ s. declines sc s 0) (take i (facilities sc)) f yes).0) in
     let joined = joined-parts sc book (aired sc i) t old new (Contains-get_or (facilities sc) i 0 within) off h same (subst (λ m. (z : ℕ) → label_of new z ≡ relabelled book (labelled old) (label_of old) f (m + 1) z) count labels) in
     parts-same sc book (goes_on_air (aired sc i) t) (aired sc (i + 1)) new (sym (taken-list sc standings i d are inside on)) joined
@@ -126,7 +123,7 @@ aired-more sc book standings i old new ascend are inside h count same went stood
           let w = went on in
           let list = taken-list sc standings i Active are inside on in (
             aired-taken sc book standings i Active old.parts new.parts old.on_air ascend are inside on h count same w.1,
-            w.0 ∙ (ap (λ n. n + 1) count ∙ (sym (length-append (aired sc i).on_air (starter (get_or (facilities sc) i 0) ∷ [])) ∙ sym (ap length list))),
+            w.0 ∙ (ap (λ n. n + 1) count ∙ (sym (length-append (aired sc i).on_air (start_entry (get_or (facilities sc) i 0) ∷ [])) ∙ sym (ap length list))),
           )
       | inr off ↦
           let st = stood off in (
@@ -138,14 +135,14 @@ aired-more sc book standings i old new ascend are inside h count same went stood
 -- ---- all of them
 
 pub aired-all : (sc : Scenario) → (aired sc (length sc.stations)).on_air ≡ (opening_state sc).on_air
-aired-all sc = ap (λ xs. map starter (filter (λ s. declines sc s 0) xs)) (take_all (length sc.stations) (facilities sc) (let all = length-map sc.stations (λ (x : Station). x.id) in omega (arith, all)))
+aired-all sc = ap (λ xs. map start_entry (filter (λ s. declines sc s 0) xs)) (take_all (length sc.stations) (facilities sc) (let all = length-map sc.stations (λ (x : Station). x.id) in omega (arith, all)))
 
 pub aired-opening : (sc : Scenario) (book : BookView) (parts : PartsView) → IsPartsOf sc book (aired sc (length sc.stations)) parts → IsPartsOf sc book (opening_state sc) parts
 aired-opening sc book parts h = parts-same sc book (aired sc (length sc.stations)) (opening_state sc) parts (aired-all sc) h
 
 -- there are no more of them than stations
 pub aired-few : (sc : Scenario) (i : ℕ) → length (aired sc i).on_air ≤ i
-aired-few sc i = let kept = kept_at_most (λ s. declines sc s 0) (take i (facilities sc)) in let first = first_at_most i (facilities sc) in let same = length-map (starters sc i) starter in omega (arith, kept, first, same)
+aired-few sc i = let kept = kept_at_most (λ s. declines sc s 0) (take i (facilities sc)) in let first = first_at_most i (facilities sc) in let same = length-map (starters sc i) start_entry in omega (arith, kept, first, same)
   where
     kept_at_most : (p : ℕ → Bool) (xs : List ℕ) → length (filter p xs) ≤ length xs
     kept_at_most p [] = omega arith

@@ -17,11 +17,12 @@ use Rattle.cert_types.specs.declared.answer.Receipt.{Receipt}
 use Rattle.cert_types.specs.declared.answer.Refutation.{Refutation}
 use Rattle.cert_types.specs.declared.answer.Place.{Place}
 use Rattle.cert_types.specs.declared.answer.Place.TheVariants.{Kind, Count, Subset, Station, PairOf, LineAt, MoveAt}
-use Rattle.cert_types.specs.Valid.{answer_fault, fit_fault, place_of, unless, IsValid}
+use Rattle.cert_types.specs.Valid.{answer_fault, fit_fault, place_of, IsValid}
 use Rattle.cert_types.specs.Outside.{IsOutsideProof, outside_fault}
 use Rattle.cert_types.specs.declared.outside.OutsideProof.{OutsideProof}
 use Rattle.cert_types.proofs.Outsiders.{outside-means, means-outside}
 use Rattle.cert_types.proofs.Validity.{unless-parts, fit-clean}
+use Rattle.cert_types.proofs.Meaning.{unless-from}
 use Rattle.auction_core.specs.declared.record.Shown.{Shown}
 use Rattle.auction_core.specs.declared.record.Shown.TheVariants.{Empty, Fits, Same, NoChannel, Refuted, Outside, Undecided}
 use Rattle.auction_core.specs.State.{CoreState, settled_unasked, test_of, test_task}
@@ -31,10 +32,6 @@ use Rattle.auction_core.specs.declared.transcript.TranscriptStep.{TranscriptStep
 use Rattle.auction_core.specs.LogNumbers.{clauses_in, first_number, first_of, firsts_of}
 use Rattle.auction_core.specs.NotShown.{or_first_line, receipt_fault, fault_or, each_fault, receipts_fault, refuted_fault, outside_log_fault, one_log_fault, query_fault, is_bare, is_like_before, is_unasked_so, unasked_fault, step_fault}
 use Rattle.auction_core.specs.LogNumbers.{IsNumbered}
-
-pub unless-from : (b : Bool) (place : Place) (rest : Option Place) → b ≡ true → rest ≡ None → unless b place rest ≡ None
-unless-from true place rest e f = f
-unless-from false place rest e f = absurd cc
 
 pub absurd-place : (place : Place) → Some place ≡ None → ⊥
 absurd-place place e = cc

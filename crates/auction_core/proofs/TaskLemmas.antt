@@ -8,6 +8,7 @@ use Rattle.pack_defs.specs.Lists.{is_ascending, is_empty}
 use Rattle.pack_defs.specs.Scenario.{facilities}
 use Rattle.pack_defs.specs.declared.scenario.Scenario.{Scenario}
 use Rattle.pack_defs.proofs.Words.{ascending-from}
+use Rattle.pack_defs.proofs.Chains.{ascending-filter}
 use Rattle.cert_types.specs.Certificate.{IsTaskOf}
 use Rattle.cert_types.specs.declared.task.Task.{Task}
 use Rattle.auction_core.specs.declared.record.Shown.{Shown}
@@ -18,7 +19,7 @@ use Rattle.auction_core.specs.Parts.{label_of, touched_set}
 use Rattle.auction_core.specs.Rule.{IsQuery, KeepsTheRule, SettlesQuery}
 use Rattle.auction_core.specs.Setup.{IsOfAuction, SetupView}
 use Rattle.auction_core.specs.State.{CoreState, first_task, has_ended, start_fits, start_task, start_unasked, task_of, test_task, tested_set}
-use Rattle.auction_core.proofs.Answers.{component-ascending, filter-ascending}
+use Rattle.auction_core.proofs.Answers.{component-ascending}
 use Rattle.auction_core.proofs.CourseLemmas.{sound-auction}
 use Rattle.auction_core.proofs.CourseTests.{IsNextShown, due-left, over-empty}
 use Rattle.auction_core.proofs.Keeps.{task-is}
@@ -101,10 +102,10 @@ task-ascends sc book state a =
     let rises : is_ascending (facilities sc) ≡ true = ascending-from (facilities sc) a.limits.ascend in
     let test : (l : List ClockTest) → MatchOption (first_task sc book state l) ⊤ (IsTaskOf book) = λ l. elim l as (λ l. MatchOption (first_task sc book state l) ⊤ (IsTaskOf book)) [
       | [] ↦ tt
-      | t ∷ ts ↦ record { rises = component-ascending book (asked_set sc state.clock t.station) t.station (filter-ascending _ (facilities sc) rises) }
+      | t ∷ ts ↦ record { rises = component-ascending book (asked_set sc state.clock t.station) t.station (ascending-filter _ (facilities sc) rises) }
     ] in
     let go : (b : Bool) → MatchOption (cond b (Some (start_task sc state.number)) (first_task sc book state state.left)) ⊤ (IsTaskOf book) = λ b. elim b as (λ b. MatchOption (cond b (Some (start_task sc state.number)) (first_task sc book state state.left)) ⊤ (IsTaskOf book)) [
-      | true ↦ record { rises = filter-ascending _ (facilities sc) rises }
+      | true ↦ record { rises = ascending-filter _ (facilities sc) rises }
       | false ↦ test state.left
     ] in
     go (is_none state.start)

@@ -12,10 +12,10 @@ use Rattle.pack_defs.specs.declared.scenario.Scenario.{Scenario}
 use Rattle.pack_defs.specs.Scenario.{facilities}
 use Rattle.pack_defs.specs.Components.{component}
 use Rattle.pack_defs.specs.ClockRule.{ClockState, asked_set, is_on_air}
+use Rattle.pack_defs.proofs.Chains.{ascending-filter}
 use Rattle.auction_core.specs.Parts.{IsPartsOf, PartsView, is_asked, label_in, label_of, labelled, marked, number_of, touched_set, touches}
 use Rattle.auction_core.specs.Rule.{IsAuction}
 use Rattle.auction_core.specs.State.{tested_set}
-use Rattle.auction_core.proofs.Answers.{filter-ascending}
 use Rattle.auction_core.proofs.PartLemmas.{ListsNear, label-at, meets, meets-touches}
 use Rattle.auction_core.proofs.Sets.{tested-rises}
 use Rattle.auction_core.proofs.Since.{asks-with-one}
@@ -123,7 +123,7 @@ module _ (s z l i d : ℕ) (marks : List Bool) (fs ls found : List ℕ) (up : is
 pub touched-tested : (sc : Scenario) (book : BookView) (clock : ClockState) (s : ℕ) (parts : PartsView) → IsAuction sc book → Contains (facilities sc) s → is_on_air clock s ≡ false → IsPartsOf sc book clock parts → touched_set book parts s ≡ tested_set sc book clock s
 touched-tested sc book clock s parts a known off h =
     same-ascending (touched_set book parts s) (tested_set sc book clock s)
-    (filter-ascending test parts.stations (subst (λ xs. is_ascending xs ≡ true) (sym h.stations) (ascending-from (facilities sc) a.stations)))
+    (ascending-filter test parts.stations (subst (λ xs. is_ascending xs ≡ true) (sym h.stations) (ascending-from (facilities sc) a.stations)))
     (tested-rises sc book clock s a)
     (λ z there.
     let (listed, is) = Contains-from_filter test parts.stations z (is_in-gives (touched_set book parts s) z there) in

@@ -1,19 +1,15 @@
 -- The bits of stations that a set has are among the set's.
-use Rattle.std.proofs.Common.{◌≡◌, ℕ, zero, suc, ◌<◌, ◌≤◌, ◌/◌, Bool, true, false, ◌&&◌, ◌||◌, ◌==◌, List, [], ◌∷◌, length, get_or, set, replicate, refl, sym, ap, ◌∙◌, subst, arith, eq-eqb, eqb-true}
-use Rattle.std.specs.Prelude.{bit_and, bit_or}
+use Rattle.std.proofs.Common.{◌≡◌, ℕ, zero, suc, ◌<◌, ◌/◌, Bool, true, false, ◌&&◌, ◌||◌, ◌==◌, List, [], ◌∷◌, length, get_or, set, replicate, refl, sym, ap, ◌∙◌, subst, arith, eqb-true}
+use Rattle.std.specs.Prelude.{bit_or}
 use Rattle.std.specs.List.{list_all}
-use Rattle.std.specs.Int.{bit_at}
-use Rattle.std.proofs.Math.Nat.{le_trans, le-max_left, le-max_right, max-le, min-eq_left, mod-lt}
-use Rattle.std.proofs.lemmas.Nat.Bits.{bit_at_and, bit_at_or, same_from_bits}
+use Rattle.std.proofs.Math.Nat.{mod-lt}
 use Rattle.std.proofs.lemmas.Bool.{and_parts, true≢false}
 use Rattle.std.proofs.lemmas.List.{get_or-set_same, length-set, length-replicate}
 use Rattle.pack_defs.specs.Lists.{is_in}
-use Rattle.batch_cache.specs.StationBits.{word_place, station_bit, with_bits, station_bits, covers_word, are_covered}
+use Rattle.batch_cache.specs.StationBits.{word_place, station_bit, with_bits, station_bits, are_covered}
+use Rattle.cert_types.proofs.SignatureLemmas.{Among, among-both, among-first, among-second, among-all, among-covers}
 
--- each bit of one number is one of the other; each bit of some words is one of those that a function gives
-abbrev Among : ℕ → ℕ → Type 0
-Among a b = (i : ℕ) → bit_at a i ≤ bit_at b i
-
+-- each bit of some words is one of those that a function gives
 abbrev AreAmong : List ℕ → (ℕ → ℕ) → Type 0
 AreAmong words f = (w : ℕ) → Among (get_or words w 0) (f w)
 
@@ -22,18 +18,6 @@ word_in words w = get_or words w 0
 
 among-itself : (a : ℕ) → Among a a
 among-itself a = λ i. omega arith
-
-among-both : (a b c : ℕ) → Among a b → Among b c → Among a c
-among-both a b c f g = λ i. le_trans (f i) (g i)
-
-among-first : (a b : ℕ) → Among a (bit_or a b)
-among-first a b = λ i. subst (λ (n : ℕ). bit_at a i ≤ n) (sym (bit_at_or a b i)) (le-max_left (bit_at a i) (bit_at b i))
-
-among-second : (a b : ℕ) → Among b (bit_or a b)
-among-second a b = λ i. subst (λ (n : ℕ). bit_at b i ≤ n) (sym (bit_at_or a b i)) (le-max_right (bit_at a i) (bit_at b i))
-
-among-all : (a b c : ℕ) → Among a c → Among b c → Among (bit_or a b) c
-among-all a b c f g = λ i. subst (λ (n : ℕ). n ≤ bit_at c i) (sym (bit_at_or a b i)) (max-le (f i) (g i))
 
 -- ---- one word set
 
@@ -94,9 +78,6 @@ bits-within xs (y ∷ ys) words h all =
     (set-within words (word_place y) (bit_or (get_or words (word_place y) 0) (station_bit y)) (word_in (station_bits xs)) h
     (among-all (get_or words (word_place y) 0) (station_bit y) (get_or (station_bits xs) (word_place y) 0) (h (word_place y)) has))
     parts.1
-
-among-covers : (these word : ℕ) → Among word these → covers_word these word ≡ true
-among-covers these word h = eq-eqb (bit_and word these) word (same_from_bits (bit_and word these) word (λ i. bit_at_and word these i ∙ min-eq_left (h i)))
 
 words-covered : (these words : List ℕ) → AreAmong words (word_in these) → are_covered these words ≡ true
 words-covered [] words h = refl

@@ -1,8 +1,9 @@
 -- A list that ascends hasn't a number that would fill a gap of it.
-use Rattle.std.proofs.Common.{◌≡◌, ℕ, zero, suc, ◌<◌, Bool, true, false, not, ◌||◌, ◌&&◌, nat_lt, List, [], ◌∷◌, refl, ap, ◌∙◌, ltb-true, lt_trans}
+use Rattle.std.proofs.Common.{◌≡◌, ℕ, zero, suc, ◌<◌, Bool, true, false, ◌||◌, ◌&&◌, nat_lt, List, [], ◌∷◌, refl, ap, ◌∙◌, ltb-true, lt_trans}
 use Rattle.std.specs.Prelude.{slice_get}
 use Rattle.std.specs.List.{list_all}
-use Rattle.std.proofs.lemmas.Bool.{and_parts}
+use Rattle.std.proofs.lemmas.Bool.{and_parts, not-true}
+use Rattle.std.proofs.Math.Bool.{and-false}
 use Rattle.pack_defs.specs.Lists.{is_ascending, is_in}
 use Rattle.pack_defs.proofs.Words.{ascending-rest}
 use Rattle.batch_cache.specs.Gaps.{last_below, goes_on_above, ends_below, has_gap, lacks_at}
@@ -31,14 +32,6 @@ pub gap-tells : (xs : List ℕ) (p n : ℕ) → is_ascending xs ≡ true → has
 gap-tells xs p n up gap =
     let parts = and_parts (goes_on_above xs p n) (ends_below xs p n) gap in
     missing xs p n up parts.0 parts.1
-
-not-true : (b : Bool) → not b ≡ true → b ≡ false
-not-true true h = cc
-not-true false h = refl
-
-and-false : (b : Bool) → (b && false) ≡ false
-and-false true = refl
-and-false false = refl
 
 -- who lacks one of some numbers hasn't all of them
 pub lacks-one : (xs ys : List ℕ) (place : ℕ) → lacks_at xs ys place ≡ true → list_all (is_in xs) ys ≡ false

@@ -4,6 +4,7 @@ use Rattle.std.specs.Prelude.{is_none}
 use Rattle.std.specs.List.{list_all}
 use Rattle.std.proofs.lemmas.Bool.{and_parts, and_from, true≢false}
 use Rattle.std.proofs.lemmas.List.{take_all}
+use Rattle.std.proofs.Math.Bool.{and-false}
 use Rattle.pack_defs.specs.Book.{BookView}
 use Rattle.pack_defs.specs.ChannelMap.{IsAscending}
 use Rattle.pack_defs.specs.Lists.{is_ascending, is_in}
@@ -57,10 +58,6 @@ taken-ascends p whole xs entries ys i same all up taken is =
     subst IsAscending (sym here) (kept-ascends p whole up)
 
 -- ---- a refutation that is passed over
-
-and-false : (b : Bool) → (b && false) ≡ false
-and-false true = refl
-and-false false = refl
 
 -- the entries behind it decide as all did
 pub passed-over : (top : ℕ) (book : BookView) (task : Task) (worker : Worker) (asked : List ℕ) (key : Key) (refutation : Refutation) (all now rest : List (Key × Refutation)) →

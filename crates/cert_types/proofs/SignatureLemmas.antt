@@ -15,16 +15,16 @@ use Rattle.cert_types.specs.Signature.{bit_of, signed, signature, covers}
 abbrev pub Among : ℕ → ℕ → Type 0
 Among a b = (i : ℕ) → bit_at a i ≤ bit_at b i
 
-among-both : (a b c : ℕ) → Among a b → Among b c → Among a c
+pub among-both : (a b c : ℕ) → Among a b → Among b c → Among a c
 among-both a b c f g = λ i. le_trans (f i) (g i)
 
-among-first : (a b : ℕ) → Among a (bit_or a b)
+pub among-first : (a b : ℕ) → Among a (bit_or a b)
 among-first a b = λ i. subst (λ (n : ℕ). bit_at a i ≤ n) (sym (bit_at_or a b i)) (le-max_left (bit_at a i) (bit_at b i))
 
-among-second : (a b : ℕ) → Among b (bit_or a b)
+pub among-second : (a b : ℕ) → Among b (bit_or a b)
 among-second a b = λ i. subst (λ (n : ℕ). bit_at b i ≤ n) (sym (bit_at_or a b i)) (le-max_right (bit_at a i) (bit_at b i))
 
-among-all : (a b c : ℕ) → Among a c → Among b c → Among (bit_or a b) c
+pub among-all : (a b c : ℕ) → Among a c → Among b c → Among (bit_or a b) c
 among-all a b c f g = λ i. subst (λ (n : ℕ). n ≤ bit_at c i) (sym (bit_at_or a b i)) (max-le (f i) (g i))
 
 signed-keeps : (lits : List Lit) (bits : ℕ) → Among bits (signed bits lits)
@@ -49,7 +49,7 @@ signed-among lits (l ∷ ls) bits h s =
     let parts = and_parts (has_lit lits l) (stands_within lits ls) s in
     signed-among lits ls (bit_or bits (bit_of l)) (among-all bits (bit_of l) (signature lits) h (signed-has lits l 0 parts.0)) parts.1
 
-among-covers : (these bits : ℕ) → Among bits these → covers these bits ≡ true
+pub among-covers : (these bits : ℕ) → Among bits these → covers these bits ≡ true
 among-covers these bits h = eq-eqb (bit_and bits these) bits (same_from_bits (bit_and bits these) bits (λ i. bit_at_and bits these i ∙ min-eq_left (h i)))
 
 -- a clause within the literals has its bits among theirs

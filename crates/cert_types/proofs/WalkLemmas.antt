@@ -6,10 +6,11 @@ use Rattle.pack_defs.specs.Book.{BookView, domain_of}
 use Rattle.pack_defs.specs.ChannelMap.{IsAscending}
 use Rattle.pack_defs.specs.Lists.{has_entry, has_station, is_ascending, is_in}
 use Rattle.pack_defs.proofs.Members.{list_any-gives}
-use Rattle.pack_defs.proofs.Words.{entry, list_any-map, station-in}
+use Rattle.pack_defs.proofs.Words.{entry}
 use Rattle.assign_check.specs.Fault.{is_violated}
 use Rattle.assign_check.specs.Violations.{is_of, violations_of}
 use Rattle.assign_check.proofs.Counts.{counts-any}
+use Rattle.assign_check.proofs.Violations.{station-has}
 use Rattle.cert_types.specs.Walks.{is_in_trouble, is_move, start_map}
 
 start-stations : (book : BookView) (last : List (ℕ × ℕ)) (set : List ℕ) → map (λ x. x.0) (start_map book last set) ≡ set
@@ -20,9 +21,6 @@ start-stations book last (s ∷ ss) = ap (λ rest. s ∷ rest) (start-stations b
 pub start-ascends : (book : BookView) (last : List (ℕ × ℕ)) (set : List ℕ) → is_ascending set ≡ true → IsAscending (start_map book last set)
 start-ascends book last set up = subst (λ xs. is_ascending xs ≡ true) (sym (start-stations book last set)) up
 
-entry-there : (entries : List (ℕ × ℕ)) (x : ℕ × ℕ) → has_entry entries x ≡ true → has_station entries x.0 ≡ true
-entry-there entries x h = sym (list_any-map (λ y. y == x.0) (λ (y : ℕ × ℕ). y.0) entries) ∙ station-in entries x h
-
 -- a station of a violated pair is in the map
 pub troubled-there : (book : BookView) (entries : List (ℕ × ℕ)) (s : ℕ) → is_in_trouble book entries s ≡ true → has_station entries s ≡ true
 troubled-there book entries s h =
@@ -31,8 +29,8 @@ troubled-there book entries s h =
     let parts = and_parts (is_of s p) (is_violated entries p) found.2 in
     let both = and_parts (has_entry entries (p.f, p.a)) (has_entry entries (p.g, p.b)) parts.1 in
     ⊎_elim
-    (λ e. subst (λ t. has_station entries t ≡ true) (eqb-true p.f s e) (entry-there entries (entry p.f p.a) both.0))
-    (λ e. subst (λ t. has_station entries t ≡ true) (eqb-true p.g s e) (entry-there entries (entry p.g p.b) both.1))
+    (λ e. subst (λ t. has_station entries t ≡ true) (eqb-true p.f s e) (station-has entries (entry p.f p.a) both.0))
+    (λ e. subst (λ t. has_station entries t ≡ true) (eqb-true p.g s e) (station-has entries (entry p.g p.b) both.1))
     (or_cases (p.f == s) (p.g == s) parts.0)
 
 -- a station that a move takes elsewhere is in the map

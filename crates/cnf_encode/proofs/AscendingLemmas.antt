@@ -2,7 +2,6 @@
 use Rattle.std.proofs.Common.{◌≡◌, ℕ, zero, suc, ◌+◌, ◌<◌, ◌≤◌, Bool, true, false, ◌==◌, ◌||◌, nat_lt, List, [], ◌∷◌, cond, length, get_or, take, refl, arith, ⊎_elim, eqb-true, eq-eqb, ne_eqb, map-id, Fits, w8}
 use Rattle.std.specs.List.{count_by}
 use Rattle.std.specs.List.Sorted.{IsNonDecreasingBy, IsPartitionPoint}
-use Rattle.std.specs.Ordering.{nat_cmp, is_lt}
 use Rattle.std.proofs.lemmas.Bool.{and_parts, and_from, cond-true, cond-false, or_cases, or_left, or_right}
 use Rattle.std.proofs.lemmas.Bool.Decides.{nat_tests}
 use Rattle.std.proofs.lemmas.List.Sorted.{IsNonDecreasingBy-from_all_adjacent}
@@ -10,11 +9,8 @@ use Rattle.std.proofs.lemmas.List.Sums.{sum_by-cons}
 use Rattle.pack_defs.specs.Lists.{is_in, is_ascending}
 use Rattle.std.proofs.lemmas.List.{get_or_default}
 use Rattle.pack_defs.proofs.Members.{is_in-gives}
-use Rattle.pack_defs.proofs.Searches.{sorted-keys}
+use Rattle.pack_defs.proofs.Searches.{sorted-keys, rises-step}
 use Rattle.pack_defs.proofs.Words.{below-later, ascending-rest}
-
-rises-step : (x y : ℕ) → is_lt (nat_cmp y x) ≡ false → x ≤ y
-rises-step x y h = grind (arith, nat_tests)
 
 -- what ascends doesn't fall
 pub rising : (xs : List ℕ) → is_ascending xs ≡ true → IsNonDecreasingBy (λ x. x) xs

@@ -1,5 +1,5 @@
 -- How many clauses a formula has.
-use Rattle.std.proofs.Common.{◌≡◌, ℕ, ◌+◌, ◌-◌, ◌*◌, ◌/◌, ◌<◌, ◌≤◌, Bool, true, false, List, [], ◌∷◌, ◌++◌, cond, map, filter, flat_map, length, get_or, take, refl, sym, ap, ◌∙◌, arith, length-append}
+use Rattle.std.proofs.Common.{◌≡◌, ℕ, ◌+◌, ◌-◌, ◌*◌, ◌/◌, ◌<◌, ◌≤◌, Bool, true, List, [], ◌∷◌, ◌++◌, cond, map, filter, flat_map, length, get_or, take, refl, sym, ap, ◌∙◌, arith, length-append}
 use Rattle.std.specs.List.{count_by, sum_by}
 use Rattle.std.proofs.lemmas.List.{length-map, take_more}
 use Rattle.std.proofs.lemmas.List.Concat.{length-flat_map}
@@ -7,6 +7,7 @@ use Rattle.std.proofs.lemmas.List.Sums.{sum_by-append, sum_by-take-le}
 use Rattle.pack_defs.specs.Book.{BookView, domain_of, pairs_ascend, stations_of}
 use Rattle.pack_defs.specs.Lists.{is_in, is_ascending}
 use Rattle.pack_defs.proofs.Spans.{firsts-rise}
+use Rattle.pack_defs.proofs.ComponentLaws.{filter_no_longer}
 use Rattle.cnf_encode.specs.ByStation.{pairs_inside_from}
 use Rattle.cnf_encode.specs.Formula.{at_least_one, at_most_one, is_inside, not_both, packing_formula, pair_clause, station_variables}
 use Rattle.cnf_encode.proofs.AscendingLemmas.{ascending-take, count-most}
@@ -59,15 +60,11 @@ pub pairs-counted : (book : BookView) (set : List ℕ) → is_ascending set ≡ 
 pairs-counted book set a h =
     sym (length-flat_map (pairs_inside_from book set) set) ∙ ap length (all-stations (λ p. is_in set p.g) set book.pairs a (firsts-rise book.pairs h))
 
-kept-most : {X : Type 0} (p : X → Bool) (xs : List X) → length (filter p xs) ≤ length xs
-kept-most p [] = omega arith
-kept-most p (x ∷ xs) = (elim (p x) as (λ b. length (cond b (x ∷ filter p xs) (filter p xs)) ≤ length (x ∷ xs)) [ true ↦ omega (arith, kept-most p xs) | false ↦ omega (arith, kept-most p xs) ])
-
 pub pairs-most : (book : BookView) (set : List ℕ) (i : ℕ) → is_ascending set ≡ true → pairs_ascend book.pairs ≡ true → sum_by (λ s. length (pairs_inside_from book set s)) (take i set) ≤ length book.pairs
 pairs-most book set i a h =
     let part = sum_by-take-le (λ s. length (pairs_inside_from book set s)) set i in
     let whole = pairs-counted book set a h in
-    let few = kept-most (is_inside set) book.pairs in
+    let few = filter_no_longer (is_inside set) book.pairs in
     omega (arith, part, whole, few)
 
 -- the parts of the formula

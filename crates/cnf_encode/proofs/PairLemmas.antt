@@ -3,7 +3,6 @@ use Rattle.std.proofs.Common.{◌≡◌, ℕ, suc, ◌+◌, ◌<◌, ◌≤◌, 
 use Rattle.std.specs.List.{list_all}
 use Rattle.std.specs.List.Sorted.{IsNonDecreasingBy}
 use Rattle.std.proofs.lemmas.Bool.{and_parts, cases_lt, cond-true, cond-false, false_from_ne_true}
-use Rattle.std.proofs.lemmas.Bool.Decides.{nat_tests}
 use Rattle.std.proofs.lemmas.List.{append-nil, append_assoc, flat_map_more, get_or_default, map-append, take_more}
 use Rattle.std.proofs.lemmas.List.Elements.{filter_more}
 use Rattle.clause_db.specs.declared.lit.Lit.{Lit}
@@ -13,7 +12,8 @@ use Rattle.pack_defs.specs.Lists.{is_in, is_ascending}
 use Rattle.pack_defs.proofs.BookLemmas.{list_all-filter_itself}
 use Rattle.pack_defs.proofs.Members.{Contains-from_filter, list_all-from, list_all-gives, Contains-here, Contains-there}
 use Rattle.pack_defs.proofs.Spans.{firsts-rise}
-use Rattle.pack_defs.proofs.Words.{below-later, ascending-rest}
+use Rattle.pack_defs.proofs.Words.{below-later, ascending-rest, eq_swap}
+use Rattle.pack_defs.proofs.OwnerLaws.{filter_within}
 use Rattle.cnf_encode.specs.Formula.{is_inside, not_both, pair_clause, variable_of}
 use Rattle.cnf_encode.specs.ByStation.{pairs_inside_from}
 
@@ -48,13 +48,6 @@ pub stations-more : (f : ℕ → List (List Lit)) (new list initial : List (List
 stations-more f new list initial set i l e g =
     g ∙ ap (λ xs. xs ++ f (get_or set i 0)) e ∙ flat_map_more f initial (take i set) (get_or set i 0) ∙ ap (λ xs. initial ++ flat_map f xs) (sym (take_more set i 0 l))
 
--- tests that agree on the list keep the same of it
-filter-same : {A : Type 0} (p q : A → Bool) (xs : List A) → ((x : A) → Contains xs x → p x ≡ q x) → filter p xs ≡ filter q xs
-filter-same p q [] h = refl
-filter-same p q (x ∷ xs) h =
-    ap (λ b. cond b (x ∷ filter p xs) (filter p xs)) (h x (Contains-here x xs))
-    ∙ ap (λ rest. cond (q x) (x ∷ rest) rest) (filter-same p q xs (λ y c. h y (Contains-there x y xs c)))
-
 filter-none : {A : Type 0} (p : A → Bool) (xs : List A) → ((x : A) → Contains xs x → p x ≡ false) → filter p xs ≡ []
 filter-none p [] h = refl
 filter-none p (x ∷ xs) h =
@@ -68,9 +61,6 @@ head-least p ps q h c = subst (λ z. p.f ≤ z.f) c.2 (h 0 c.0 q (omega arith) c
 
 not-in : (x : ℕ) (xs : List ℕ) (y : ℕ) → ((z : ℕ) → is_in xs z ≡ true → x < z) → y ≤ x → is_in xs y ≡ false
 not-in x xs y above l = false_from_ne_true (is_in xs y) (λ m. let less : x < y = above y m in omega arith)
-
-same-turned : (a b : ℕ) → (a == b) ≡ (b == a)
-same-turned a b = grind (arith, nat_tests)
 
 -- a pair that is kept only as one of the least station's
 kept-here : (q : Pair → Bool) (p : Pair) (e : Bool) (own later both : List Pair) → filter q own ++ later ≡ both → filter q (cond e (p ∷ own) own) ++ later ≡ cond ((e || false) && q p) (p ∷ both) both
@@ -88,7 +78,7 @@ one-station q x xs (p ∷ ps) above h =
     ⊎_elim
     (λ (behind : x < p.f).
     let none : filter (λ p. p.f == x) (p ∷ ps) ≡ [] = filter-none (λ p. p.f == x) (p ∷ ps) (λ r c. let l = head-least p ps r h c in ne_eqb r.f x (λ e. omega arith)) in
-    let agree = filter-same (λ r. is_in xs r.f && q r) (λ r. is_in (x ∷ xs) r.f && q r) (p ∷ ps)
+    let agree = filter_within (λ r. is_in xs r.f && q r) (λ r. is_in (x ∷ xs) r.f && q r) (p ∷ ps)
     (λ r c. let l = head-least p ps r h c in let other : (x == r.f) ≡ false = ne_eqb x r.f (λ e. omega arith) in ap (λ b. (b || is_in xs r.f) && q r) (sym other)) in
     ap (λ zs. filter q zs ++ filter (λ p. is_in xs p.f && q p) (p ∷ ps)) none ∙ agree)
     (λ (here : p.f ≤ x).
@@ -98,7 +88,7 @@ one-station q x xs (p ∷ ps) above h =
     let second : filter (λ p. is_in xs p.f && q p) (p ∷ ps) ≡ later = cond-false (is_in xs p.f && q p) (p ∷ later) later absent in
     ap (λ zs. filter q (filter (λ p. p.f == x) (p ∷ ps)) ++ zs) second
     ∙ kept-here q p (p.f == x) (filter (λ p. p.f == x) ps) later both rest
-    ∙ ap₂ (λ b c. cond ((b || c) && q p) (p ∷ both) both) (same-turned p.f x) (sym outside))
+    ∙ ap₂ (λ b c. cond ((b || c) && q p) (p ∷ both) both) (eq_swap p.f x) (sym outside))
     (cases_lt x p.f)
 
 pub all-stations : (q : Pair → Bool) (xs : List ℕ) (ps : List Pair) → is_ascending xs ≡ true → IsNonDecreasingBy (λ p. p.f) ps →

@@ -1,8 +1,8 @@
 -- The records of bytes without quotes are those of their lines, one after the other: after a line feed the machine of `csv`
 -- stands at the start of a record.
-use Rattle.std.proofs.Common.{◌≡◌, ◌∙◌, ◌<◌, ◌+◌, ◌∷◌, ◌++◌, [], ℕ, List, Bool, Option, Some, None, true, false, not, cond, refl, ap, arith, zero, suc, length, eqb, inl, inr}
+use Rattle.std.proofs.Common.{◌≡◌, ◌∙◌, ◌<◌, ◌+◌, ◌∷◌, ◌++◌, [], ℕ, List, Option, Some, None, true, false, not, cond, refl, ap, arith, zero, suc, length, eqb, inl, inr}
 use Rattle.std.specs.List.{flat_map, list_all}
-use Rattle.std.proofs.lemmas.Bool.{and_parts, cases_Bool, eqb-true}
+use Rattle.std.proofs.lemmas.Bool.{and_parts, cases_Bool, eqb-true, not-true}
 use Rattle.std.proofs.lemmas.List.{append-nil}
 use Rattle.csv.specs.Machine.{Read, next_record, ends_at_end, in_field, is_end, start_field, start_record, step, fields_after, field_after}
 use Rattle.csv.specs.Reading.{default_config, records, records_from, records_next}
@@ -177,10 +177,6 @@ joined-flat : (ls : List (List ℕ)) → joined_rows st.StartRecord [] [] ls ≡
 unfolding rows_from
 joined-flat [] = refl
 joined-flat (l ∷ ls) = refl
-
-not-true : (b : Bool) → not b ≡ true → b ≡ false
-not-true true e = cc
-not-true false e = refl
 
 ended : (s : State) (fields : List (List ℕ)) (field : List ℕ) (c : ℕ) (xs : List ℕ) (ls : List (List ℕ)) → is_end (step default_config s c).1 ≡ true
     → rows_from (step default_config s c).0 [] [] xs ≡ joined_rows (step default_config s c).0 [] [] ls

@@ -11,11 +11,8 @@ use Rattle.std.proofs.lemmas.List.Kept.{IsStrictlySortedBy-dedup}
 use Rattle.std.proofs.lemmas.List.Sorted.{list_any-IsPermutation}
 use Rattle.std.proofs.lemmas.Map.Lookups.{CmpEqualImpliesEq, btree_set_from_contains}
 use Rattle.std.proofs.lemmas.Map.Views.{tells_apart}
-
-or-swap : (a b c : Bool) → (a || (b || c)) ≡ (b || (a || c))
-or-swap true true c = refl
-or-swap true false c = refl
-or-swap false b c = refl
+use Rattle.std.proofs.Math.Bool.{or-false}
+use Rattle.pack_defs.proofs.Words.{swap_or}
 
 or-twice : (a b : Bool) → (a || b) ≡ (a || (a || b))
 or-twice true b = refl
@@ -26,10 +23,6 @@ or-moved true true c = refl
 or-moved true false c = refl
 or-moved false true c = refl
 or-moved false false c = refl
-
-or-last : (a : Bool) → (a || false) ≡ a
-or-last true = refl
-or-last false = refl
 
 module _ {K : Type 0} {R : K → K → Ordering} (o : IsTotalOrder R) (exact : CmpEqualImpliesEq R) where
   abbrev has : List K → K → Bool
@@ -44,7 +37,7 @@ module _ {K : Type 0} {R : K → K → Ordering} (o : IsTotalOrder R) (exact : C
       go Equal is later =
           let same : k ≡ x = exact k x is in
           rw same (or-twice (is_eq (R q x)) (has xs q))
-      go Greater is later = ap (λ b. is_eq (R q x) || b) later ∙ or-swap (is_eq (R q x)) (is_eq (R q k)) (has xs q)
+      go Greater is later = ap (λ b. is_eq (R q x) || b) later ∙ swap_or (is_eq (R q x)) (is_eq (R q k)) (has xs q)
 
   has-all : (ks ps : List K) (q : K) → has (fold (insert_key R) ks ps) q ≡ (has ps q || has ks q)
   has-all ks [] q = refl
@@ -102,5 +95,5 @@ module _ {K : Type 0} {R : K → K → Ordering} (o : IsTotalOrder R) (exact : C
         btree_set_from_contains o (record { keys = zs }) (record { keys = fold (insert_key R) [] xs })
         (rw is (IsStrictlySortedBy-dedup o ties ys sorted))
         (all-sorted [] xs none-sorted)
-        (λ q. rw is (has-dedup ys q) ∙ sym (list_any-IsPermutation (is_at (R q)) xs ys moved) ∙ sym (or-last (has xs q)) ∙ sym (has-all [] xs q))
+        (λ q. rw is (has-dedup ys q) ∙ sym (list_any-IsPermutation (is_at (R q)) xs ys moved) ∙ sym (or-false (has xs q)) ∙ sym (has-all [] xs q))
         exact

@@ -7,6 +7,7 @@ use Rattle.std.proofs.lemmas.Bool.{eq-eqb, le-ltb, lt-ltb, ne_eqb}
 use Rattle.std.proofs.lemmas.Cmp.{by_ranked, ranked}
 use Rattle.pack_defs.specs.Book.{comes_before}
 use Rattle.pack_defs.specs.declared.pair.Pair.{Pair}
+use Rattle.pack_defs.proofs.Searches.{pair_cmp}
 use Rattle.constraint_files.specs.Rows.{with_pair}
 
 -- what an answer of a comparison says of "the second before the first" and "the first before the second"
@@ -27,10 +28,6 @@ by-first x y after before o rest = by_ranked (x < y) (x ≡ y) (y < x) (nat_cmp 
     (λ is less. rw (is, le-ltb y x (omega arith), ne_eqb y x (λ e. absurd (omega arith)), lt-ltb x y less) (refl, refl))
     (λ is same. rw (is, le-ltb y x (omega arith), eq-eqb y x (sym same), le-ltb x y (omega arith), eq-eqb x y same) rest)
     (λ is more. rw (is, lt-ltb y x more) refl)
-
--- the order of pairs, field by field
-abbrev pub pair_cmp : Pair → Pair → Ordering
-pair_cmp p q = ordering_then (nat_cmp p.f q.f) (ordering_then (nat_cmp p.a q.a) (ordering_then (nat_cmp p.g q.g) (nat_cmp p.b q.b)))
 
 ranks : (p q : Pair) → Ranks (comes_before q p) (comes_before p q) (pair_cmp p q)
 ranks p q =

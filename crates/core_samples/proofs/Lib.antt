@@ -1,2 +1,1 @@
-mod CutStations
 mod MadeScenario

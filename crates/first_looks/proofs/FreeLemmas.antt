@@ -3,7 +3,7 @@ use Rattle.std.proofs.Common.{◌≡◌, ◌≢◌, ℕ, zero, suc, ◌+◌, ◌
 use Rattle.std.specs.Prelude.{IfSome}
 use Rattle.std.specs.List.{list_any, list_all}
 use Rattle.std.specs.Option.{is_some}
-use Rattle.std.proofs.lemmas.Bool.{and_from, and_parts, cases_lt, cond-true, cond-false, or_from, or_parts, or_cases, or_left, or_right, false≢true}
+use Rattle.std.proofs.lemmas.Bool.{and_from, and_parts, cases_lt, cond-true, cond-false, or_from, or_parts, or_cases, or_left, or_right, false≢true, not-true}
 use Rattle.std.proofs.lemmas.List.{drop_more, get_or-replicate, get_or-set_same, get_or-set_other, length-replicate}
 use Rattle.std.proofs.Math.Seq.{take-append_seam}
 use Rattle.pack_defs.specs.declared.pair.Pair.{Pair}
@@ -191,17 +191,13 @@ one-fits book task s c order a e =
     let parts = and_parts (is_in task.set s) (is_in (domain_of book s) c) on.0 in
     record { of_set = parts.0; of_domain = parts.1; free = sym (free-violates book task.last s c order a) ∙ ap not (fit-violates_none book task ((s, c) ∷ []) e) }
 
-not-so : (b : Bool) → not b ≡ true → b ≡ false
-not-so true h = cc
-not-so false h = refl
-
 -- and that a free channel is such a fit
 fits-one : (book : BookView) (task : Task) (s c : ℕ) → IsQuery book task → IsInOrder book → IsAscending task.last → task.station ≡ Some s → OneFits book task s c → (is_named task.station ((s, c) ∷ []) && is_none (fit_fault book task ((s, c) ∷ []))) ≡ true
 fits-one book task s c query order a tested one =
     let delta : List (ℕ × ℕ) = (s, c) ∷ [] in
     let named : is_named task.station delta ≡ true = ap (λ o. is_named o delta) tested ∙ or_left (s == s) false (eq-eqb s s refl) in
     let on : is_on_domains book task.set delta ≡ true = and_from (is_in task.set s && is_in (domain_of book s) c) true (and_from (is_in task.set s) (is_in (domain_of book s) c) one.of_set one.of_domain) refl in
-    let apart : violates_at_some book (overlaid task.last delta) delta ≡ false = not-so (violates_at_some book (overlaid task.last delta) delta) (free-violates book task.last s c order a ∙ one.free) in
+    let apart : violates_at_some book (overlaid task.last delta) delta ≡ false = not-true (violates_at_some book (overlaid task.last delta) delta) (free-violates book task.last s c order a ∙ one.free) in
     and_from (is_named task.station delta) (is_none (fit_fault book task delta)) named (ap is_none (fits-changed book task delta query named on apart))
 
 pub free-fits : (book : BookView) (task : Task) (s : ℕ) (proposal : Proposal) (delta : List (ℕ × ℕ)) (fits : Bool) → IsQuery book task → IsInOrder book → IsAscending task.last → task.station ≡ Some s → is_in task.set s ≡ true → IsFreeWay book task.last s proposal → delta ≡ changed proposal.own proposal.moved → fits ≡ (is_named task.station delta && is_none (fit_fault book task delta)) → fits ≡ true

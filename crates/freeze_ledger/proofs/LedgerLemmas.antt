@@ -2,20 +2,16 @@
 use Rattle.std.proofs.Common.{◌≡◌, ℕ, zero, suc, ◌+◌, ◌<◌, ◌≤◌, true, false, cond, eqb, nat_lt, List, [], ◌∷◌, map, length, get_or, Some, None, refl, sym, ap, ◌∙◌, arith}
 use Rattle.std.specs.List.{insert}
 use Rattle.std.specs.List.Sorted.{IsNonDecreasingBy, IsPartitionPoint}
-use Rattle.std.specs.Ordering.{nat_cmp, is_lt}
 use Rattle.std.proofs.lemmas.Bool.{and_from, and_parts, cond-true, cond-false, ltb-true, lt-ltb, ne_eqb, eq-eqb}
 use Rattle.std.proofs.lemmas.Bool.Decides.{nat_tests}
 use Rattle.std.proofs.lemmas.List.Sorted.{IsNonDecreasingBy-from_all_adjacent}
 use Rattle.std.proofs.lemmas.List.Sums.{sum_by-cons}
 use Rattle.pack_defs.specs.ChannelMap.{IsAscending, channel_of}
 use Rattle.pack_defs.specs.Lists.{is_ascending}
-use Rattle.pack_defs.proofs.Searches.{sorted-keys}
+use Rattle.pack_defs.proofs.Searches.{sorted-keys, rises-step}
 use Rattle.freeze_ledger.specs.Ledger.{price_of, sum_paid, with_price}
 
 -- ---- a search by halves
-
-rises-step : (x y : ℕ) → is_lt (nat_cmp y x) ≡ false → x ≤ y
-rises-step x y h = grind (arith, nat_tests)
 
 -- the stations of a list that ascends do not fall
 pub rising : (xs : List (ℕ × ℕ)) → IsAscending xs → IsNonDecreasingBy (λ x. x.0) xs

@@ -5,7 +5,7 @@ use Rattle.std.specs.Fmt.{digits}
 use Rattle.std.specs.List.{flat_map, list_all}
 use Rattle.std.specs.Str.{all_ascii_digits, bytes_eq}
 use Rattle.std.specs.Str.Parse.{digits_value}
-use Rattle.std.proofs.lemmas.Bool.{and_parts, cases_eq, eqb-true, leb-true, le-leb, lt-leb, cases_lt}
+use Rattle.std.proofs.lemmas.Bool.{and_parts, cases_eq, eqb-true, leb-true, le-leb, lt-leb, cases_lt, not-true}
 use Rattle.std.proofs.lemmas.Fmt.{decimal-digits_value}
 use Rattle.std.proofs.lemmas.Str.Parse.{IsNumeralModel, numerals_by_value, tells_all_ascii_digits}
 use Rattle.pack_defs.specs.Lists.{is_empty}
@@ -61,10 +61,6 @@ none-some n e = cc
 if-some : (b : Bool) (m n : ℕ) → (if b then Some m else None) ≡ Some n → (b ≡ true) × (m ≡ n)
 if-some true m n e = (refl, cc)
 if-some false m n e = absurd (none-some n e)
-
-not-true : (b : Bool) → not b ≡ true → b ≡ false
-not-true true e = absurd cc
-not-true false e = refl
 
 pub natural-is : (most : ℕ) (word : List ℕ) (n : ℕ) → natural most word ≡ Some n → IsNatural most word n
 unfolding natural
@@ -200,7 +196,7 @@ hint-said clauses k h p e = elim (cases_lt clauses h) [
 abbrev more-hints : ℕ → Result (List ℕ) LratErr → Result (List ℕ) LratErr
 more-hints place read = read >>= λ hints. Ok (place ∷ hints)
 
-positive-text : (l : Lit) → l.positive ≡ true → lit_text l ≡ decimal l.var
+pub positive-text : (l : Lit) → l.positive ≡ true → lit_text l ≡ decimal l.var
 positive-text l e = rw e refl
 
 pub empty-is : (xs : List (List ℕ)) → is_empty xs ≡ true → xs ≡ []

@@ -6,6 +6,7 @@ use Rattle.std.specs.Prelude.{nat_lt}
 use Rattle.std.specs.List.{list_all, slice_get}
 use Rattle.lrat_text.proofs.SplitLemmas.{nil-by-last}
 use Rattle.pack_defs.specs.Lists.{is_ascending, is_empty, is_in}
+use Rattle.pack_defs.proofs.Words.{ascending-rest}
 use Rattle.lrat_text.specs.declared.error.LratErr.TheVariants.{Truncated, BadLine, RatStep, NoMemory}
 use Rattle.lrat_text.specs.declared.field.Field.TheVariants.{End, Number}
 use Rattle.lrat_text.specs.LogReading.{LogRead, after_words, after_lines, log_of, log_read, nothing_read, field_of, lits_at, hint_at, hints_at, hints_or, is_next, place_in, deleted_at, deleted_or}
@@ -63,17 +64,13 @@ first-below m (n ∷ ms) (suc k) up h =
     let b = first-below n ms k parts.1 (omega arith) in
     omega (arith, a, b)
 
-rest-ascends : (m : ℕ) (ms : List ℕ) → is_ascending (m ∷ ms) ≡ true → is_ascending ms ≡ true
-rest-ascends m [] up = refl
-rest-ascends m (n ∷ ms) up = (and_parts _ _ up).1
-
 pub placed : (next : ℕ) (ms : List ℕ) (i h : ℕ) → is_ascending ms ≡ true → i < length ms → get_or ms i 0 ≡ h → place_in next ms h ≡ Some (next + i)
 placed next [] i h up lt e = absurd (omega arith)
 placed next (m ∷ ms) zero h up lt e = let z : next + 0 ≡ next = omega arith in rw (eq-eqb m h e, z) refl
 placed next (m ∷ ms) (suc i) h up lt e =
     let below = first-below m ms i up (omega arith) in
     let z : next + suc i ≡ next + 1 + i = omega arith in
-    rw (ne_eqb m h (λ q. absurd (omega (arith, below, q, e))), z) (placed (next + 1) ms i h (rest-ascends m ms up) (omega arith) e)
+    rw (ne_eqb m h (λ q. absurd (omega (arith, below, q, e))), z) (placed (next + 1) ms i h (ascending-rest m ms up) (omega arith) e)
 
 -- a number so far is above the clauses by its place and one, at least
 pub room : (m : ℕ) (ms : List ℕ) (i h : ℕ) → is_ascending (m ∷ ms) ≡ true → i < length ms → get_or ms i 0 ≡ h → m + 1 + i ≤ h
@@ -84,10 +81,6 @@ room m (k ∷ ms) (suc i) h up lt e =
     let low = ltb-true m k parts.0 in
     let more = room k ms i h parts.1 (omega arith) e in
     omega (arith, low, more)
-
--- the numbers without the clauses before them
-pub numbers-rise : (clauses : ℕ) (ms : List ℕ) → is_ascending (clauses ∷ ms) ≡ true → is_ascending ms ≡ true
-numbers-rise clauses ms up = rest-ascends clauses ms up
 
 -- they ascend with the next one
 pub next-rises : (clauses : ℕ) (ms : List ℕ) (number : ℕ) → is_ascending (clauses ∷ ms) ≡ true → is_next clauses ms number ≡ true → is_ascending (clauses ∷ ms ++ number ∷ []) ≡ true

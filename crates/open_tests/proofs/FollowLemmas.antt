@@ -1,9 +1,8 @@
 -- The first steps of a backed record, one after another: what the clock, the map and the places of the last fits then are.
 use Rattle.std.proofs.Common.{◌≡◌, ◌∙◌, ℕ, zero, suc, ◌+◌, ◌-◌, ◌<◌, ◌≤◌, Bool, true, false, ◌==◌, if◌then◌else◌, List, [], ◌∷◌, ◌++◌, map, take, length, get_or, set, replicate, Option, Some, None, is_some, unwrap_or, refl, sym, ap, subst, arith, add-one, ⊎_elim}
 use Rattle.std.specs.Option.{option_map_or}
-use Rattle.std.proofs.lemmas.Bool.{cases_eq, cases_lt, cond-false, cond-true, eq-eqb, eqb-true, ne_eqb}
+use Rattle.std.proofs.lemmas.Bool.{cases_eq, cond-false, cond-true, eq-eqb, eqb-true, ne_eqb}
 use Rattle.std.proofs.lemmas.List.{get_or-set_other, get_or-set_same, length-map, length-set, take_more}
-use Rattle.std.proofs.lemmas.List.Kept.{AllPairs-from_increasing}
 use Rattle.std.proofs.lemmas.Option.{slice_get-get_or, slice_get_past}
 use Rattle.std.specs.List.Sorted.{IsStrictlyIncreasing}
 use Rattle.pack_defs.specs.Book.{BookView, IsInOrder}
@@ -13,6 +12,7 @@ use Rattle.pack_defs.specs.Lists.{has_station, is_in}
 use Rattle.pack_defs.specs.Scenario.{IsWithinLimits, StationsAscend, facilities}
 use Rattle.pack_defs.specs.declared.scenario.Scenario.{Scenario}
 use Rattle.pack_defs.specs.declared.station.Station.{Station}
+use Rattle.pack_defs.proofs.MapLemmas.{overlaid-ascending}
 use Rattle.auction_core.specs.AirMap.{AirMapView}
 use Rattle.auction_core.specs.Backed.{IsBacked, IsEnded, IsStepShown, after_start, after_steps}
 use Rattle.auction_core.specs.Clock.{ClockView, IsClockOf, answered_clock, stands_on_air}
@@ -25,8 +25,7 @@ use Rattle.auction_core.specs.declared.record.Ending.TheVariants.{Done, StartRef
 use Rattle.auction_core.specs.declared.record.Record.{Record}
 use Rattle.auction_core.specs.declared.record.Step.{Step}
 use Rattle.auction_core.proofs.ClockLemmas.{is_on_air_at}
-use Rattle.auction_core.proofs.KeptPast.{step-within}
-use Rattle.auction_core.proofs.Overlay.{overlaid-ascending}
+use Rattle.auction_core.proofs.KeptPast.{step-within, one-place}
 use Rattle.auction_core.proofs.Sets.{last_fit-push}
 use Rattle.auction_core.proofs.Steps.{after_steps-steps}
 use Rattle.result_text.proofs.ReplayLemmas.{auction-of, next-clock}
@@ -85,17 +84,6 @@ first-fits stations steps n same = record {
   long = length-zeros n ∙ same;
   each = λ i inside. ap (fit_named steps) (zero-at n i);
 }
-
--- no station has two places
-one-place : (xs : List ℕ) (i k : ℕ) → IsStrictlyIncreasing xs → i < length xs → k < length xs → get_or xs i 0 ≡ get_or xs k 0 → i ≡ k
-one-place xs i k up a b e =
-    let less = AllPairs-from_increasing xs up in
-    ⊎_elim (λ (same : i ≡ k). same)
-    (λ (other : i ≡ k → ⊥). ⊎_elim
-    (λ (before : i < k). let l = less i k 0 before b in absurd (omega (arith, l, e)))
-    (λ (from : k ≤ i). let m = less k i 0 (omega (arith, from, other)) a in absurd (omega (arith, m, e)))
-    (cases_lt i k))
-    (cases_eq i k)
 
 -- the entries that a step names by its number, from 1
 named-here : (steps : List Step) (k : ℕ) (x : Step) → k < length steps → x ≡ get_or steps k x → fit_named steps (k + 1) ≡ unwrap_or (fit_of x.shown) []

@@ -20,7 +20,7 @@ use Rattle.transcript_text.specs.Spelling.{transcript_for, transcript_steps}
 use Rattle.auction_core.specs.NotShown.{not_shown, start_fault, step_or, steps_fault}
 use Rattle.auction_core.specs.LogNumbers.{steps_in}
 use Rattle.transcript_check.specs.Sound.{transcript_record}
-use Rattle.transcript_check.proofs.SoundLemmas.{shown-sound, sound-shown, transcript-sound, transcript-steps-same}
+use Rattle.transcript_check.proofs.SoundLemmas.{shown-sound, sound-shown, transcript-sound, transcript-steps-same, same-record}
 use Rattle.auction_core.proofs.WalkLemmas.{step_or-parts}
 use Rattle.open_tests.specs.Queries.{state_before, step_at}
 use Rattle.open_tests.specs.Settled.{IsLeftOpen, RefutesStep, settled_by, shown_outside, without_test}
@@ -45,9 +45,6 @@ refutes : (sc : Scenario) (book : BookView) (rec : Record) (step : ℕ) (proof :
 refutes sc book rec step proof b p =
     subst (λ (z : Scenario). RefutesAt z book (first z rec) rec.steps (step - 1) proof) b.scenario
     (refutes-at rec.scenario book (first rec.scenario rec) (state_before rec step) rec.steps step proof refl p)
-
-same-record : (a b : Record) → a.scenario ≡ b.scenario → a.order ≡ b.order → a.ending ≡ b.ending → a.start ≡ b.start → a.steps ≡ b.steps → a.map ≡ b.map → a.total ≡ b.total → a ≡ b
-same-record a b p o q r s m n = λ i. record { scenario = p i; order = o i; ending = q i; start = r i; steps = s i; map = m i; total = n i }
 
 none-or : (n : ℕ) (o : Option _) (rest : Option _) → o ≡ None → rest ≡ None → step_or n o rest ≡ None
 none-or n o rest e f = rw e f

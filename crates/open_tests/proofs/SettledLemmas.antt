@@ -1,8 +1,8 @@
 -- A step that was left open, shown by a proof from outside.
-use Rattle.std.proofs.Common.{◌≡◌, ℕ, zero, suc, ◌-◌, Bool, true, false, ◌||◌, ◌==◌, if◌then◌else◌, List, [], ◌∷◌, ◌++◌, map, take, get_or, set, Option, Some, None, option_map, MatchOption, refl, sym, ap, subst, ◌∙◌, arith, eq-eqb}
+use Rattle.std.proofs.Common.{◌≡◌, ℕ, zero, suc, ◌-◌, Bool, true, false, ◌==◌, if◌then◌else◌, List, [], ◌∷◌, ◌++◌, map, take, get_or, set, Option, Some, None, option_map, MatchOption, refl, sym, ap, subst, ◌∙◌, arith, eq-eqb}
 use Rattle.std.specs.Prelude.{⊤, slice_get}
 use Rattle.std.specs.List.{cons_option}
-use Rattle.std.proofs.lemmas.Bool.{and_from, both_ways, false_from_ne_true}
+use Rattle.std.proofs.lemmas.Bool.{and_from, both_ways, false_from_ne_true, or_parts}
 use Rattle.pack_defs.specs.declared.scenario.Scenario.{Scenario}
 use Rattle.pack_defs.specs.Book.{BookView}
 use Rattle.pack_defs.specs.ClockRule.{ClockTest, is_listed}
@@ -96,10 +96,6 @@ set-is items steps new i x proof h same is e =
 
 -- ---- which tests are left open
 
-or-parts : (b c : Bool) → (b || c) ≡ false → (b ≡ false) × (c ≡ false)
-or-parts true c e = absurd cc
-or-parts false c e = (refl, e)
-
 itself : (t : ClockTest) → is_same_test t t ≡ true
 itself t = and_from (t.round == t.round) (t.station == t.station) (eq-eqb t.round t.round refl) (eq-eqb t.station t.station refl)
 
@@ -116,7 +112,7 @@ without-later t u us e = rw e refl
 without-none : (t : ClockTest) (us : List ClockTest) → is_listed us t ≡ false → without_test t us ≡ us
 without-none t [] e = refl
 without-none t (u ∷ us) e =
-    let parts = or-parts (is_same_test t u) (is_listed us t) e in
+    let parts = or_parts (is_same_test t u) (is_listed us t) e in
     without-later t u us parts.0 ∙ ap (λ (vs : List ClockTest). u ∷ vs) (without-none t us parts.1)
 
 -- a step's test is another than one that is not among these
@@ -124,9 +120,9 @@ not-listed-get : (xs : List Step) (i : ℕ) (y : Step) (t : ClockTest) → slice
 not-listed-get [] i y t is e = absurd cc
 not-listed-get (x ∷ xs) zero y t is e =
     let same : x ≡ y = cc in
-    subst (λ (z : Step). is_same_test t (test_of z) ≡ false) same (or-parts (is_same_test t (test_of x)) (is_listed (map test_of xs) t) e).0
+    subst (λ (z : Step). is_same_test t (test_of z) ≡ false) same (or_parts (is_same_test t (test_of x)) (is_listed (map test_of xs) t) e).0
 not-listed-get (x ∷ xs) (suc i) y t is e =
-    not-listed-get xs i y t is (or-parts (is_same_test t (test_of x)) (is_listed (map test_of xs) t) e).1
+    not-listed-get xs i y t is (or_parts (is_same_test t (test_of x)) (is_listed (map test_of xs) t) e).1
 
 -- the first of the tests, if it was left open, where it is another one
 option-later : (b : Bool) (t u : ClockTest) (us vs : List ClockTest) → is_same_test t u ≡ false → vs ≡ without_test t us → cons_option (if b then Some u else None) vs ≡ without_test t (cons_option (if b then Some u else None) us)

@@ -27,7 +27,7 @@ list_all-fails p (x ∷ xs) h =
 abbrev size_of : List ℕ → List ℕ → ℕ
 size_of set among = length (filter (λ t. is_in among t) set)
 
-filter_no_longer : (p : ℕ → Bool) (xs : List ℕ) → length (filter p xs) ≤ length xs
+pub filter_no_longer : {X : Type 0} (p : X → Bool) (xs : List X) → length (filter p xs) ≤ length xs
 filter_no_longer p [] = omega arith
 filter_no_longer p (x ∷ xs) =
     let rest = filter_no_longer p xs in

@@ -9,6 +9,7 @@ use Rattle.std.proofs.lemmas.Bool.Decides.{nat_tests}
 use Rattle.std.proofs.lemmas.List.{get_or-map, length-map, map-append, take_more}
 use Rattle.std.proofs.lemmas.List.Folds.{list_any-append}
 use Rattle.std.proofs.lemmas.Simd.{map-map}
+use Rattle.std.proofs.Math.Bool.{or-false}
 use Rattle.pack_defs.specs.declared.domain.Domain.{Domain}
 use Rattle.pack_defs.specs.declared.pair.Pair.{Pair}
 use Rattle.pack_defs.specs.Book.{BookView, AreInOrder, IsInOrder, channels_in, is_within, stations_of}
@@ -22,10 +23,6 @@ use Rattle.pack_defs.proofs.Members.{Contains-filter, Contains-from_filter, is_i
 use Rattle.pack_defs.proofs.Words.{same-ascending}
 
 -- ---- one station more in an ascending list
-
-or_none : (a : Bool) → a ≡ (a || false)
-or_none true = refl
-or_none false = refl
 
 or_there : (a b : Bool) → (b ≡ true → a ≡ true) → a ≡ (a || b)
 or_there true b h = refl
@@ -45,7 +42,7 @@ or_later true b c = refl
 or_later false b c = refl
 
 pub also-none : (xs : List ℕ) → is_ascending xs ≡ true → HasAlso xs [] xs
-also-none xs a = record { ascends = a; same = λ t. or_none (is_in xs t) }
+also-none xs a = record { ascends = a; same = λ t. sym (or-false (is_in xs t)) }
 
 -- one that the list has already
 pub also-there : (xs : List ℕ) (x : ℕ) → is_ascending xs ≡ true → is_in xs x ≡ true → HasAlso xs (x ∷ []) xs

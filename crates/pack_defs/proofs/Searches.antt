@@ -34,6 +34,10 @@ sorted-keys key (x ∷ y ∷ ys) h =
     let less : key x < key y = ltb-true (key x) (key y) parts.0 in
     sorted-before (λ a b. is_lt (nat_cmp (key a) (key b))) x y ys (grind (arith, nat_tests)) (sorted-keys key (y ∷ ys) parts.1)
 
+-- what isn't less than the one before it rises
+pub rises-step : (x y : ℕ) → is_lt (nat_cmp y x) ≡ false → x ≤ y
+rises-step x y h = grind (arith, nat_tests)
+
 -- the order of pairs
 abbrev pub pair_cmp : Pair → Pair → Ordering
 pair_cmp p q = ordering_then (nat_cmp p.f q.f) (ordering_then (nat_cmp p.a q.a) (ordering_then (nat_cmp p.g q.g) (nat_cmp p.b q.b)))

@@ -7,6 +7,7 @@ use Rattle.std.proofs.lemmas.Bool.{cases_Bool, both_ways, false≢true, or_cases
 use Rattle.std.proofs.lemmas.Bool.Decides.{nat_tests}
 use Rattle.std.proofs.lemmas.List.{take_more}
 use Rattle.std.proofs.lemmas.List.Folds.{list_any-append}
+use Rattle.std.proofs.Math.Bool.{or-false}
 use Rattle.pack_defs.specs.Lists.{is_in}
 use Rattle.pack_defs.proofs.BookLemmas.{list_any-same}
 use Rattle.pack_defs.proofs.ComponentLaws.{filter_grows, filter_grows_by_one}
@@ -60,13 +61,8 @@ more-gives : (x t : ℕ) (seen more : ℕ → Bool) → HasMore x seen more → 
 more-gives x t seen more m h =
     elim (or_cases (x == t) (seen t) (sym (m.same t) ∙ h)) [ inl e ↦ inl (eqb-true x t e) | inr old ↦ inr old ]
 
--- a list with one more at its end
-or_none : (a : Bool) → (a || false) ≡ a
-or_none true = refl
-or_none false = refl
-
 is_in-more : (xs : List ℕ) (x t : ℕ) → is_in (xs ++ x ∷ []) t ≡ (is_in xs t || (x == t))
-is_in-more xs x t = list_any-append (λ y. y == t) xs (x ∷ []) ∙ ap (λ b. is_in xs t || b) (or_none (x == t))
+is_in-more xs x t = list_any-append (λ y. y == t) xs (x ∷ []) ∙ ap (λ b. is_in xs t || b) (or-false (x == t))
 
 pub last-in : (xs : List ℕ) (x : ℕ) → is_in (xs ++ x ∷ []) x ≡ true
 last-in xs x = is_in-more xs x x ∙ or_right (is_in xs x) (x == x) (eq-eqb x x refl)

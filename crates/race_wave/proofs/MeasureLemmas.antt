@@ -19,7 +19,8 @@ use Rattle.auction_core.proofs.GoesOn.{replay-goes as state-goes}
 use Rattle.turn_lock.specs.Turns.{StartsWith}
 use Rattle.answer_board.specs.Boards.{beginning_of}
 use Rattle.answer_board.specs.Entries.{entries_of, numbered}
-use Rattle.answer_board.proofs.PostLemmas.{entries-numbered}
+use Rattle.answer_board.proofs.PostLemmas.{entries-numbered, Replays}
+use Rattle.answer_board.proofs.StandLemmas.{entries-more, replay-rest}
 use Rattle.auction_core.proofs.Replays.{if-some}
 use Rattle.race_wave.specs.Turns.{RestsAtEnd, MovesOn, NearsEnd}
 
@@ -64,26 +65,6 @@ replay-goes sc book (e ∷ es) state new s =
       | Some next ↦ λ k r. goes-then sc state next new (entry-goes sc book state next e e.answer k) (replay-goes sc book es next new r)
     ] in
     go (after_entry sc book state e e.answer) refl s
-
-replay-more : (sc : Scenario) (book : BookView) (es fs : List EntryView) (state : CoreState) → replay_from sc book (es ++ fs) state ≡ option_and_then (replay_from sc book fs) (replay_from sc book es state)
-replay-more sc book [] fs state = refl
-replay-more sc book (e ∷ es) fs state =
-    elim (after_entry sc book state e e.answer) as (λ o. option_and_then (replay_from sc book (es ++ fs)) o ≡ option_and_then (replay_from sc book fs) (option_and_then (replay_from sc book es) o)) [
-      | None ↦ refl
-      | Some next ↦ replay-more sc book es fs next
-    ]
-
-replay-rest : (sc : Scenario) (book : BookView) (es fs : List EntryView) (first old new : CoreState) → replay_from sc book es first ≡ Some old → replay_from sc book (es ++ fs) first ≡ Some new → replay_from sc book fs old ≡ Some new
-replay-rest sc book es fs first old new e f =
-    sym (ap (λ o. option_and_then (replay_from sc book fs) o) e) ∙ (sym (replay-more sc book es fs first) ∙ f)
-
-entries-more : (xs ys : List (ℕ × EntryView)) → entries_of (xs ++ ys) ≡ entries_of xs ++ entries_of ys
-entries-more [] ys = refl
-entries-more (x ∷ xs) ys = ap (λ l. x.1 ∷ l) (entries-more xs ys)
-
--- the history of an auction leaves its state
-abbrev Replays : AuctionView → Type 0
-Replays a = replay_from a.scenario a.book a.history a.opened ≡ Some a.state
 
 -- an auction that began as another one did, and whose history goes on from that one's by these entries, stands where they lead
 -- from there

@@ -20,7 +20,7 @@ use Rattle.answer_board.specs.Boards.{AreAllOn, IsPassOn, kept_base, kept_entrie
 use Rattle.answer_board.specs.Entries.{numbered}
 use Rattle.turn_lock.proofs.Lists.{length_map}
 use Rattle.turn_lock.proofs.Makes.{map_again}
-use Rattle.answer_board.proofs.PassLemmas.{all-at}
+use Rattle.turn_lock.proofs.PassLists.{all_at}
 use Rattle.race_wave.specs.declared.runner.Runner.{Runner}
 use Rattle.race_wave.specs.Waves.{HasRaced, IsRunner}
 
@@ -92,8 +92,8 @@ module _ {R : Type 0} (w : R → Worker) (board : Board) where
       let mine : map (λ (x : Runner R). w x.racer) xs ≡ (raised board).scenario.workers = sym (map_again (λ (x : Runner R). x.racer) w xs) ∙ (racers ∙ sym of) in
       let at : slice_get (map (λ (x : Runner R). w x.racer) xs) k ≡ Some (w r.racer) = slice_get-get_or (map (λ (x : Runner R). w x.racer) xs) k (w d.racer) (let long = length_map (λ (x : Runner R). w x.racer) xs in omega arith) ∙ ap (λ x. Some x) (get-map (λ (x : Runner R). w x.racer) xs k d) in
       record {
-        own = all-at (λ (x : Runner R). IsPassOn board x.pass) xs k d own lt;
-        idle = all-at (λ (x : Runner R). IsIdle x.pass) xs k d rest lt;
+        own = all_at (λ (x : Runner R). IsPassOn board x.pass) xs k d own lt;
+        idle = all_at (λ (x : Runner R). IsIdle x.pass) xs k d rest lt;
         of = ap (slice_get (raised board).scenario.workers) number ∙ (ap (λ l. slice_get l k) (sym mine) ∙ at);
       }
     where

@@ -1,5 +1,5 @@
 -- The stations that start on air, and the scenario of no others.
-use Rattle.std.proofs.Common.{◌≡◌, ◌∙◌, ℕ, ◌≤◌, ◌*◌, Bool, true, false, not, cond, ltb, List, [], ◌∷◌, length, filter, find, Contains, Option, None, Ok, inl, inr, refl, sym, ap, subst, arith}
+use Rattle.std.proofs.Common.{◌≡◌, ◌∙◌, ℕ, ◌≤◌, ◌*◌, Bool, true, not, cond, ltb, List, [], ◌∷◌, length, filter, find, Contains, Option, None, Ok, inl, inr, refl, sym, ap, subst, arith}
 use Rattle.std.specs.Option.{is_some, option_map_or}
 use Rattle.std.proofs.lemmas.Bool.{cases_Bool}
 use Rattle.std.proofs.lemmas.List.Elements.{All-filter, All-nil}
@@ -21,6 +21,7 @@ use Rattle.pack_defs.specs.declared.pair.Pair.{Pair}
 use Rattle.pack_defs.specs.declared.scenario.Scenario.{Scenario}
 use Rattle.pack_defs.specs.declared.station.Station.{Station}
 use Rattle.pack_defs.specs.declared.worker.Worker.{Worker}
+use Rattle.pack_defs.proofs.ComponentLaws.{filter_no_longer}
 use Rattle.scenario_json.proofs.StationsAscend.{ids, increasing-from_ascending}
 use Rattle.scenario_json.specs.Joined.{book_unless, first_missing, joined}
 use Rattle.scenario_json.specs.StartOnly.{declines_opening, start_only}
@@ -80,18 +81,9 @@ only-starts sc top ascend =
 
 -- ---- the limits
 
-pub kept_at_most : {A : Type 0} (p : A → Bool) (xs : List A) → length (filter p xs) ≤ length xs
-kept_at_most p [] = omega arith
-kept_at_most p (x ∷ xs) =
-    let rest = kept_at_most p xs in
-    elim (p x) as (λ b. length (cond b (x ∷ filter p xs) (filter p xs)) ≤ length (x ∷ xs)) [
-      | true ↦ omega (arith, rest)
-      | false ↦ omega (arith, rest)
-    ]
-
 pub only-limits : (sc : Scenario) (top : ℕ) → IsWithinLimits sc → 14 ≤ top → top ≤ 51 → IsWithinLimits (start_only sc top)
 only-limits sc top limits least most =
-    let fewer = kept_at_most (λ (x : Station). declines sc x.id 0) sc.stations in
+    let fewer = filter_no_longer (λ (x : Station). declines sc x.id 0) sc.stations in
     let all : length sc.stations ≤ 8192 = limits.stations in
     record {
       least_top = least;

@@ -11,10 +11,11 @@ use Rattle.std.proofs.lemmas.Str.Parse.{IsNumeralModel, numerals_by_value, tells
 use Rattle.csv.specs.Reading.{default_config, records, strip_bom}
 use Rattle.csv.specs.declared.parser.State.TheVariants as st
 use Rattle.pack_defs.specs.Lists.{is_empty}
+use Rattle.pack_defs.proofs.Digits.{digit-value}
 use Rattle.constraint_files.specs.Numbers.{number, numbers}
 use Rattle.constraint_files.specs.Records.{is_blank, kept_fields, line_records, lines_of, trimmed, without_leading, without_trailing}
 use Rattle.constraint_files.proofs.CsvLemmas.{records-rows, rows, rows_from}
-use Rattle.constraint_files.proofs.NumberLemmas.{all-digits, digit-value}
+use Rattle.constraint_files.proofs.NumberLemmas.{all-digits}
 use Rattle.scenario_make.specs.MadeFiles.{behind_commas, key_line}
 
 -- ---- numbers

@@ -8,18 +8,12 @@ use Rattle.pack_defs.specs.declared.order.Order.{Order}
 use Rattle.pack_defs.specs.declared.scenario.Scenario.{Scenario}
 use Rattle.pack_defs.specs.Scenario.{StationsAscend, facilities}
 use Rattle.pack_defs.specs.Prices.{declines, last_round, prices}
-use Rattle.pack_defs.specs.ClockRule.{ClockTest, OnAirSince, ClockState, tests_of, bidders_in_turn, opening_state, asked_set, exits, after_tests, clock_rule}
+use Rattle.pack_defs.specs.ClockRule.{ClockTest, ClockState, tests_of, bidders_in_turn, opening_state, asked_set, exits, after_tests, clock_rule}
 use Rattle.pack_defs.proofs.Chains.{ascending-filter}
 use Rattle.pack_defs.proofs.FitsLaws.{fits-from}
 use Rattle.pack_defs.proofs.PriceLaws.{prices_rounds}
 use Rattle.pack_defs.proofs.TestOrder.{in_turn}
 use Rattle.pack_defs.proofs.Words.{ascending-from}
-
--- ---- the opening
-
--- a station that is on air from the start
-abbrev pub started : ℕ → OnAirSince
-started s = record { station = s; round = 0 }
 
 -- ---- one test
 

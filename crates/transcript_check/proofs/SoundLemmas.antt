@@ -73,7 +73,7 @@ numbered sc book state [] = tt
 numbered sc book state (x ∷ xs) = (refl, numbered sc book (settled sc state (test_of x) x.shown) xs)
 
 -- two records are equal where their parts are
-same-record : (a b : Record) → a.scenario ≡ b.scenario → a.order ≡ b.order → a.ending ≡ b.ending → a.start ≡ b.start → a.steps ≡ b.steps → a.map ≡ b.map → a.total ≡ b.total → a ≡ b
+pub same-record : (a b : Record) → a.scenario ≡ b.scenario → a.order ≡ b.order → a.ending ≡ b.ending → a.start ≡ b.start → a.steps ≡ b.steps → a.map ≡ b.map → a.total ≡ b.total → a ≡ b
 same-record a b p o q r s m n = λ i. record { scenario = p i; order = o i; ending = q i; start = r i; steps = s i; map = m i; total = n i }
 
 -- what a backed record that was carried through shows of its steps, whatever lists them as those of a transcript

@@ -12,7 +12,7 @@ use Rattle.lrat_text.specs.Lines.{fields_of, is_space, joined, line_of, onto_pie
 use Rattle.lrat_text.specs.LogReading.{field_of, natural}
 use Rattle.lrat_text.specs.LogText.{greatest}
 use Rattle.lrat_text.specs.OneSpelling.{has_no_nought, is_shortest}
-use Rattle.lrat_text.proofs.OneSpelling.{IsNatural, IsWrittenAs, ended, natural-is, word-of-natural, written}
+use Rattle.lrat_text.proofs.OneSpelling.{IsNatural, IsWrittenAs, ended, natural-is, word-of-natural, written, empty-is}
 use Rattle.transcript_text.specs.declared.error.TextErr.{TextErr}
 use Rattle.transcript_text.specs.declared.error.TextErr.TheVariants.{BadLine, Truncated}
 use Rattle.transcript_text.specs.Fields.{FieldsLeft, LinesLeft, channel_at, exactly_at, found_or, greatest_u32, is_above, is_plain, line_end, next_field, next_line, number_at, plain_field, plain_number, station_above, station_at, word_at, worker_at}
@@ -87,10 +87,6 @@ word-said word line rest e =
     let a = after-ok (next_field line) (λ field. if bytes_eq field.0 word then Ok field.1 else Err (BadLine line.number)) rest e in
     let b = if-ok (bytes_eq a.0.0 word) a.0.1 rest (BadLine line.number) a.2 in
     field-said line a.0 a.1 ∙ ap (λ (w : List ℕ). w ∷ a.0.1.fields) (same-bytes-said a.0.0 word b.0) ∙ ap (λ (l : FieldsLeft). word ∷ l.fields) b.1
-
-empty-is : (xs : List (List ℕ)) → is_empty xs ≡ true → xs ≡ []
-empty-is [] e = refl
-empty-is (x ∷ xs) e = absurd cc
 
 pub end-said : (line : FieldsLeft) (u : Unit {0}) → line_end line ≡ Ok u → line.fields ≡ []
 unfolding line_end

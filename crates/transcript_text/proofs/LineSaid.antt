@@ -10,7 +10,7 @@ use Rattle.lrat_text.specs.declared.field.Field.{Field}
 use Rattle.lrat_text.specs.declared.field.Field.TheVariants.{End, Number}
 use Rattle.lrat_text.specs.Lines.{line_of}
 use Rattle.lrat_text.specs.LogText.{greatest, lit_text, log_fields, log_text, zero_field}
-use Rattle.lrat_text.proofs.OneSpelling.{IsWrittenAs}
+use Rattle.lrat_text.proofs.OneSpelling.{IsWrittenAs, empty-is, positive-text}
 use Rattle.transcript_text.specs.declared.error.TextErr.{TextErr}
 use Rattle.transcript_text.specs.declared.error.TextErr.TheVariants.{BadLine}
 use Rattle.transcript_text.specs.Steps.{◌>>=◌}
@@ -42,13 +42,6 @@ lits-said n (field ∷ fields) x e = go (plain_field field) (plain-field-said fi
         let same = ok-same ([], fields) x e in
         ap (λ (v : List ℕ). v ∷ fields) w ∙ ap (λ (y : List Lit × List (List ℕ)). map lit_text y.0 ++ zero_field ∷ y.1) same
     go (Some (Number l)) w rec e = more l w rec e
-
-positive-text : (l : Lit) → l.positive ≡ true → lit_text l ≡ decimal l.var
-positive-text l e = rw e refl
-
-empty-is : (xs : List (List ℕ)) → is_empty xs ≡ true → xs ≡ []
-empty-is [] e = refl
-empty-is (x ∷ xs) e = absurd cc
 
 hints-said : (n : ℕ) (fields : List (List ℕ)) (hints : List ℕ) → hints_at n fields ≡ Ok hints → fields ≡ map decimal hints ++ zero_field ∷ []
 unfolding hints_at

@@ -12,6 +12,7 @@ use Rattle.pack_defs.specs.declared.scenario.Scenario.{Scenario}
 use Rattle.pack_defs.proofs.Falls.{rounds-within}
 use Rattle.pack_defs.proofs.Members.{is_in-from}
 use Rattle.pack_defs.proofs.Words.{ascending-from}
+use Rattle.pack_defs.proofs.Chains.{ascending-filter}
 use Rattle.auction_core.specs.declared.record.Ending.TheVariants.{Done}
 use Rattle.auction_core.specs.declared.record.Record.{Record}
 use Rattle.auction_core.specs.declared.record.Shown.{Shown}
@@ -20,7 +21,7 @@ use Rattle.auction_core.specs.declared.record.Step.{Step}
 use Rattle.auction_core.specs.Backed.{AreShown, IsBacked, IsSettledBy, IsStartShown, IsStepShown, after_start, ending_of}
 use Rattle.auction_core.specs.Rule.{IsAuction}
 use Rattle.auction_core.specs.State.{CoreState, settled, settled_unasked, start_task, test_of, test_task, tested_set}
-use Rattle.auction_core.proofs.Answers.{filter-ascending, filter-in}
+use Rattle.auction_core.proofs.Answers.{filter-in}
 use Rattle.auction_core.proofs.Merged.{in-component}
 use Rattle.auction_core.proofs.Sets.{tested-rises, unasked-cases}
 use Rattle.result_text.proofs.ReplayLemmas.{auction-of}
@@ -43,7 +44,7 @@ test-known sc book clock s a = record {
 
 start-set-known : (sc : Scenario) (book : BookView) → IsAuction sc book → IsKnown sc (start_set sc)
 start-set-known sc book a = record {
-  rises = filter-ascending (λ s. declines sc s 0) (facilities sc) (ascending-from (facilities sc) a.stations);
+  rises = ascending-filter (λ s. declines sc s 0) (facilities sc) (ascending-from (facilities sc) a.stations);
   known = λ z m. (filter-in (λ s. declines sc s 0) (facilities sc) z m).0;
 }
 

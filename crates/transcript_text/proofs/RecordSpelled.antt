@@ -1,5 +1,5 @@
 -- The transcript of a backed record that was carried through can be written.
-use Rattle.std.proofs.Common.{◌≡◌, ◌<◌, ◌≤◌, ◌+◌, ◌∷◌, ◌++◌, [], ℕ, zero, suc, List, Bool, true, false, ◌==◌, if◌then◌else◌, Option, Some, None, MatchOption, Contains, inl, inr, ◌⊎◌, refl, ap, subst, arith, length, map, eqb-true, eq-eqb}
+use Rattle.std.proofs.Common.{◌≡◌, ◌<◌, ◌≤◌, ◌+◌, ◌∷◌, ◌++◌, [], ℕ, zero, suc, List, Bool, true, false, ◌==◌, if◌then◌else◌, Option, Some, None, MatchOption, inl, inr, ◌⊎◌, refl, ap, subst, arith, length, map, eqb-true, eq-eqb}
 use Rattle.std.specs.Prelude.{nat_lt, slice_get}
 use Rattle.std.specs.List.{All, AllByRecursion, list_all}
 use Rattle.std.proofs.lemmas.Bool.{and_parts, or_cases, or_left, or_right}
@@ -14,8 +14,8 @@ use Rattle.pack_defs.specs.declared.scenario.Scenario.{Scenario}
 use Rattle.pack_defs.specs.declared.station.Station.{Station}
 use Rattle.pack_defs.specs.declared.worker.Worker.{Worker}
 use Rattle.pack_defs.proofs.BookLemmas.{channels_in-ascend}
-use Rattle.pack_defs.proofs.Members.{Contains-here, Contains-there, is_in-from}
-use Rattle.pack_defs.proofs.Words.{ascending-rest, same_entry-itself, same_entry-same}
+use Rattle.pack_defs.proofs.Members.{is_in-from}
+use Rattle.pack_defs.proofs.Words.{ascending-rest, same_entry-itself, Contains-from_has_entry, list_all-at}
 use Rattle.assign_check.specs.Fault.{IsCleanOn}
 use Rattle.assign_check.proofs.Overlays.{change-stands}
 use Rattle.cnf_encode.specs.Formula.{packing_formula, variables_in}
@@ -116,18 +116,11 @@ first-of-all : (xs : List (ℕ × ℕ)) → FirstAbove None xs
 first-of-all [] = tt
 first-of-all (x ∷ xs) = refl
 
-entry-there : (m : List (ℕ × ℕ)) (x : ℕ × ℕ) → has_entry m x ≡ true → Contains m x
-entry-there [] x h = absurd cc
-entry-there (y ∷ ys) x h = elim (or_cases (same_entry y x) (has_entry ys x) h) [
-  | inl here ↦ subst (λ (z : ℕ × ℕ). Contains (y ∷ ys) z) (same_entry-same y x here) (Contains-here y ys)
-  | inr there ↦ Contains-there y x ys (entry-there ys x there)
-]
-
 fit-entry : (sc : Scenario) (book : BookView) (set : List ℕ) (last delta : List (ℕ × ℕ)) → IsNamed sc book → IsKnown sc set → IsCleanOn book set (overlaid last delta) → IsAscending delta → (x : ℕ × ℕ) → has_entry delta x ≡ true → IsEntry sc x
 fit-entry sc book set last delta n k clean a x m =
     let there = change-stands last delta x a m in
     let station = k.known x.0 (clean.only x there) in
-    let channel = is_in-from (domain_of book x.0) x.1 (clean.clean.on_domain x (entry-there (overlaid last delta) x there)) in
+    let channel = is_in-from (domain_of book x.0) x.1 (clean.clean.on_domain x (Contains-from_has_entry (overlaid last delta) x there)) in
     (station-of sc book x.0 n station, n.channels x.0 x.1 channel)
 
 stations-in : (delta : List (ℕ × ℕ)) (z : ℕ) → is_in (map (λ x. x.0) delta) z ≡ true → (c : ℕ) × (has_entry delta (z, c) ≡ true)
@@ -160,15 +153,6 @@ above-none : (xs : List ℕ) → Above None xs
 above-none [] = tt
 above-none (x ∷ xs) = refl
 
-all-of : (p : ℕ → Bool) (xs : List ℕ) (z : ℕ) → list_all p xs ≡ true → is_in xs z ≡ true → p z ≡ true
-all-of p [] z h m = absurd cc
-all-of p (x ∷ xs) z h m =
-    let parts = and_parts (p x) (list_all p xs) h in
-    elim (or_cases (x == z) (is_in xs z) m) [
-      | inl here ↦ subst (λ (y : ℕ). p y ≡ true) (eqb-true x z here) parts.0
-      | inr there ↦ all-of p xs z parts.1 there
-    ]
-
 stations-from : (sc : Scenario) (above : Option ℕ) (xs : List ℕ) → is_ascending xs ≡ true → ((z : ℕ) → is_in xs z ≡ true → IsStation sc z) → Above above xs → AreStations sc above xs
 stations-from sc above [] a each first = tt
 stations-from sc above (x ∷ xs) a each first =
@@ -188,7 +172,7 @@ refutation-spelled sc book task worker (Proof subset log) l n k most v =
     let p = proof-means book task worker subset log v in
     let few : length log.lines ≤ most_counted = omega (arith, p.within_budget, most) in
     let parts = and_parts (is_ascending subset) (list_all (is_in task.set) subset) p.of_subset in
-    let known : (z : ℕ) → is_in subset z ≡ true → is_in (facilities sc) z ≡ true = λ z m. k.known z (all-of (is_in task.set) subset z parts.1 m) in
+    let known : (z : ℕ) → is_in subset z ≡ true → is_in (facilities sc) z ≡ true = λ z m. k.known z (list_all-at (is_in task.set) subset z parts.1 m) in
     (few, stations-from sc None subset parts.0 (λ z m. station-of sc book z n (known z m)) (above-none subset), follows-lines sc book subset log.lines l n (record { rises = parts.0; known = known }) p.follows few)
 refutation-spelled sc book task worker (Dead p) l n k most v =
     let dead = dead-means book task worker p v in

@@ -1,13 +1,13 @@
 -- How many variables and clauses the formula of a set has, at most.
-use Rattle.std.proofs.Common.{◌≡◌, ◌∙◌, ◌≤◌, ◌+◌, ◌*◌, ◌∷◌, [], ℕ, List, Bool, true, false, cond, eqb, refl, sym, ap, arith, length, length-append, map, filter}
+use Rattle.std.proofs.Common.{◌≡◌, ◌∙◌, ◌≤◌, ◌+◌, ◌*◌, ◌∷◌, [], ℕ, List, Bool, true, false, eqb, refl, sym, ap, arith, length, length-append, map, filter}
 use Rattle.std.specs.Prelude.{count_by, nat_lt}
 use Rattle.std.specs.List.{flat_map}
 use Rattle.std.proofs.lemmas.Bool.{and_parts, eq-eqb, ltb-true, or_left, or_right}
 use Rattle.std.proofs.lemmas.List.{length-map}
 use Rattle.std.proofs.lemmas.List.Sums.{length-filter}
-use Rattle.pack_defs.specs.declared.pair.Pair.{Pair}
 use Rattle.pack_defs.specs.Book.{BookView, domain_of}
 use Rattle.pack_defs.specs.Lists.{is_ascending, is_in}
+use Rattle.pack_defs.proofs.ComponentLaws.{filter_no_longer}
 use Rattle.cnf_encode.specs.Formula.{at_most_one, choices, is_inside, not_both, station_variables, variable_of, variables_in}
 use Rattle.cnf_encode.proofs.AscendingLemmas.{count-most}
 use Rattle.cnf_encode.proofs.CountLemmas.{formula-counted}
@@ -74,19 +74,11 @@ all-twos book whole (s ∷ set) few =
     let both = length-append (at_most_one (station_variables book whole s)) (flat_map (λ s. at_most_one (station_variables book whole s)) set) in
     omega (arith, rest, here, both)
 
-kept-most : (p : Pair → Bool) (xs : List Pair) → length (filter p xs) ≤ length xs
-kept-most p [] = omega arith
-kept-most p (x ∷ xs) =
-    elim (p x) as (λ b. length (cond b (x ∷ filter p xs) (filter p xs)) ≤ length (x ∷ xs)) [
-      | true ↦ let rest = kept-most p xs in omega (arith, rest)
-      | false ↦ let rest = kept-most p xs in omega (arith, rest)
-    ]
-
 pub clauses-most : (book : BookView) (set : List ℕ) → ((s : ℕ) → length (domain_of book s) ≤ 52) → clauses_in book set ≤ 2705 * length set + length book.pairs
 clauses-most book set few =
     let two = length (flat_map (λ s. at_most_one (station_variables book set s)) set) in
     let inside = length (filter (is_inside set) book.pairs) in
     let whole = formula-counted book set two inside refl refl in
     let most = all-twos book set set few in
-    let pairs = kept-most (is_inside set) book.pairs in
+    let pairs = filter_no_longer (is_inside set) book.pairs in
     omega (arith, whole, most, pairs)

@@ -9,12 +9,13 @@ use Rattle.pack_defs.specs.ClockRule.{ClockState, asked_set, is_on_air, on_air_s
 use Rattle.pack_defs.specs.Lists.{is_in}
 use Rattle.pack_defs.proofs.Words.{ascending-from, same-ascending}
 use Rattle.pack_defs.proofs.Members.{is_in-from, is_in-gives}
+use Rattle.pack_defs.proofs.Chains.{ascending-filter}
 use Rattle.packing_graph.specs.Sets.{with_station}
 use Rattle.packing_graph.proofs.SetLemmas.{with_station-ascending, with_station-gives, with_station-has, with_station-keeps}
 use Rattle.auction_core.specs.declared.clock.Standing.{Standing}
 use Rattle.auction_core.specs.Clock.{AreStandings, on_air_by}
 use Rattle.auction_core.specs.State.{tested_set}
-use Rattle.auction_core.proofs.Answers.{filter-ascending, filter-in, in-filter}
+use Rattle.auction_core.proofs.Answers.{filter-in, in-filter}
 use Rattle.auction_core.proofs.ClockLemmas.{on_air_by-is}
 
 -- the stations on air and one more are those that its test asks about
@@ -23,8 +24,8 @@ with-station sc st s ascend there =
     let rises = ascending-from (facilities sc) ascend in
     let on : List ℕ = on_air_set sc st in
     same-ascending (with_station on s) (asked_set sc st s)
-    (with_station-ascending on s (filter-ascending (λ f. is_on_air st f) (facilities sc) rises))
-    (filter-ascending (λ f. is_on_air st f || (f == s)) (facilities sc) rises)
+    (with_station-ascending on s (ascending-filter (λ f. is_on_air st f) (facilities sc) rises))
+    (ascending-filter (λ f. is_on_air st f || (f == s)) (facilities sc) rises)
     (λ z h. elim (with_station-gives on s z (is_in-gives (with_station on s) z h)) [
       | inl same ↦ subst (λ y. is_in (asked_set sc st s) y ≡ true) (sym same) (in-filter (λ f. is_on_air st f || (f == s)) (facilities sc) s there (or_right (is_on_air st s) (s == s) (eq-eqb s s refl)))
       | inr air ↦ let parts = filter-in (λ f. is_on_air st f) (facilities sc) z (is_in-from on z air) in in-filter (λ f. is_on_air st f || (f == s)) (facilities sc) z parts.0 (or_left (is_on_air st z) (z == s) parts.1)

@@ -5,8 +5,9 @@ use Rattle.std.specs.Result.{is_ok}
 use Rattle.std.proofs.lemmas.Bool.{le-leb, lt-leb}
 use Rattle.pack_defs.specs.Lists.{is_in}
 use Rattle.pack_defs.proofs.Searches.{found-number}
+use Rattle.pack_defs.proofs.Words.{ascending-rest}
 use Rattle.lrat_text.specs.LogReading.{hint_place}
-use Rattle.lrat_text.proofs.ReadLemmas.{placed, nowhere, numbers-rise, room}
+use Rattle.lrat_text.proofs.ReadLemmas.{placed, nowhere, room}
 use Rattle.lrat_text.proofs.read.hint_place.Goals as goal
 
 some-none : (x : ℕ) → Some x ≡ None → ⊥
@@ -32,20 +33,20 @@ returns-then-stands_at c =
     let at : c.args.clauses + 1 + i ≡ c.args.h = omega (arith, c.if-h-clauses.false) in
     let here = standing numbers i c.args.h some in
     rw (lt-leb c.args.h c.args.clauses (omega (arith, c.if-h-clauses.false)))
-    (sym (placed (c.args.clauses + 1) numbers i c.args.h (numbers-rise c.args.clauses numbers c.requires) here.0 here.1 ∙ ap Some at))
+    (sym (placed (c.args.clauses + 1) numbers i c.args.h (ascending-rest c.args.clauses numbers c.requires) here.0 here.1 ∙ ap Some at))
 
 pub returns-in-Ok : goal.returns-in-Ok
 unfolding hint_place
 returns-in-Ok c =
     let here : get_or c.args.numbers.now c.in-Ok.i 0 ≡ c.args.h = search rules in
     rw (lt-leb c.args.h c.args.clauses (omega (arith, c.if-h-clauses.false)))
-    (sym (placed (c.args.clauses + 1) c.args.numbers.now c.in-Ok.i c.args.h (numbers-rise c.args.clauses c.args.numbers.now c.requires) c.in-Ok.ensures.bound here))
+    (sym (placed (c.args.clauses + 1) c.args.numbers.now c.in-Ok.i c.args.h (ascending-rest c.args.clauses c.args.numbers.now c.requires) c.in-Ok.ensures.bound here))
 
 pub returns-in-Err : goal.returns-in-Err
 unfolding hint_place
 returns-in-Err c =
     let numbers = c.args.numbers.now in
-    let found = found-number numbers c.args.h c.binary_search.result c.binary_search.ensures.bound c.binary_search.ensures.position (numbers-rise c.args.clauses numbers c.requires) in
+    let found = found-number numbers c.args.h c.binary_search.result c.binary_search.ensures.bound c.binary_search.ensures.position (ascending-rest c.args.clauses numbers c.requires) in
     let none : is_in numbers c.args.h ≡ false = sym found ∙ ap is_ok c.in-Err.is in
     rw (lt-leb c.args.h c.args.clauses (omega (arith, c.if-h-clauses.false))) (sym (nowhere (c.args.clauses + 1) numbers c.args.h none))
 

@@ -2,7 +2,7 @@ use Rattle.std.proofs.Common.{◌≡◌, ◌+◌, ◌∙◌, sym, true, get_or, 
 use Rattle.std.specs.Str.{all_ascii_digits}
 use Rattle.std.specs.Str.Parse.{digits_value}
 use Rattle.std.proofs.lemmas.List.{take_all}
-use Rattle.lrat_text.proofs.DigitLemmas.{more-digits, more-value}
+use Rattle.pack_defs.proofs.Digits.{more-digits, more-value}
 use Rattle.transcript_text.proofs.NumeralLemmas.{digit-most}
 use Rattle.transcript_text.proofs.log_field.digits_at.Goals as goal
 
