@@ -1,14 +1,14 @@
 //! The trail of a conflict-driven solver: what is decided, and what clauses force, in order.
 #![tactic(auto)]
 
-pub mod assignment;
+mod assignment;
 pub mod entry;
-pub mod good;
-pub mod look;
+mod good;
+mod look;
 pub mod plain;
-pub mod propagate;
+mod propagate;
 pub mod trail;
-pub mod turn;
-pub mod watches;
-pub mod watching;
+mod turn;
+mod watches;
+mod watching;
 pub mod within;
