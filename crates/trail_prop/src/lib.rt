@@ -1,4 +1,7 @@
 //! The trail of a conflict-driven solver: what is decided, and what clauses force, in order.
+//!
+//! It may call `clause_db` alone, and knows of no book and no query. `cdcl_prove` searches on it, and no check does. Read `entry` and
+//! `trail` first, then `plain`, then `watching`, with `watches`, `turn` and `look`, then `propagate`.
 #![tactic(auto)]
 
 mod assignment;
