@@ -40,6 +40,27 @@ use std::sync::Arc;
 
 /// An auction between two postings. It keeps what each posting was told since it was opened, and keeps the clock rule whatever
 /// is posted. The state in which it was opened stands in proofs alone and takes no memory.
+///
+/// # Example
+///
+/// The first worker answers by `solve`, any function from a task to an answer; an answer at fault leaves the query standing:
+///
+/// ```
+/// let mut auction = Auction::start(alloc, &scenario, &book, Order::ByVolume)?;
+/// while let Some(task) = auction.task(alloc)? {
+///     auction.reserve()?;
+///     let answer = solve(alloc, &task)?;
+///     let said = match certify_query(alloc, auction.book(), &task, &auction.workers()[0], answer) {
+///         Ok(certified) => Said::Good(certified),
+///         Err(fault) => match fault.why {
+///             CertifyWhy::Rejected(place) => Said::Bad(place),
+///             CertifyWhy::NoMemory => return Err(NoMemory),
+///         },
+///     };
+///     auction.take(Posting { worker: 0, number: task.number, said });
+/// }
+/// let record = auction.into_result(alloc, scenario)?;
+/// ```
 #[derive(Drop)]
 pub struct Auction {
     opened: Snapshot<Clockwork>,

@@ -5,6 +5,6 @@ pub mod count;
 pub mod decode;
 pub mod encode;
 pub mod laws;
-pub mod numbering;
+mod numbering;
 #[cfg(test)]
 mod tests;

@@ -1,5 +1,8 @@
 //! A searcher that is kept from query to query of an auction, with all the lines that it learnt. It claims nothing: what it
 //! suggests is a channel map or a log, which whoever asked has checked. So its policy stands in no contract.
+//!
+//! It may call `pack_defs`, `clause_db` and `rup_check`, for the types of what it suggests. `cdcl_prove` alone calls it, and no check
+//! does. Read `suggestion` and `searcher` first, then `engine` and `query`, then `turn`, with `propagate`, `analysis` and `restarts`.
 #![tactic(auto)]
 
 mod analysis;

@@ -1,4 +1,6 @@
 //! Whether a transcript is sound, and the record that it shows.
+//!
+//! It may call `auction_core` and the checkers below it, and the readers of texts, and never a solver. Read `verify` first, then `laws`.
 #![tactic(auto)]
 
 pub mod laws;

@@ -23,6 +23,20 @@ use std::alloc::Global;
 /// # Errors
 ///
 /// The first step that is not shown, and why; or want of memory.
+///
+/// # Example
+///
+/// What the frozen stations of an auction are paid together, by its transcript's text, or the first step that isn't shown:
+///
+/// ```
+/// let transcript = read_transcript(alloc, text, &scenario, &book)?;
+/// let total = match verify(alloc, &book, &scenario, transcript) {
+///     Ok(record) => Ok(record.total),
+///     // Step 0 is the test of the stations that start on air.
+///     Err(VerifyErr::NotShown { step, .. }) => Err(step),
+///     Err(VerifyErr::NoMemory) => return Err(TextErr::NoMemory),
+/// };
+/// ```
 pub fn verify(
     alloc: Global,
     book: &Book,
