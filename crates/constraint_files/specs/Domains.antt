@@ -5,6 +5,7 @@ use Rattle.std.specs.Option.{is_some, ok_or}
 use Rattle.std.specs.Str.{bytes_eq}
 use Rattle.pack_defs.specs.Lists.{is_in}
 use Rattle.pack_defs.specs.declared.domain.Domain.{Domain}
+use Rattle.pack_defs.specs.declared.limits.TheConstants.{MOST_DOMAIN_ROWS}
 use Rattle.constraint_files.specs.Numbers.{number, numbers, is_channel}
 use Rattle.constraint_files.specs.Pieces.{Fed, fed_on}
 use Rattle.constraint_files.specs.Records.{lines_of, after_lines}
@@ -52,7 +53,7 @@ with_domain d (e ∷ es) = if nat_lt e.station d.station then e ∷ with_domain 
 abbrev pub put_domain : List Domain → Domain → Result (List Domain) RowWhy
 put_domain domains d =
     if is_some (channels_of domains d.station) then Err SecondDomain
-    else if nat_le 65536 (length domains) then Err TooMany
+    else if nat_le MOST_DOMAIN_ROWS (length domains) then Err TooMany
     else Ok (with_domain d domains)
 
 -- the domains with that of a record

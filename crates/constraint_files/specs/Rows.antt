@@ -6,6 +6,7 @@ use Rattle.std.specs.Str.{bytes_eq}
 use Rattle.pack_defs.specs.Book.{comes_before, is_of_two, pairs_ascend}
 use Rattle.pack_defs.specs.Lists.{is_in}
 use Rattle.pack_defs.specs.declared.domain.Domain.{Domain}
+use Rattle.pack_defs.specs.declared.limits.TheConstants.{MOST_PAIRS}
 use Rattle.pack_defs.specs.declared.pair.Pair.{Pair}
 use Rattle.constraint_files.specs.declared.error.ReadErr.{ReadErr}
 use Rattle.constraint_files.specs.declared.error.RowWhy.{RowWhy}
@@ -87,7 +88,7 @@ with_other domains row told t =
 
 -- the same, if the pairs are at most 4,000,000
 abbrev pub if_few : PairsView → Result PairsView RowWhy
-if_few told = if nat_lt 4000000 (length told.list) then Err TooMany else Ok told
+if_few told = if nat_lt MOST_PAIRS (length told.list) then Err TooMany else Ok told
 
 -- the same with what a record says
 abbrev pub add_row : List Domain → PairsView → List (List ℕ) → Result PairsView RowWhy

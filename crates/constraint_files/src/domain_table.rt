@@ -10,12 +10,10 @@ use crate::record::Record;
 use crate::table::Table;
 use pack_defs::domain::Domain;
 use pack_defs::items::Items;
+use pack_defs::limits::MOST_DOMAIN_ROWS;
 use std::alloc::{AllocError as NoMemory, Global};
 use std::collections::BTreeMap;
 use std::marker::Model;
-
-/// The greatest number of domain rows.
-const MOST_ROWS: usize = 65_536;
 
 /// The domains of the records read so far.
 #[derive(Drop)]
@@ -45,7 +43,7 @@ impl DomainTable {
     fn put(&mut self, domain: Domain) -> Result<(), RowErr>
         ensures { Changes (put_domain self.old domain) self.new result }
     {
-        let is_full = self.rows.len() >= MOST_ROWS;
+        let is_full = self.rows.len() >= MOST_DOMAIN_ROWS;
         let Domain { station, channels } = domain;
         if self.rows.insert(station, channels)?.is_some() {
             return Err(RowErr::Refused(RowWhy::SecondDomain));

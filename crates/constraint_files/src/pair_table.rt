@@ -1,6 +1,7 @@
 //! The pairs of the records read so far.
 
 ghost use Rattle.std.specs.Prelude.{◌≡◌, ◌+◌, [], ℕ, List, Option, fold, IfOk, OnOk, length, nat_lt, option_map};
+ghost use Rattle.pack_defs.specs.declared.limits.TheConstants.{MOST_PAIRS};
 ghost use Rattle.pack_defs.specs.Lists.{is_in};
 ghost use Rattle.constraint_files.specs.Domains.{channels_of};
 ghost use Rattle.constraint_files.specs.Reads.{Changes};
@@ -13,14 +14,12 @@ use crate::interference_row::{Row, interference_row};
 use crate::plain_lines::one_more;
 use crate::record::Record;
 use crate::table::Table;
+use pack_defs::limits::MOST_PAIRS;
 use pack_defs::pair::Pair;
 use std::alloc::{AllocError as NoMemory, Global};
 use std::collections::BTreeSet;
 use std::marker::Model;
 use std::mem;
-
-/// The greatest number of pairs.
-const MOST_PAIRS: usize = 4_000_000;
 
 /// What the records read so far say. The pairs that were told of last lie as they came, each as often as it came, since a
 /// list of them is soon sorted. They go into the tree only where all that came are so many that their number must be known
@@ -211,7 +210,7 @@ impl PairTable {
     /// Whether the pairs are more than may be.
     fn has_too_many(&mut self, alloc: Global) -> Result<bool, NoMemory>
         ensures same { OnOk result (self.new ≡ self.old) }
-        ensures count { IfOk result (λ b. b ≡ nat_lt 4000000 (length self.old.list)) }
+        ensures count { IfOk result (λ b. b ≡ nat_lt MOST_PAIRS (length self.old.list)) }
     {
         let count = self.last.len();
         if count <= MOST_PAIRS && self.tree.len() <= MOST_PAIRS - count {

@@ -9,6 +9,7 @@ use crate::error::ScenarioErr;
 use crate::members::{list, whole, within};
 use crate::name::Name;
 use pack_defs::items::Items;
+use pack_defs::limits::{MOST_DECREMENT, MOST_ROUNDS};
 use serde_json::Value;
 use std::alloc::Global;
 
@@ -21,7 +22,7 @@ pub(crate) fn decrements_in(
 ) -> Result<Items<u32>, ScenarioErr>
     ensures { Reads (decrements_in opening (view object.now)) result }
 {
-    let items = list(object, Name::Decrements, 0, 1_000)?;
+    let items = list(object, Name::Decrements, 0, MOST_ROUNDS)?;
     let decrements = decrements_from(alloc, items)?;
     if !falls_within(decrements.as_slice(), opening) {
         return Err(ScenarioErr::SumOverOpening);
@@ -45,7 +46,7 @@ fn decrement_in(item: &Value, at: u64) -> Result<u32, ScenarioErr>
     ensures { result ≡ decrement_in at (view item.now) }
 {
     let number = whole(item, Name::Decrements, at)?;
-    Ok(within(number, Name::Decrements, at, 1, 1_000_000)? as u32)
+    Ok(within(number, Name::Decrements, at, 1, MOST_DECREMENT)? as u32)
 }
 
 // Whether the decrements are at most the opening price together.

@@ -3,6 +3,7 @@
 ghost use Rattle.std.specs.Prelude.{◌≡◌, ◌≤◌, map};
 ghost use Rattle.std.specs.List.{list_any};
 ghost use Rattle.serde_json.specs.View.{view};
+ghost use Rattle.pack_defs.specs.declared.limits.TheConstants.{MOST_MOVES};
 ghost use Rattle.pack_defs.specs.Scenario.{is_prover, most_budget};
 ghost use Rattle.scenario_json.specs.ScenarioOf.{kind_in, kind_named, seed_in, worker_in, workers_in};
 ghost use Rattle.scenario_json.specs.Steps.{Reads, each_from};
@@ -11,6 +12,7 @@ use crate::error::ScenarioErr;
 use crate::members::{list, member, number, object_in, whole};
 use crate::name::Name;
 use pack_defs::items::Items;
+use pack_defs::limits::{MOST_MOVES, MOST_PROOF_LINES, MOST_WORKERS};
 use pack_defs::worker::{Kind, Worker};
 use serde_json::Value;
 use std::alloc::Global;
@@ -20,7 +22,7 @@ use std::alloc::Global;
 pub(crate) fn workers_in(alloc: Global, object: &Value) -> Result<Items<Worker>, ScenarioErr>
     ensures { Reads (workers_in (view object.now)) result }
 {
-    let items = list(object, Name::Workers, 1, 16)?;
+    let items = list(object, Name::Workers, 1, MOST_WORKERS)?;
     let workers = workers_from(alloc, items)?;
     if !one_proves(workers.as_slice()) {
         return Err(ScenarioErr::NoProver);
@@ -98,11 +100,11 @@ fn kind_named(text: &str) -> Option<Kind>
 // The most that a worker of this kind may spend on a query.
 fn most_budget(kind: Kind) -> u64
     ensures value { result ≡ most_budget kind }
-    ensures small { result ≤ 1000000 }
+    ensures small { result ≤ MOST_MOVES }
 {
     match kind {
-        Kind::Cdcl => 100_000,
-        Kind::Walk => 1_000_000,
+        Kind::Cdcl => MOST_PROOF_LINES,
+        Kind::Walk => MOST_MOVES,
     }
 }
 
