@@ -6,18 +6,21 @@
 //!
 //! Nothing of a kept answer is believed: the books of two auctions may differ in their domains and pairs, and their workers
 //! in kind and budget. What is answered has been let through by `certify` for the very book, task and worker at hand.
+//!
+//! It may call `cert_types` and what that stands on, and no solver. `race_wave` alone asks it; no check knows of it. Read `cache`
+//! first, then `key` and `search`, then `judge`; the other modules make a look cheap.
 #![tactic(auto)]
 
 pub mod cache;
 mod copies;
 mod judge;
 mod kept_refutation;
-pub mod key;
+mod key;
 pub mod laws;
 mod numbers;
 mod part;
 mod search;
-pub mod signed_set;
+mod signed_set;
 mod station_bits;
 #[cfg(test)]
 mod tests;

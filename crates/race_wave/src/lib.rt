@@ -1,4 +1,8 @@
 //! Auctions whose workers' solvers try the standing query.
+//!
+//! It may call `answer_board`, the solvers behind `solver_gate`, and `batch_cache`. `auction_cmd` calls it; no check knows of it. Read
+//! `run` first, then `wave`, with `muster`, `runner` and `parting`; then `serial` and `cached`. `watch` and `watching` are a worker's
+//! poll on a board, `standing` one without a race.
 #![tactic(auto)]
 
 pub mod cached;
@@ -8,6 +12,6 @@ pub mod run;
 pub mod runner;
 pub mod serial;
 pub mod standing;
-pub mod watch;
-pub mod watching;
+mod watch;
+mod watching;
 pub mod wave;
