@@ -77,8 +77,7 @@ pub fn violation(book: &Book, map: &ChannelMap) -> Option<MapFault>
     requires { IsAscending map.now }
     ensures { result ≡ violation book.now map.now }
 {
-    // With its length a book says that its pairs ascend: the first station with a violated one has the first of all.
-    let _stations = book.len();
+    book.keeps_order();
     for x in map.entries() {
         if let Some(pair) = violated_from(book, map, *x) {
             return Some(MapFault::Violates(pair));

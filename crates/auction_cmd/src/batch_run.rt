@@ -80,8 +80,7 @@ fn cached_auction_of<G: Gate + Sync, W: Threads + Wait + Sync>(
     requires { IsOfAuction inputs.now.scenario inputs.now.book }
     ensures { IfOk result (λ rec. IsRecordBy inputs.now rec rec.ending) }
 {
-    // With its length a book says that it is in order.
-    let _stations = inputs.book.len();
+    inputs.book.keeps_order();
     let record = run_cached(rt, alloc, &inputs.scenario, &inputs.book, cache, gate)?;
     Ok(record)
 }

@@ -55,8 +55,7 @@ fn settled_by(
     requires undecided { open_fault (step_at rec.steps step) ≡ None }
     ensures { IsSettling inputs.now (settled_text inputs.now.book rec step text.now) result }
 {
-    // With its length a book says that it is in order.
-    let _stations = inputs.book.len();
+    inputs.book.keeps_order();
     settle_by_text(alloc, rec, &inputs.book, step, text)
 }
 

@@ -114,8 +114,7 @@ fn carried_on<G: Gate + Sync, W: Threads + Wait + Sync>(
     ensures ended { IfOk result (λ rec. IsEndedRecordIn rec.order inputs.now rec rec.ending) }
     ensures goes_on { IfOk result (λ rec. (kept : Prefix) → StandsBehind inputs.now kept auction → GoesOnFrom kept rec) }
 {
-    // With its length a book says that it is in order.
-    let _stations = inputs.book.len();
+    inputs.book.keeps_order();
     let scenario = inputs.scenario.copy(alloc)?;
     let rec = go_on(rt, alloc, auction, scenario, &inputs.book, gate)?;
     Ok(rec)

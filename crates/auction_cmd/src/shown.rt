@@ -116,8 +116,7 @@ fn record_from(alloc: Global, inputs: &Inputs, transcript: Transcript) -> Result
     requires { IsOfAuction inputs.now.scenario inputs.now.book }
     ensures { IsVerdict inputs.now (record_by inputs.now (Ok transcript)) result }
 {
-    // With its length a book says that it is in order.
-    let _stations = inputs.book.len();
+    inputs.book.keeps_order();
     match check_transcript(alloc, &inputs.book, &inputs.scenario, transcript) {
         Ok(record) => Ok(record),
         Err(VerifyErr::NotShown { step, why }) => {

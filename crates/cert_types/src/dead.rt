@@ -24,8 +24,7 @@ pub(crate) fn is_dead(book: &Book, set: &[u32], pair: Pair) -> bool
 fn has_pair(book: &Book, pair: Pair) -> bool
     ensures { result ≡ list_any (λ q. same_pair q pair) book.now.pairs }
 {
-    // With its length a book says that its pairs ascend.
-    let _stations = book.len();
+    book.keeps_order();
     book.pairs().binary_search(&pair).is_ok()
 }
 

@@ -13,8 +13,8 @@ pub fn delta(alloc: Global, last: &ChannelMap, map: &ChannelMap) -> Result<Chann
     ensures lacking { IfOk result (λ d. d ≡ filter (λ x. not (has_entry last.now x)) map.now) }
     ensures whole { ((s : ℕ) → has_station last.now s ≡ true → has_station map.now s ≡ true) → IfOk result (λ d. overlaid last.now d ≡ map.now) }
 {
-    // Each map ascends, as `len` says.
-    let (_last, _map) = (last.len(), map.len());
+    last.keeps_order();
+    map.keeps_order();
     let mut entries = Vec::new(alloc);
     for x in map.entries() {
         if !stands(last, *x) {

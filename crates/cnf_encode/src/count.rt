@@ -27,8 +27,8 @@ fn no_two_count(book: &Book, set: &[u32]) -> u64
     ensures count { result ≡ length (flat_map (λ s. at_most_one (station_variables book.now set.now s)) set.now) }
     ensures few { result ≤ 32768 * 8192 }
 {
-    // A book has few stations, as `len` says, so that the sum fits.
-    let _stations = book.len();
+    // So the sum fits.
+    book.keeps_limit();
     let mut count = 0;
     for i in 0..set.len() {
         count += no_two_of(channels_of(book, set[i]));
@@ -55,8 +55,8 @@ fn pair_count(book: &Book, set: &[u32]) -> u64
     ensures count { result ≡ length (filter (is_inside set.now) book.now.pairs) }
     ensures few { result < 2 ^ 62 }
 {
-    // Each book is in order, as `len` says, and has no more pairs than a slice.
-    let _stations = book.len();
+    // There are no more pairs than a slice has.
+    book.keeps_order();
     let _pairs = book.pairs();
     let mut count = 0;
     for i in 0..set.len() {

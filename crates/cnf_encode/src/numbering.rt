@@ -47,8 +47,8 @@ fn with_station(book: &Book, set: &[u32], i: usize, before: u32) -> u32
     requires counted { IsCount book.now (take i set.now) before }
     ensures { IsCount book.now (take (i + 1) set.now) result }
 {
-    // A book has few stations, as `len` says, so that the sum fits.
-    let _stations = book.len();
+    // So the sum fits.
+    book.keeps_limit();
     before + count_of(channels_of(book, set[i]))
 }
 
@@ -66,8 +66,7 @@ pub(crate) fn channels_of(book: &Book, s: u32) -> &[u8]
     ensures channels { result.now ≡ domain_of book.now s }
     ensures ascending { IsTrue (is_ascending result.now) }
 {
-    // Each book is in order, as `len` says.
-    let _stations = book.len();
+    book.keeps_order();
     book.domain(s)
 }
 

@@ -72,9 +72,8 @@ impl FirstLooks {
         let Some(s) = task.station else {
             return Ok(None);
         };
-        // A book is in order, and a map ascends, as their `len` says.
-        let _stations = book.len();
-        let _entries = task.last.len();
+        book.keeps_order();
+        task.last.keeps_order();
         if let Some(fit) = self.last_fit(alloc, book, task, s)? {
             self.looked.last = self.looked.last.saturating_add(1);
             return Ok(Some(fit));
@@ -144,9 +143,8 @@ fn judged(
     ensures fits { IfOk result (λ r. IfSome r (λ delta. fit_fault book.now task.now delta ≡ None)) }
     ensures free { (s : ℕ) → task.now.station ≡ Some s → is_in task.now.set s ≡ true → IsFreeWay book.now task.now.last s proposal → IfOk result (λ r. is_some r ≡ true) }
 {
-    // A book is in order, and a map ascends, as their `len` says.
-    let _stations = book.len();
-    let _entries = task.last.len();
+    book.keeps_order();
+    task.last.keeps_order();
     let delta = proposal.changes(alloc)?;
     if !fits_by_changes(book, task, &delta) {
         return Ok(None);

@@ -39,8 +39,7 @@ impl<'a> Stands<'a> {
     fn is_on(&self, s: u32, c: u8) -> bool
         ensures { result ≡ has_entry (stood self.now.map.now self.now.moved) (s, c) }
     {
-        // The map ascends, as `len` says.
-        let _stations = self.map.len();
+        self.map.keeps_order();
         let Some(x) = self.moved else {
             return self.map.has(s, c);
         };

@@ -112,8 +112,7 @@ pub(crate) fn left_after(
     requires there { count ≤ length rec.now.steps }
     ensures { IfOk result (λ left. IsLeftSo rec.now.scenario (after_steps rec.now.scenario (after_start rec.now.scenario rec.now.order rec.now.start) (take count rec.now.steps)) left.clock left.map) }
 {
-    // With its length a book says that it is in order, which the laws ask of it.
-    let _stations = book.len();
+    book.keeps_order();
     let sc = &rec.scenario;
     let stations = sc.stations.as_slice();
     let steps = rec.steps.as_slice();

@@ -29,8 +29,7 @@ pub fn task_at(alloc: Global, rec: &Record, book: &Book, step: u32) -> Result<Ta
     ensures task_is { IfOk result (λ task. task_at book.now rec.now step ≡ Some task) }
     ensures ascends { IfOk result (IsTaskOf book.now) }
 {
-    // With its length a book says that it is in order, which the laws ask of it.
-    let _stations = book.len();
+    book.keeps_order();
     let before = step as usize - 1;
     let left = left_after(alloc, rec, book, before)?;
     let steps = rec.steps.as_slice();

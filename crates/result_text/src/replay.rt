@@ -54,7 +54,7 @@ pub(crate) fn final_outcomes(alloc: Global, rec: &Record, book: &Book) -> Result
     ensures undecided { IfOk result
         (λ o. o.undecided.items ≡ each_frozen_by (undecided_of rec.now.steps) (facilities rec.now.scenario) o.clock.standings) }
 {
-    let _stations = book.len();
+    book.keeps_order();
     let sc = &rec.scenario;
     let prices = schedule(alloc, sc)?;
     let mut clock = Clock::open(alloc, sc)?;

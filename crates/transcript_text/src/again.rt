@@ -54,7 +54,7 @@ fn is_kept(book: &Book)
     ensures order { IsInOrder book.now }
     ensures pairs { length book.now.pairs < 2 ^ 62 }
 {
-    let _stations = book.len();
+    book.keeps_order();
     let _pairs = book.pairs();
 }
 

@@ -88,7 +88,7 @@ pub fn write_transcript(alloc: Global, rec: &Record, book: &Book) -> Result<Vec<
     requires limits { IsWithinLimits rec.now.scenario }
     ensures { IfOk result (λ text. text.items ≡ transcript_text rec.now.scenario book.now rec.now) }
 {
-    let _stations = book.len();
+    book.keeps_order();
     let sc = &rec.scenario;
     let prices = schedule(alloc, sc)?;
     let mut clock = Clock::open(alloc, sc)?;

@@ -40,8 +40,9 @@ fn look_at(book: &Book, course: &Course, pair: Pair, heads: bool) -> Sight
     requires violated { IsViolated course.now.book course.now.entries pair }
     ensures { SightIs course.now.book course.now.entries result }
 {
-    // Each book is in order, and each walk on its domains.
-    let (_len, _entries) = (book.len(), course.entries());
+    book.keeps_order();
+    // With its entries a walk says that it is on its domains.
+    let _entries = course.entries();
     let one = Sight::Open {
         station: pair.f,
         channel: pair.a,

@@ -74,8 +74,9 @@ fn advance(book: &Book, course: &mut Course, guide: &mut Guide) -> Result<Step, 
     ensures start { course.new.start ≡ course.old.start }
     ensures step { IfOk result (λ step. StepIs course.old course.new step) }
 {
-    // Each book is in order, and each map ascends.
-    let (_len, _stations) = (book.len(), course.entries().len());
+    book.keeps_order();
+    // With its entries a walk says that they ascend.
+    let _entries = course.entries();
     match look(book, course, guide) {
         Sight::Clean => Ok(Step::Clean),
         Sight::Dead(pair) => Ok(Step::Dead(pair)),

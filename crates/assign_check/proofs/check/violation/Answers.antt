@@ -11,7 +11,7 @@ returns-in-Some c =
     let pairs = c.args.book.now.pairs in
     let found : find (is_violated map) (filter (λ p. p.f == (get_or map c.loop-x.x-index (0, 0)).0) pairs) ≡ Some c.in-Some.pair =
     subst (λ (es : List (ℕ × ℕ)). find (is_violated map) (filter (λ p. p.f == (get_or es c.loop-x.x-index (0, 0)).0) pairs) ≡ Some c.in-Some.pair) c.entries-x-items.ensures.entries (sym c.violated_from.ensures ∙ c.in-Some.is) in
-    sym (ap (option_map Violates) (violated-first map pairs c.loop-x.x-index c.in-Some.pair c.requires (firsts-rise pairs c.len-stations.ensures.in_order.pairs) c.loop-x.invariant found))
+    sym (ap (option_map Violates) (violated-first map pairs c.loop-x.x-index c.in-Some.pair c.requires (firsts-rise pairs c.keeps_order.ensures.pairs) c.loop-x.invariant found))
 
 pub loop-x-preserved : goal.loop-x-preserved
 loop-x-preserved c =

@@ -5,5 +5,5 @@ use Rattle.auction_cmd.proofs.import.settled_by.Goals as goal
 
 pub returns : goal.returns
 returns c =
-    settling c.args.inputs.now c.args.rec c.args.step c.args.text.now c.settle_by_text.result (is-auction c.args.inputs.now.scenario c.args.inputs.now.book c.requires.auction c.len-stations.ensures.in_order)
+    settling c.args.inputs.now c.args.rec c.args.step c.args.text.now c.settle_by_text.result (is-auction c.args.inputs.now.scenario c.args.inputs.now.book c.requires.auction c.keeps_order.ensures)
     c.requires.own c.settle_by_text.ensures.settled c.settle_by_text.ensures.backed c.settle_by_text.ensures.why

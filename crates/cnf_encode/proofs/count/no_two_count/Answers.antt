@@ -14,7 +14,7 @@ next-few c =
 
 pub overflow_add-count : goal.overflow_add-count
 overflow_add-count c =
-    let stations : length c.args.book.now.domains ≤ 8192 = omega (arith, c.len-stations.ensures.count, c.len-stations.ensures.few) in
+    let stations : length c.args.book.now.domains ≤ 8192 = c.keeps_limit.ensures in
     let most = no-two-most c.args.book.now c.args.set.now (c.loop-i.i + 1) (c.loop-i.count + c.no_two_of-count.result) c.requires stations (next-few c) in
     omega (arith, most)
 
@@ -38,5 +38,5 @@ returns-clause-count c =
 
 pub returns-clause-few : goal.returns-clause-few
 returns-clause-few c =
-    let stations : length c.args.book.now.domains ≤ 8192 = omega (arith, c.len-stations.ensures.count, c.len-stations.ensures.few) in
+    let stations : length c.args.book.now.domains ≤ 8192 = c.keeps_limit.ensures in
     no-two-most c.args.book.now c.args.set.now c.loop-i.i c.loop-i.count c.requires stations c.loop-i.invariant.few

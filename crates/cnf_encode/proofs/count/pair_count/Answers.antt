@@ -8,7 +8,7 @@ pub overflow_add-count : goal.overflow_add-count
 overflow_add-count c =
     let book = c.args.book.now in
     let set = c.args.set.now in
-    let most = pairs-most book set (c.loop-i.i + 1) c.requires c.len-stations.ensures.in_order.pairs in
+    let most = pairs-most book set (c.loop-i.i + 1) c.requires c.keeps_order.ensures.pairs in
     let more = sum-more (λ s. length (pairs_inside_from book set s)) set c.loop-i.i (omega arith) in
     let all : length c.pairs-pairs.result.now ≡ length book.pairs = ap length c.pairs-pairs.ensures in
     omega (arith, most, more, c.loop-i.invariant, c.pairs_inside-count.ensures, all, c.pairs-pairs.type_inv)
@@ -17,10 +17,10 @@ pub returns-clause-count : goal.returns-clause-count
 returns-clause-count c =
     let book = c.args.book.now in
     let set = c.args.set.now in
-    c.loop-i.invariant ∙ ap (sum_by (λ s. length (pairs_inside_from book set s))) (take_all c.loop-i.i set c.loop-i-test.false) ∙ pairs-counted book set c.requires c.len-stations.ensures.in_order.pairs
+    c.loop-i.invariant ∙ ap (sum_by (λ s. length (pairs_inside_from book set s))) (take_all c.loop-i.i set c.loop-i-test.false) ∙ pairs-counted book set c.requires c.keeps_order.ensures.pairs
 
 pub returns-clause-few : goal.returns-clause-few
 returns-clause-few c =
-    let most = pairs-most c.args.book.now c.args.set.now c.loop-i.i c.requires c.len-stations.ensures.in_order.pairs in
+    let most = pairs-most c.args.book.now c.args.set.now c.loop-i.i c.requires c.keeps_order.ensures.pairs in
     let all : length c.pairs-pairs.result.now ≡ length c.args.book.now.pairs = ap length c.pairs-pairs.ensures in
     omega (arith, most, c.loop-i.invariant, all, c.pairs-pairs.type_inv)

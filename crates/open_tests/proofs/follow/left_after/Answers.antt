@@ -17,7 +17,7 @@ next c =
     let long = ap length c.as_slice-steps.ensures in
     let there = c.requires.there in
     let test = c.loop-k-test.true in
-    backed-next c.args.rec.now.scenario c.args.book.now c.args.rec.now c.as_slice-steps.result.now c.loop-k.k c.index-steps-k.result (auction-of _ _ c.requires.limits c.len-stations.ensures.in_order) c.requires.backed c.requires.done c.as_slice-steps.ensures (omega (arith, long, there, test)) c.index-steps-k.is
+    backed-next c.args.rec.now.scenario c.args.book.now c.args.rec.now c.as_slice-steps.result.now c.loop-k.k c.index-steps-k.result (auction-of _ _ c.requires.limits c.keeps_order.ensures) c.requires.backed c.requires.done c.as_slice-steps.ensures (omega (arith, long, there, test)) c.index-steps-k.is
 
 pub start_map-requires-clause-within : goal.start_map-requires-clause-within
 start_map-requires-clause-within c = start-within c.args.rec.now.scenario c.args.book.now c.args.rec.now.start c.requires.backed.start
@@ -57,7 +57,7 @@ take_if-requires c =
     let place = rw c.as_slice-stations.ensures at c.in-Some.ensures in
     let within = length-with c.args.rec.now.scenario c.args.rec.now c.as_slice-steps.result.now c.loop-k.k c.in-Some.i _ _ _ _ _ _ c.note_fit.ensures place.0 c.loop-k.invariant.0 in
     let number = c.index.ensures ∙ (get_or_default_zero c.note_fit.new.fits.items c.in-Some.i c.index.result.now within ∙ ap (λ xs. get_or xs c.in-Some.i 0) c.note_fit.ensures) in
-    rw number (backed-within c.args.rec.now.scenario c.args.book.now c.args.rec.now c.as_slice-steps.result.now c.loop-k.k c.args.count c.in-Some.i c.index-steps-k.result c.loop-k.clock c.loop-k.map c.loop-k.fits.items c.requires.limits c.len-stations.ensures.in_order c.requires.backed c.requires.done c.as_slice-steps.ensures c.requires.there c.loop-k-test.true c.index-steps-k.is place c.loop-k.invariant.0)
+    rw number (backed-within c.args.rec.now.scenario c.args.book.now c.args.rec.now c.as_slice-steps.result.now c.loop-k.k c.args.count c.in-Some.i c.index-steps-k.result c.loop-k.clock c.loop-k.map c.loop-k.fits.items c.requires.limits c.keeps_order.ensures c.requires.backed c.requires.done c.as_slice-steps.ensures c.requires.there c.loop-k-test.true c.index-steps-k.is place c.loop-k.invariant.0)
 
 pub unreachable-requires : goal.unreachable-requires
 unreachable-requires c =
@@ -72,7 +72,7 @@ loop-k-preserved c =
     let clock = c.settle.ensures ∙ (λ j. answered_clock sc (record { round = x.round; station = place.1 j }) c.in-Some.i (c.shows_room.ensures j) c.loop-k.clock) in
     let number = c.index.ensures ∙ get_or_default_zero c.note_fit.new.fits.items c.in-Some.i c.index.result.now within in
     let test = c.loop-k-test.true in (
-      backed-following sc c.args.book.now c.args.rec.now c.as_slice-steps.result.now c.loop-k.k c.args.count c.in-Some.i x c.loop-k.clock c.loop-k.map c.loop-k.fits.items c.requires.limits c.len-stations.ensures.in_order c.requires.backed c.requires.done c.as_slice-steps.ensures c.requires.there c.loop-k-test.true c.index-steps-k.is place c.loop-k.invariant.0
+      backed-following sc c.args.book.now c.args.rec.now c.as_slice-steps.result.now c.loop-k.k c.args.count c.in-Some.i x c.loop-k.clock c.loop-k.map c.loop-k.fits.items c.requires.limits c.keeps_order.ensures c.requires.backed c.requires.done c.as_slice-steps.ensures c.requires.there c.loop-k-test.true c.index-steps-k.is place c.loop-k.invariant.0
           c.settle.new.self c.take_if.new.map c.note_fit.new.fits.items _ c.index.result.now clock c.note_fit.ensures (ap (λ xs. get_or xs c.in-Some.i Active) c.standings.ensures) number c.take_if.ensures,
       omega (arith, test),
     )

@@ -9,7 +9,7 @@ use Rattle.open_tests.proofs.task.task_at.Goals as goal
 
 pub test_set-requires-clause-known : goal.test_set-requires-clause-known
 test_set-requires-clause-known c =
-    known-station c.args.book.now c.args.rec.now c.as_slice-steps.result.now c.args.step c.index-steps-before.result (auction-of c.args.rec.now.scenario c.args.book.now c.requires.limits c.len-stations.ensures.in_order) c.requires.backed c.requires.begins c.requires.there c.as_slice-steps.ensures c.index-steps-before.is
+    known-station c.args.book.now c.args.rec.now c.as_slice-steps.result.now c.args.step c.index-steps-before.result (auction-of c.args.rec.now.scenario c.args.book.now c.requires.limits c.keeps_order.ensures) c.requires.backed c.requires.begins c.requires.there c.as_slice-steps.ensures c.index-steps-before.is
 
 pub returns-clause-task_is : goal.returns-clause-task_is
 returns-clause-task_is c =

@@ -8,7 +8,7 @@ use Rattle.result_text.proofs.replay.final_outcomes.Goals as goal
 use Rattle.result_text.proofs.replay.final_outcomes.Goals.{After-place_of}
 
 next : (c : After-place_of) → IsNext c.args.rec.now.scenario c.args.rec.now c.as_slice-step-items.result.now c.loop-step.step-index c.step-item.result
-next c = backed-next c.args.rec.now.scenario c.args.book.now c.args.rec.now _ c.loop-step.step-index c.step-item.result (auction-of _ _ c.requires.limits c.len-stations.ensures.in_order) c.requires.backed c.requires.done c.as_slice-step-items.ensures c.loop-step-test.true c.step-item.is
+next c = backed-next c.args.rec.now.scenario c.args.book.now c.args.rec.now _ c.loop-step.step-index c.step-item.result (auction-of _ _ c.requires.limits c.keeps_order.ensures) c.requires.backed c.requires.done c.as_slice-step-items.ensures c.loop-step-test.true c.step-item.is
 
 pub loop-step-init : goal.loop-step-init
 loop-step-init c =
@@ -54,4 +54,4 @@ loop-step-preserved c =
 
 pub returns-clause-clock : goal.returns-clause-clock
 returns-clause-clock c =
-    last-clock c.args.book.now c.args.rec.now c.as_slice-step-items.result.now c.loop-step.step-index (auction-of _ _ c.requires.limits c.len-stations.ensures.in_order) c.requires.backed c.requires.done c.as_slice-step-items.ensures c.loop-step-test.false c.loop-step.invariant.clock
+    last-clock c.args.book.now c.args.rec.now c.as_slice-step-items.result.now c.loop-step.step-index (auction-of _ _ c.requires.limits c.keeps_order.ensures) c.requires.backed c.requires.done c.as_slice-step-items.ensures c.loop-step-test.false c.loop-step.invariant.clock

@@ -11,7 +11,7 @@ use Rattle.transcript_text.proofs.write.write_transcript.Goals as goal
 use Rattle.transcript_text.proofs.write.write_transcript.Goals.{After-place_of}
 
 next : (c : After-place_of) → IsNext c.args.rec.now.scenario c.args.rec.now c.as_slice-step-items.result.now c.loop-step.step-index c.step-item.result
-next c = backed-next c.args.rec.now.scenario c.args.book.now c.args.rec.now _ c.loop-step.step-index c.step-item.result (auction-of _ _ c.requires.limits c.len-stations.ensures.in_order) c.requires.backed c.requires.done c.as_slice-step-items.ensures c.loop-step-test.true c.step-item.is
+next c = backed-next c.args.rec.now.scenario c.args.book.now c.args.rec.now _ c.loop-step.step-index c.step-item.result (auction-of _ _ c.requires.limits c.keeps_order.ensures) c.requires.backed c.requires.done c.as_slice-step-items.ensures c.loop-step-test.true c.step-item.is
 
 pub push_step-requires-clause-writable : goal.push_step-requires-clause-writable
 push_step-requires-clause-writable c =

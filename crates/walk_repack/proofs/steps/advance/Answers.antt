@@ -7,8 +7,8 @@ use Rattle.walk_repack.proofs.steps.advance.Goals as goal
 pub other_channel-to-requires-clause-ascending : goal.other_channel-to-requires-clause-ascending
 other_channel-to-requires-clause-ascending c =
     subst (λ (xs : List ℕ). is_ascending xs ≡ true) (sym c.domain-domain.ensures)
-    (channels_in-ascend c.args.book.now.domains c.in-Open.station c.len-len.ensures.in_order.domains.channels)
+    (channels_in-ascend c.args.book.now.domains c.in-Open.station c.keeps_order.ensures.domains.channels)
 
 pub make-requires-clause-elsewhere : goal.make-requires-clause-elsewhere
 make-requires-clause-elsewhere c =
-    not-elsewhere c.args.course.now.entries c.in-Open.station c.in-Open.channel c.other_channel-to.result c.entries.ensures.course.ascending c.in-Open.ensures.stands c.other_channel-to.ensures.other
+    not-elsewhere c.args.course.now.entries c.in-Open.station c.in-Open.channel c.other_channel-to.result c.entries-entries.ensures.course.ascending c.in-Open.ensures.stands c.other_channel-to.ensures.other

@@ -4,8 +4,8 @@ use Rattle.first_looks.proofs.looks.FirstLooks.look.Goals as goal
 
 pub returns-in_default-3-clause-free : goal.returns-in_default-3-clause-free
 returns-in_default-3-clause-free c = λ s d tested fits.
-    not-unproposed c.args.book.now c.args.task.now c.in-Some.s s d c.in_ok-proposal.field-0 c.len-stations.ensures.in_order c.len-entries.ensures.ascending c.in-Some.is tested fits c.in_ok-proposal.ensures c.in_default-3.is
+    not-unproposed c.args.book.now c.args.task.now c.in-Some.s s d c.in_ok-proposal.field-0 c.keeps_order.ensures c.keeps_order-2.ensures c.in-Some.is tested fits c.in_ok-proposal.ensures c.in_default-3.is
 
 pub returns-in_default-4-clause-free : goal.returns-in_default-4-clause-free
 returns-in_default-4-clause-free c = λ s d tested fits.
-    not-refused c.args.book.now c.args.task.now c.in-Some.s s d c.in_ok-proposal.field-0 c.in-Some-3.proposal c.in_ok-fit-2.field-0 c.len-stations.ensures.in_order c.len-entries.ensures.ascending c.in-Some.is tested fits c.in_ok-proposal.ensures c.in-Some-3.is c.in_ok-fit-2.ensures.free c.in_default-4.is
+    not-refused c.args.book.now c.args.task.now c.in-Some.s s d c.in_ok-proposal.field-0 c.in-Some-3.proposal c.in_ok-fit-2.field-0 c.keeps_order.ensures c.keeps_order-2.ensures c.in-Some.is tested fits c.in_ok-proposal.ensures c.in-Some-3.is c.in_ok-fit-2.ensures.free c.in_default-4.is
