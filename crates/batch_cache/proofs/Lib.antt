@@ -5,5 +5,6 @@ pub mod EntryLemmas
 pub mod GapLemmas
 pub mod LookLemmas
 pub mod NoneLaws
+pub mod PlaceLemmas
 pub mod SuggestLaws
 pub mod WalkLemmas

@@ -30,7 +30,10 @@ impl Key {
     pub fn copied(&self, alloc: Global) -> Result<Key, NoMemory>
         ensures { IfOk result (λ key. key ≡ self.now) }
     {
-        Key::of(alloc, self.top, self.set.stations())
+        Ok(Key {
+            top: self.top,
+            set: self.set.copied(alloc)?,
+        })
     }
 
     /// Whether it is of this top channel, and its set holds the stations of the other one. The witness is what the sets before

@@ -1,6 +1,7 @@
 //! Small tests on lists of stations.
 
-ghost use Rattle.std.specs.Prelude.{◌≡◌, ◌/◌, IsTrue, nat_lt};
+ghost use Rattle.std.specs.Prelude.{◌≡◌, ◌/◌, IsTrue, Some, nat_lt, slice_get};
+ghost use Rattle.std.specs.Bool.{OnTrue};
 ghost use Rattle.pack_defs.specs.Lists.{is_ascending, is_in};
 ghost use Rattle.batch_cache.specs.Gaps.{ends_below, goes_on_above, has_gap};
 ghost use Rattle.batch_cache.specs.Walks.{finds_all};
@@ -40,6 +41,29 @@ pub(crate) fn is_in_near(numbers: &[u32], number: u32, gap: &mut usize) -> bool
             *gap = place;
             false
         }
+    }
+}
+
+/// Whether the ascending list has the number, where one number after the other is asked for and they ascend too. What stands at the
+/// place is looked at first, and passed if that is the number; then the gap before it, and only then it is sought by halves.
+pub(crate) fn is_in_next(numbers: &[u32], number: u32, next: &mut usize) -> bool
+    requires { IsTrue (is_ascending numbers.now) }
+    ensures { result ≡ is_in numbers.now number }
+{
+    if stands_at(numbers, *next, number) {
+        *next = next.saturating_add(1);
+        return true;
+    }
+    is_in_near(numbers, number, next)
+}
+
+// Whether the number stands at the place.
+fn stands_at(numbers: &[u32], place: usize, number: u32) -> bool
+    ensures { OnTrue result (slice_get numbers.now place ≡ Some number) }
+{
+    match numbers.get(place) {
+        Some(there) => *there == number,
+        None => false,
     }
 }
 

@@ -1,31 +1,33 @@
 //! The part of a channel map on some stations.
 
-ghost use Rattle.std.specs.Prelude.{◌≡◌, IfOk, IsTrue};
-ghost use Rattle.pack_defs.specs.Lists.{is_ascending};
+ghost use Rattle.std.specs.Prelude.{◌≡◌, IfOk, IfSome, IsTrue, Some, slice_get};
+ghost use Rattle.pack_defs.specs.Lists.{has_entry, is_ascending};
 ghost use Rattle.batch_cache.specs.Answering.{part_on};
 ghost use Rattle.batch_cache.specs.Suggesting.{changes_on, is_change};
 
-use crate::numbers::is_in;
+use crate::numbers::is_in_next;
 use crate::signed_set::SignedSet;
 use pack_defs::channel_map::ChannelMap;
 use std::alloc::{AllocError as NoMemory, Global};
 
-/// The map restricted to an ascending set. The only error is want of memory.
+/// The map restricted to an ascending set: a walk along both. The only error is want of memory.
 pub(crate) fn part_on(alloc: Global, set: &[u32], map: &ChannelMap) -> Result<ChannelMap, NoMemory>
     requires { IsTrue (is_ascending set.now) }
     ensures { IfOk result (λ part. part ≡ part_on set.now map.now) }
 {
     let mut entries = Vec::new(alloc);
+    let mut next = 0;
     for entry in map.entries() {
-        if is_in(set, entry.0) {
+        if is_in_next(set, entry.0, &mut next) {
             entries.push(*entry)?;
         }
     }
     ChannelMap::of(alloc, &entries)
 }
 
-/// The channels that a map gives stations of a set otherwise than the last map does. One pass over the map, with a search by
-/// halves or two for each entry. The only error is want of memory.
+/// The channels that a map gives stations of a set otherwise than the last map does. One walk along the map, the set and the last
+/// map, as long as the set's stations stand in the map and the last map's in the set, and else with searches by halves. The only
+/// error is want of memory.
 pub(crate) fn changes_on(
     alloc: Global,
     set: &SignedSet,
@@ -35,20 +37,51 @@ pub(crate) fn changes_on(
     ensures { IfOk result (λ changes. changes ≡ changes_on set.now last.now map.now) }
 {
     let mut changes = Vec::new(alloc);
+    let (mut next_station, mut next_entry) = (0, 0);
     for entry in map.entries() {
-        if is_change(set, last, *entry) {
+        if is_change(set, last, *entry, &mut next_station, &mut next_entry) {
             changes.push(*entry)?;
         }
     }
     ChannelMap::of(alloc, &changes)
 }
 
-// Whether the last map lacks the entry, and its station is of the set. Most entries of a map that answers stand in the last one.
-fn is_change(set: &SignedSet, last: &ChannelMap, entry: (u32, u8)) -> bool
+// Whether the last map lacks the entry, and its station is of the set. The places are where the set and the last map go on.
+fn is_change(
+    set: &SignedSet,
+    last: &ChannelMap,
+    entry: (u32, u8),
+    next_station: &mut usize,
+    next_entry: &mut usize,
+) -> bool
     ensures { result ≡ is_change set.now last.now entry }
 {
-    if last.has(entry.0, entry.1) {
-        return false;
+    if set.has_next(entry.0, next_station) {
+        return !has_next_entry(last, entry, next_entry);
     }
-    set.has(entry.0)
+    false
+}
+
+// Whether the map has the entry. The place is looked at first, and passed where the entry's station stands there; only where it
+// doesn't, the entry is sought.
+fn has_next_entry(map: &ChannelMap, entry: (u32, u8), next: &mut usize) -> bool
+    ensures { result ≡ has_entry map.now entry }
+{
+    match channel_at(map.entries(), *next, entry.0) {
+        Some(channel) => {
+            *next = next.saturating_add(1);
+            channel == entry.1
+        }
+        None => map.has(entry.0, entry.1),
+    }
+}
+
+// The channel of the station, if it stands at the place.
+fn channel_at(entries: &[(u32, u8)], place: usize, station: u32) -> Option<u8>
+    ensures { IfSome result (λ channel. slice_get entries.now place ≡ Some (station, channel)) }
+{
+    match entries.get(place) {
+        Some(there) if there.0 == station => Some(there.1),
+        _ => None,
+    }
 }

@@ -10,7 +10,7 @@ ghost use Rattle.std.proofs.Common.{rules};
 ghost use Rattle.pack_defs.specs.Lists.{is_in};
 ghost use Rattle.batch_cache.specs.Gaps.{lacks_at};
 
-use crate::numbers::{are_few, ascends, finds_all, is_in, is_in_near};
+use crate::numbers::{are_few, ascends, finds_all, is_in, is_in_near, is_in_next};
 use crate::station_bits::{StationBits, are_covered, station_bits};
 use crate::witness::Witness;
 use std::alloc::{AllocError as NoMemory, Global};
@@ -74,6 +74,17 @@ impl SignedSet {
         })
     }
 
+    /// The same list once more. The only error is want of memory.
+    pub fn copied(&self, alloc: Global) -> Result<SignedSet, NoMemory>
+        ensures { IfOk result (λ set. set ≡ self.now) }
+    {
+        Ok(SignedSet {
+            stations: Vec::from_slice(alloc, &self.stations)?,
+            ascends: self.ascends,
+            bits: self.bits,
+        })
+    }
+
     /// The stations.
     pub fn stations(&self) -> &[u32]
         ensures { result.now ≡ self.now }
@@ -87,6 +98,16 @@ impl SignedSet {
     {
         if self.ascends {
             return is_in(&self.stations, station);
+        }
+        self.stations.contains(&station)
+    }
+
+    /// Whether it has the station, where one after the other is asked for and they ascend. The place is where its own go on.
+    pub(crate) fn has_next(&self, station: u32, next: &mut usize) -> bool
+        ensures { result ≡ is_in self.now station }
+    {
+        if self.ascends {
+            return is_in_next(&self.stations, station, next);
         }
         self.stations.contains(&station)
     }
