@@ -17,8 +17,8 @@ use pack_defs::channel_map::ChannelMap;
 pub fn violates_at_some(book: &Book, last: &ChannelMap, changes: &ChannelMap) -> bool
     ensures { result ≡ violates_at_some book.now (overlaid last.now changes.now) changes.now }
 {
-    // Each map ascends, as `len` says.
-    let (_last, _changes) = (last.len(), changes.len());
+    last.keeps_order();
+    changes.keeps_order();
     for x in changes.entries() {
         if violates_from(book, last, changes, *x) || violates_to(book, last, changes, *x) {
             return true;
