@@ -17,3 +17,9 @@ returns-clause-whole c h =
     let is : c.deref.result.now ≡ filter (λ x. not (has_entry c.args.last.now x)) c.args.map.now = c.deref.ensures.value ∙ (c.loop-x.invariant.lacking ∙ ap (λ (xs : List (ℕ × ℕ)). filter (λ x. not (has_entry c.args.last.now x)) xs) all) in
     IfOk-weaker c.of.result (λ (d : List (ℕ × ℕ)). d ≡ c.deref.result.now) (λ (d : List (ℕ × ℕ)). overlaid c.args.last.now d ≡ c.args.map.now)
     (λ d e. lacking-whole c.args.last.now c.args.map.now d c.keeps_order.ensures c.keeps_order-2.ensures h (e ∙ is)) c.of.ensures
+
+pub returns-clause-lacking : goal.returns-clause-lacking
+returns-clause-lacking c =
+    let all : take c.loop-x.x-index c.args.map.now ≡ c.args.map.now = take_all c.loop-x.x-index c.args.map.now (subst (λ (xs : List (ℕ × ℕ)). length xs ≤ c.loop-x.x-index) c.loop-x.invariant.all (omega arith)) in
+    let is : c.deref.result.now ≡ filter (λ x. not (has_entry c.args.last.now x)) c.args.map.now = c.deref.ensures.value ∙ (c.loop-x.invariant.lacking ∙ ap (λ (xs : List (ℕ × ℕ)). filter (λ x. not (has_entry c.args.last.now x)) xs) all) in
+    IfOk-weaker c.of.result (λ (d : List (ℕ × ℕ)). d ≡ c.deref.result.now) (λ (d : List (ℕ × ℕ)). d ≡ filter (λ x. not (has_entry c.args.last.now x)) c.args.map.now) (λ d e. e ∙ is) c.of.ensures
