@@ -22,7 +22,7 @@ use Rattle.auction_core.specs.declared.posting.Said.TheVariants.{Good}
 use Rattle.auction_core.specs.declared.record.Shown.TheVariants.{Undecided}
 use Rattle.auction_core.proofs.Looked.{looked}
 use Rattle.auction_core.proofs.TakingLemmas.{taken-told, taken-turned}
-use Rattle.turn_lock.specs.declared.chronicle.Known.{Known}
+use Rattle.turn_lock.specs.declared.chronicle.PassKnowledge.{PassKnowledge}
 use Rattle.answer_board.specs.Posts.{IsPosted, StandsOn, is_faultless}
 
 -- a valid answer that is looked at
@@ -62,7 +62,7 @@ taken-faultless sc book state w number certified lt =
     below : (n w : ℕ) → w < n → nat_le n w ≡ false
     below n w lt = grind (arith, nat_tests)
 
-pub posted-faultless : (made : AuctionView) (old new : Known EntryView) (w number : ℕ) (worker : Worker) (certified : Certificate) (answer : Answer) (reply : Reply) → StandsOn made old.seen (record { worker = w; number = number; said = Good certified }) answer → slice_get made.scenario.workers w ≡ Some worker → IsPosted made (record { worker = w; number = number; answer = answer }) old new reply → is_faultless reply ≡ true
+pub posted-faultless : (made : AuctionView) (old new : PassKnowledge EntryView) (w number : ℕ) (worker : Worker) (certified : Certificate) (answer : Answer) (reply : Reply) → StandsOn made old.seen (record { worker = w; number = number; said = Good certified }) answer → slice_get made.scenario.workers w ≡ Some worker → IsPosted made (record { worker = w; number = number; answer = answer }) old new reply → is_faultless reply ≡ true
 posted-faultless made old new w number worker certified answer reply on of posted =
     let posting : Posting = record { worker = w; number = number; said = Good certified } in
     let stands : StandsFor made.scenario made.book posted.state posting answer = on posted.before posted.state posted.begins posted.replays in

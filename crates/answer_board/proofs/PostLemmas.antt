@@ -21,15 +21,15 @@ use Rattle.auction_core.specs.Backed.{IsValidOf}
 use Rattle.auction_core.specs.Replay.{EntryView, entry_of, kept_answer, replay_from}
 use Rattle.auction_core.specs.Rule.{Answers}
 use Rattle.auction_core.specs.Clockwork.{ClockworkView}
-use Rattle.auction_core.specs.Said.{AnswersIfGood, IsSaidOf, MayBeTaken, StandsFor, taken, told, with_answer}
+use Rattle.auction_core.specs.Said.{AnswersIfGood, IsSaidOf, MayBeTaken, StandsFor, taken, told_of_judged, with_answer}
 use Rattle.auction_core.specs.State.{CoreState, has_ended, task_of}
 use Rattle.auction_core.specs.Take.{PostingView, take, turned_away}
 use Rattle.auction_core.proofs.TakingLemmas.{taken-told, taken-turned}
 use Rattle.auction_core.proofs.TaskLemmas.{no-task}
 use Rattle.auction_core.proofs.Replays.{turned-cases}
 use Rattle.auction_core.proofs.AuctionLemmas.{none-kept}
-use Rattle.answer_board.specs.Entries.{entries_of, numbered}
-use Rattle.turn_lock.specs.declared.chronicle.Known.{Known}
+use Rattle.answer_board.specs.Entries.{plain_entries, numbered}
+use Rattle.turn_lock.specs.declared.chronicle.PassKnowledge.{PassKnowledge}
 use Rattle.turn_lock.specs.Turns.{StartsWith}
 use Rattle.answer_board.specs.Boards.{beginning_of}
 use Rattle.answer_board.specs.Posts.{IsPosted, IsTaken, StandsOn, left_by}
@@ -93,8 +93,8 @@ turned-kept sc state w number reply t answer = turned-cases sc state w number (�
 abbrev KeptAlike : Said → Answer → Reply → Type 0
 KeptAlike said answer reply = option_and_then (kept_answer reply) (let_through said) ≡ kept_answer reply answer
 
-said-kept : (sc : Scenario) (book : BookView) (state : CoreState) (posting : Posting) (answer : Answer) (said : Said) → IsSaidOf sc book state posting answer said → KeptAlike said answer (told sc book state posting.worker said).0
-said-kept sc book state posting answer (Good certified) h = ap (kept_answer (told sc book state posting.worker (Good certified)).0) h.0
+said-kept : (sc : Scenario) (book : BookView) (state : CoreState) (posting : Posting) (answer : Answer) (said : Said) → IsSaidOf sc book state posting answer said → KeptAlike said answer (told_of_judged sc book state posting.worker said).0
+said-kept sc book state posting answer (Good certified) h = ap (kept_answer (told_of_judged sc book state posting.worker (Good certified)).0) h.0
 said-kept sc book state posting answer (Bad place) h = refl
 
 alike : (sc : Scenario) (book : BookView) (state : CoreState) (posting : Posting) (answer : Answer) → StandsFor sc book state posting answer → KeptAlike posting.said answer (taken sc book state posting).0
@@ -113,7 +113,7 @@ kept-alike sc book state new posting answer reply h e =
 
 -- ---- histories with numbers
 
-pub entries-numbered : (es : List EntryView) → entries_of (numbered es) ≡ es
+pub entries-numbered : (es : List EntryView) → plain_entries (numbered es) ≡ es
 entries-numbered [] = refl
 entries-numbered (e ∷ es) = ap (λ l. e ∷ l) (entries-numbered es)
 
@@ -137,7 +137,7 @@ seen-replays made value seen base is h =
     ∙ (ap (λ (s : ClockworkView). replay_from s.scenario s.book value.history s.state) (sym base) ∙ h))
 
 -- what a posting in a turn leaves: the turn began at `mid`, and ends at `last`
-pub posted : (made value after : AuctionView) (posting : PostingView) (reply : Reply) (first mid last : Known EntryView)
+pub posted : (made value after : AuctionView) (posting : PostingView) (reply : Reply) (first mid last : PassKnowledge EntryView)
     → AlikeBase value made → numbered value.history ≡ mid.seen → Replays value → Replays after
     → IsTaken value after posting reply → StartsWith mid.seen first.seen → mid.mine ≡ first.mine
     → last.seen ≡ numbered after.history → last.mine ≡ mid.mine ++ (posting.worker, entry_of posting reply) ∷ []
@@ -158,7 +158,7 @@ posted made value after posting reply first mid last base is h k taken begins sa
     }
 
 -- the same where nothing was done at first
-pub posted-from : (made : AuctionView) (posting : PostingView) (reply : Reply) (first mid last : Known EntryView) → StartsWith mid.seen first.seen → mid.mine ≡ first.mine → IsPosted made posting mid last reply → IsPosted made posting first last reply
+pub posted-from : (made : AuctionView) (posting : PostingView) (reply : Reply) (first mid last : PassKnowledge EntryView) → StartsWith mid.seen first.seen → mid.mine ≡ first.mine → IsPosted made posting mid last reply → IsPosted made posting first last reply
 posted-from made posting reply first mid last begins same h = record {
   before = h.before;
   state = h.state;

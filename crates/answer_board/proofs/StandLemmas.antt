@@ -23,7 +23,7 @@ use Rattle.auction_core.proofs.TakingLemmas.{task-noted}
 use Rattle.auction_core.proofs.TaskLemmas.{task-has}
 use Rattle.auction_core.proofs.Replays.{if-some}
 use Rattle.turn_lock.specs.Turns.{StartsWith}
-use Rattle.answer_board.specs.Entries.{entries_of}
+use Rattle.answer_board.specs.Entries.{plain_entries}
 use Rattle.answer_board.specs.Posts.{HasStood, StandsOn, left_by}
 use Rattle.answer_board.proofs.PostLemmas.{bad-stands, good-stands}
 
@@ -81,7 +81,7 @@ pub replay-rest : (sc : Scenario) (book : BookView) (es fs : List EntryView) (fi
 replay-rest sc book es fs first old new e f =
     sym (ap (λ o. option_and_then (replay_from sc book fs) o) e) ∙ (sym (replay-more sc book es fs first) ∙ f)
 
-pub entries-more : (xs ys : List (ℕ × EntryView)) → entries_of (xs ++ ys) ≡ entries_of xs ++ entries_of ys
+pub entries-more : (xs ys : List (ℕ × EntryView)) → plain_entries (xs ++ ys) ≡ plain_entries xs ++ plain_entries ys
 entries-more [] ys = refl
 entries-more (x ∷ xs) ys = ap (λ l. x.1 ∷ l) (entries-more xs ys)
 
@@ -100,8 +100,8 @@ stood-on made seen log task h k = record { before = h.before; begins = starts-on
 pub stands-while : (made : AuctionView) (log : List (ℕ × EntryView)) (state : CoreState) (task : Task) → HasStood made log task → left_by made log ≡ Some state → state.number ≡ task.number → task_of made.scenario made.book state ≡ Some task
 stands-while made log state task h replays same =
     let rest = h.begins.0 in
-    let whole : replay_from made.scenario made.book (entries_of h.before ++ entries_of rest) made.opened ≡ Some state = ap (λ es. replay_from made.scenario made.book es made.opened) (sym (ap entries_of h.begins.1 ∙ entries-more h.before rest)) ∙ replays in
-    let goes : Goes h.state state = replay-goes made.scenario made.book (entries_of rest) h.state state (replay-rest made.scenario made.book (entries_of h.before) (entries_of rest) made.opened h.state state h.replays whole) in
+    let whole : replay_from made.scenario made.book (plain_entries h.before ++ plain_entries rest) made.opened ≡ Some state = ap (λ es. replay_from made.scenario made.book es made.opened) (sym (ap plain_entries h.begins.1 ∙ entries-more h.before rest)) ∙ replays in
+    let goes : Goes h.state state = replay-goes made.scenario made.book (plain_entries rest) h.state state (replay-rest made.scenario made.book (plain_entries h.before) (plain_entries rest) made.opened h.state state h.replays whole) in
     let number : task.number ≡ h.state.number = task-has made.scenario made.book h.state (λ t. t.number ≡ h.state.number) refl (λ t. refl) task h.stands in
     elim goes [
       | inl later ↦ absurd (omega (arith, later, same, number))

@@ -5,7 +5,7 @@ use Rattle.auction_core.specs.Clockwork.{ClockworkView}
 use Rattle.auction_core.specs.Replay.{EntryView}
 use Rattle.turn_lock.specs.declared.chronicle.Chronicle.{Ghosts}
 use Rattle.turn_lock.specs.declared.lock.Pass.{Pass}
-use Rattle.turn_lock.specs.Passes.{AreAllOf, IsPassOf, Standing, made_over}
+use Rattle.turn_lock.specs.Passes.{AreAllOf, IsPassOf, PassStanding, made_over}
 use Rattle.answer_board.specs.declared.board.Board.{Board}
 use Rattle.answer_board.specs.declared.kept.Kept.{Kept}
 use Rattle.answer_board.specs.Entries.{numbered}
@@ -29,5 +29,5 @@ abbrev pub IsPassOn : {G : Ghosts Kept ClockworkView EntryView} → Board → Pa
 IsPassOn board pass = IsPassOf kept_base kept_entries board.lock pass
 
 -- these are all passes to the board, the first one in front
-abbrev pub AreAllOn : Board → List (Standing ClockworkView EntryView) → Type 0
+abbrev pub AreAllOn : Board → List (PassStanding ClockworkView EntryView) → Type 0
 AreAllOn board passes = AreAllOf kept_base kept_entries board.lock passes

@@ -9,7 +9,7 @@ use Rattle.auction_core.specs.State.{CoreState, has_ended, task_of}
 use Rattle.auction_core.specs.Take.{PostingView, take}
 use Rattle.auction_core.specs.declared.posting.Reply.{Reply}
 use Rattle.auction_core.specs.declared.posting.Reply.TheVariants.{Ended as WasEnded, WrongQuery, Stranger, Rejected, Advanced, AlreadySpent, Noted}
-use Rattle.turn_lock.specs.declared.chronicle.Known.{Known}
+use Rattle.turn_lock.specs.declared.chronicle.PassKnowledge.{PassKnowledge}
 use Rattle.turn_lock.specs.Turns.{StartsWith}
 use Rattle.pack_defs.specs.declared.worker.Worker.{Worker}
 use Rattle.cert_types.specs.declared.answer.Answer.{Answer}
@@ -21,11 +21,11 @@ use Rattle.answer_board.specs.declared.post.Met.TheVariants.{Told, Asked}
 use Rattle.answer_board.specs.declared.look.Look.{Look}
 use Rattle.answer_board.specs.declared.look.Look.TheVariants.{Task, Ended}
 use Rattle.answer_board.specs.Boards.{beginning_of}
-use Rattle.answer_board.specs.Entries.{entries_of}
+use Rattle.answer_board.specs.Entries.{plain_entries}
 
 -- the state that a history of this auction leaves, from the one in which it was opened
 abbrev pub left_by : AuctionView → List (ℕ × EntryView) → Option CoreState
-left_by raised log = replay_from raised.scenario raised.book (entries_of log) raised.opened
+left_by raised log = replay_from raised.scenario raised.book (plain_entries log) raised.opened
 
 -- What stands: the standing query, which a solver may be asked, or none where the auction has ended.
 abbrev pub LookIs : Scenario → BookView → CoreState → Look → Type 0
@@ -51,7 +51,7 @@ pub record Sees (raised : AuctionView) (seen : List (ℕ × EntryView)) (Holds :
 
 -- The posting stands in the history, which before it had all that the pass had seen. The reply is the one for the state just
 -- before. The posting is one of the pass's own.
-pub record IsPosted (raised : AuctionView) (posting : PostingView) (old new : Known EntryView) (reply : Reply) : Type 0 where
+pub record IsPosted (raised : AuctionView) (posting : PostingView) (old new : PassKnowledge EntryView) (reply : Reply) : Type 0 where
   pub before : List (ℕ × EntryView)
   pub state : CoreState
   pub begins : StartsWith before old.seen
@@ -98,13 +98,13 @@ HasMet old new w number (Told reply) = (answer : Answer) → IsTaken old new (re
 HasMet old new w number (Asked task worker) = StaysAs old new × IsAsked old w number task worker
 
 -- the same of a posting on a board
-pub record IsAskedOn (raised : AuctionView) (w n : ℕ) (old new : Known EntryView) (task : Query) (of : Worker) : Type 0 where
+pub record IsAskedOn (raised : AuctionView) (w n : ℕ) (old new : PassKnowledge EntryView) (task : Query) (of : Worker) : Type 0 where
   pub mine : new.mine ≡ old.mine
   pub stood : HasStood raised new.seen task
   pub query : IsQuery raised.book task
   pub worker : slice_get raised.scenario.workers w ≡ Some of
   pub number : n ≡ task.number
 
-abbrev pub HasMetOn : AuctionView → ℕ → ℕ → Known EntryView → Known EntryView → Met → Type 0
+abbrev pub HasMetOn : AuctionView → ℕ → ℕ → PassKnowledge EntryView → PassKnowledge EntryView → Met → Type 0
 HasMetOn raised w number old new (Told reply) = (answer : Answer) → IsPosted raised (record { worker = w; number = number; answer = answer }) old new reply
 HasMetOn raised w number old new (Asked task worker) = IsAskedOn raised w number old new task worker

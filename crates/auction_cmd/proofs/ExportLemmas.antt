@@ -11,7 +11,7 @@ use Rattle.outside_io.specs.Loads.{Stores}
 use Rattle.auction_core.specs.Backed.{undecided_of}
 use Rattle.auction_core.specs.declared.record.Record.{Record}
 use Rattle.auction_core.specs.declared.record.Step.{Step}
-use Rattle.open_tests.specs.Queries.{step_at}
+use Rattle.open_tests.specs.Queries.{step_numbered}
 use Rattle.open_tests.specs.Settling.{formula_text}
 use Rattle.auction_cmd.specs.declared.fault.TranscriptFault.{TranscriptFault}
 use Rattle.auction_cmd.specs.declared.inputs.Inputs.{Inputs}
@@ -133,7 +133,7 @@ module _ (names : ExportNames) (before after : Outside) (status : ℕ) (found : 
   stored-told : (files : List StoredFile) (x : NamedText) → before.files ≡ Some files → IsStored x before after → MatchOption after.files ⊥ (λ new. AreStored files new (x ∷ []))
   stored-told files x told stored = all-more x [] before after after stored (all-none after after refl) files told (All-nil (λ name. x.name ≢ name), tt)
 
-  abbrev asked : (files : List StoredFile) (inputs : Inputs) (rec : Record) (there : Option Step) → before.files ≡ Some files → (s : IsShown names.shown before inputs rec) → step_at rec.steps names.step ≡ there → IsStepAsked files names.shown names.step there
+  abbrev asked : (files : List StoredFile) (inputs : Inputs) (rec : Record) (there : Option Step) → before.files ≡ Some files → (s : IsShown names.shown before inputs rec) → step_numbered rec.steps names.step ≡ there → IsStepAsked files names.shown names.step there
   asked files inputs rec there told s is = record { inputs = inputs; text = s.text; given = shown-given files names.shown before inputs rec told s; rec = rec; shown = s.sound; at = is }
 
   export-done : (files : List StoredFile) → ExportEnds names before after status found → before.files ≡ Some files → status ≡ 0 →
@@ -142,7 +142,7 @@ module _ (names : ExportNames) (before after : Outside) (status : ℕ) (found : 
   export-done files (ExportStarved s) told zero = let eight = s.status_is in absurd (omega arith)
   export-done files (NoStep inputs rec fault s is ten none said same) told zero = absurd (omega arith)
   export-done files (FormulaStored inputs rec s is zero none stored) told z =
-      let there = missing-some (step_at rec.steps names.step) is in
+      let there = missing-some (step_numbered rec.steps names.step) is in
       (there.0, asked files inputs rec (Some there.0) told s there.1, stored-told files (text inputs rec) told stored)
   export-done files (FormulaNotStored inputs rec s is none not) told zero = absurd (off (4 ∷ 8 ∷ []) status 0 (unstored-statuses (text inputs rec) not) zero refl)
 
@@ -175,7 +175,7 @@ module _ (names : ExportNames) (before after : Outside) (status : ℕ) (found : 
   export-missing files (Unshown end none) told ten = absurd (off (3 ∷ 5 ∷ 8 ∷ 9 ∷ []) status 10 (unshown-statuses names.shown before after status found end none) ten refl)
   export-missing files (ExportStarved s) told ten = let eight = s.status_is in absurd (omega arith)
   export-missing files (NoStep inputs rec fault s is ten none said same) told t =
-      let m = missing-none (step_at rec.steps names.step) fault is in
+      let m = missing-none (step_numbered rec.steps names.step) fault is in
       (asked files inputs rec None told s m.0, subst (λ f. IsSaid before after (step_line names.step f)) m.1 said)
   export-missing files (FormulaStored inputs rec s is zero none stored) told ten = absurd (omega arith)
   export-missing files (FormulaNotStored inputs rec s is none not) told ten = absurd (off (4 ∷ 8 ∷ []) status 10 (unstored-statuses (text inputs rec) not) ten refl)
@@ -185,9 +185,9 @@ module _ (names : ExportNames) (before after : Outside) (status : ℕ) (found : 
   export-misses files (ExportStarved s) told a = inr (inl s.status_is)
   export-misses files (NoStep inputs rec fault s is ten none said same) told a = inl ten
   export-misses files (FormulaStored inputs rec s is zero none stored) told a =
-      there-not (step_at rec.steps names.step) is (ap (λ (r : Record). step_at r.steps names.step) (shown-is files names.shown before inputs a.inputs a.text rec a.rec told s a.given a.shown) ∙ a.at)
+      there-not (step_numbered rec.steps names.step) is (ap (λ (r : Record). step_numbered r.steps names.step) (shown-is files names.shown before inputs a.inputs a.text rec a.rec told s a.given a.shown) ∙ a.at)
   export-misses files (FormulaNotStored inputs rec s is none not) told a =
-      there-not (step_at rec.steps names.step) is (ap (λ (r : Record). step_at r.steps names.step) (shown-is files names.shown before inputs a.inputs a.text rec a.rec told s a.given a.shown) ∙ a.at)
+      there-not (step_numbered rec.steps names.step) is (ap (λ (r : Record). step_numbered r.steps names.step) (shown-is files names.shown before inputs a.inputs a.text rec a.rec told s a.given a.shown) ∙ a.at)
 
   export-as_verify : ExportEnds names before after status found → IsTrue (is_in (3 ∷ 5 ∷ 9 ∷ []) status) → VerifyPromises names.shown before after status found
   export-as_verify (Unshown end none) h = verify-promises names.shown before after status found end
@@ -234,14 +234,14 @@ module _ (names : ExportNames) (before after : Outside) (status : ℕ) (found : 
   export-unstored files (NoStep inputs rec fault s is ten none said same) told four = absurd (omega arith)
   export-unstored files (FormulaStored inputs rec s is zero none stored) told four = absurd (omega arith)
   export-unstored files (FormulaNotStored inputs rec s is none not) told four =
-      let there = missing-some (step_at rec.steps names.step) is in
+      let there = missing-some (step_numbered rec.steps names.step) is in
       (there.0, asked files inputs rec (Some there.0) told s there.1)
 
   export-complete : (files : List StoredFile) (x : Step) → ExportEnds names before after status found → before.files ≡ Some files → IsStepAsked files names.shown names.step (Some x) → IsOr 0 before status ⊎ (status ≡ 4)
   export-complete files x (Unshown end none) told a = inl (unshown-or names.shown before after status 0 found files a.inputs a.text a.rec end none told a.given a.shown)
   export-complete files x (ExportStarved s) told a = inl (inr (inl s.status_is))
   export-complete files x (NoStep inputs rec fault s is ten none said same) told a =
-      none-missing (step_at rec.steps names.step) fault x is (ap (λ (r : Record). step_at r.steps names.step) (shown-is files names.shown before inputs a.inputs a.text rec a.rec told s a.given a.shown) ∙ a.at)
+      none-missing (step_numbered rec.steps names.step) fault x is (ap (λ (r : Record). step_numbered r.steps names.step) (shown-is files names.shown before inputs a.inputs a.text rec a.rec told s a.given a.shown) ∙ a.at)
   export-complete files x (FormulaStored inputs rec s is zero none stored) told a = inl (inl zero)
   export-complete files x (FormulaNotStored inputs rec s is none (Unwritten four stores rises unsteady said)) told a = inr four
   export-complete files x (FormulaNotStored inputs rec s is none (OutOfRoom eight stores said)) told a = inl (inr (inl eight))

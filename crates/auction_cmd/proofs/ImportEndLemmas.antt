@@ -14,9 +14,9 @@ use Rattle.auction_core.specs.declared.record.Record.{Record}
 use Rattle.auction_core.specs.declared.record.Step.{Step}
 use Rattle.cert_types.specs.declared.outside.OutsideProof.{OutsideProof}
 use Rattle.transcript_text.specs.Named.{IsHeld}
-use Rattle.open_tests.specs.Queries.{step_at}
+use Rattle.open_tests.specs.Queries.{step_numbered}
 use Rattle.open_tests.specs.Settled.{IsLeftOpen, RefutesStep, decided_row, settled_by, without_test}
-use Rattle.open_tests.specs.Settling.{Fails, cut_proof, settled_text}
+use Rattle.open_tests.specs.Settling.{SettleFails, cut_proof, settled_text}
 use Rattle.open_tests.specs.declared.settle.SettleErr.{SettleErr}
 use Rattle.open_tests.specs.declared.settle.SettleErr.TheVariants.{Unread, NoRefutation, NoMemory as NoRoom}
 use Rattle.open_tests.proofs.SettleLemmas.{said-refutes, settled-said}
@@ -50,7 +50,7 @@ undecided-some (Some x) e = (x, refl, go (is_undecided x.shown) refl e)
     go true is f = is
     go false is f = cc
 
-pub left-undecided : (rec : Record) (step : ℕ) (x : Step) → step_at rec.steps step ≡ Some x → is_undecided x.shown ≡ true → IsLeftOpen rec step
+pub left-undecided : (rec : Record) (step : ℕ) (x : Step) → step_numbered rec.steps step ≡ Some x → is_undecided x.shown ≡ true → IsLeftOpen rec step
 left-undecided rec step x there undecided = subst (λ o. MatchOption o ⊥ (λ y. is_undecided y.shown ≡ true)) (sym there) undecided
 
 -- one that has a fault has no other
@@ -65,7 +65,7 @@ pub record IsChanged (inputs : Inputs) (rec new : Record) (x : Step) : Type 0 wh
   pub rows : result_rows inputs.scenario (outcome new.order inputs (undecided_of new.steps)) (undecided_of new.steps)
       ≡ map (decided_row (test_of x)) (result_rows inputs.scenario (outcome rec.order inputs (undecided_of rec.steps)) (undecided_of rec.steps))
 
-pub changed : (inputs : Inputs) (rec new : Record) (step : ℕ) (text : List ℕ) (x : Step) → IsAuction inputs.scenario inputs.book → IsRecordIn rec.order inputs rec → step_at rec.steps step ≡ Some x → is_undecided x.shown ≡ true
+pub changed : (inputs : Inputs) (rec new : Record) (step : ℕ) (text : List ℕ) (x : Step) → IsAuction inputs.scenario inputs.book → IsRecordIn rec.order inputs rec → step_numbered rec.steps step ≡ Some x → is_undecided x.shown ≡ true
     → settled_text inputs.book rec step text ≡ Ok new → IsChanged inputs rec new x
 changed inputs rec new step text x a own there undecided settled =
     let said = settled-said inputs.book rec new step text settled in
@@ -88,7 +88,7 @@ changed inputs rec new step text x a own there undecided settled =
 
 -- the record that a settled step leaves is one of the inputs' auction
 pub settling : (inputs : Inputs) (rec : Record) (step : ℕ) (text : List ℕ) (r : Result Record SettleErr) → IsAuction inputs.scenario inputs.book → IsRecordIn rec.order inputs rec
-    → IfOk r (λ new. settled_text inputs.book rec step text ≡ Ok new) → IfOk r (IsBacked rec.scenario inputs.book rec.order) → IfErr r (λ e. Fails e (settled_text inputs.book rec step text))
+    → IfOk r (λ new. settled_text inputs.book rec step text ≡ Ok new) → IfOk r (IsBacked rec.scenario inputs.book rec.order) → IfErr r (λ e. SettleFails e (settled_text inputs.book rec step text))
     → IsSettling inputs (settled_text inputs.book rec step text) r
 settling inputs rec step text (Ok new) a own settled backed why =
     let said = settled-said inputs.book rec new step text settled in
@@ -100,7 +100,7 @@ settling inputs rec step text (Err why) a own settled backed is = is
 -- ---- how an import ends
 
 -- the log was not loaded
-pub no-log : (names : ImportNames) (before after : Outside) (status : ℕ) (found : Option Record) (inputs : Inputs) (rec : Record) (why : LoadErr) → IsShown names.shown before inputs rec → open_fault (step_at rec.steps names.step) ≡ None
+pub no-log : (names : ImportNames) (before after : Outside) (status : ℕ) (found : Option Record) (inputs : Inputs) (rec : Record) (why : LoadErr) → IsShown names.shown before inputs rec → open_fault (step_numbered rec.steps names.step) ≡ None
     → IsFileRead before.files before.steady before.faults after.faults names.proof (Err why) → ExplainsLoad names.proof why before.held after.held before.cuts after.cuts status
     → found ≡ None → after.files ≡ before.files → ImportEnds names before after status found
 no-log names before after status found inputs rec Failed s is h e none files = NoLog inputs rec s is (Unloaded e.0 h.0 h.1 e.1) none files
@@ -117,8 +117,8 @@ no-log-counted name before after status TooLong e stands = record { folder = λ 
 no-log-counted name before after status NoLoad e stands = record { folder = λ h. stands (λ x. cc); sink = λ h. absurd (off (0 ∷ 1 ∷ 11 ∷ []) status 8 h e.0 refl) }
 
 -- the log settled nothing
-pub not-settled : (names : ImportNames) (before after : Outside) (status : ℕ) (found : Option Record) (inputs : Inputs) (rec : Record) (log : List ℕ) (why : SettleErr) → IsShown names.shown before inputs rec → open_fault (step_at rec.steps names.step) ≡ None
-    → IsFileHeld names.proof before log → Fails why (settled_text inputs.book rec names.step log) → ExplainsLog names.proof why before.held after.held before.cuts after.cuts status
+pub not-settled : (names : ImportNames) (before after : Outside) (status : ℕ) (found : Option Record) (inputs : Inputs) (rec : Record) (log : List ℕ) (why : SettleErr) → IsShown names.shown before inputs rec → open_fault (step_numbered rec.steps names.step) ≡ None
+    → IsFileHeld names.proof before log → SettleFails why (settled_text inputs.book rec names.step log) → ExplainsLog names.proof why before.held after.held before.cuts after.cuts status
     → found ≡ None → after.files ≡ before.files → ImportEnds names before after status found
 not-settled names before after status found inputs rec log (Unread why) s is held h e none files = NotSettled inputs rec log (Unread why) s is held h e.0 none e.1 files
 not-settled names before after status found inputs rec log NoRefutation s is held h e none files = NotSettled inputs rec log NoRefutation s is held h e.0 none e.1 files
@@ -127,12 +127,12 @@ not-settled names before after status found inputs rec log NoRoom s is held h e 
 -- ---- where the outside stood until then
 
 -- the step is none to settle, which is said
-pub no-open-step : (names : ImportNames) (before between after : Outside) (status : ℕ) (found : Option Record) (inputs : Inputs) (rec : Record) (fault : StepFault) → IsShown names.shown before inputs rec → open_fault (step_at rec.steps names.step) ≡ Some fault
+pub no-open-step : (names : ImportNames) (before between after : Outside) (status : ℕ) (found : Option Record) (inputs : Inputs) (rec : Record) (fault : StepFault) → IsShown names.shown before inputs rec → open_fault (step_numbered rec.steps names.step) ≡ Some fault
     → status ≡ 10 → found ≡ None → between ≡ before → IsSaid between after (step_line names.step fault) → after.files ≡ between.files → ImportEnds names before after status found
 no-open-step names before between after status found inputs rec fault s is ten none same said files =
     NoOpenStep inputs rec fault s is ten none (subst (λ (b : Outside). IsSaid b after (step_line names.step fault)) same said) (files ∙ ap (λ (o : Outside). o.files) same)
 
-pub no-log-since : (names : ImportNames) (before between after : Outside) (status said : ℕ) (found : Option Record) (inputs : Inputs) (rec : Record) (why : LoadErr) → IsShown names.shown before inputs rec → open_fault (step_at rec.steps names.step) ≡ None
+pub no-log-since : (names : ImportNames) (before between after : Outside) (status said : ℕ) (found : Option Record) (inputs : Inputs) (rec : Record) (why : LoadErr) → IsShown names.shown before inputs rec → open_fault (step_numbered rec.steps names.step) ≡ None
     → between ≡ before → IsFileRead between.files between.steady between.faults after.faults names.proof (Err why) → ExplainsLoad names.proof why between.held after.held between.cuts after.cuts said
     → status ≡ said → found ≡ None → after.files ≡ between.files → ImportEnds names before after status found
 no-log-since names before between after status said found inputs rec why s is same h e status_is none files =
@@ -148,8 +148,8 @@ no-log-counted-since name before between after status said why same e status_is 
     (subst (λ (b : Outside). ExplainsLoad name why b.held after.held b.cuts after.cuts status) same (subst (ExplainsLoad name why between.held after.held between.cuts after.cuts) (sym status_is) e))
     (λ not. stands not ∙ ap (λ (o : Outside). o.faults) same)
 
-pub not-settled-since : (names : ImportNames) (before between after : Outside) (status said : ℕ) (found : Option Record) (inputs : Inputs) (rec : Record) (log : List ℕ) (why : SettleErr) → IsShown names.shown before inputs rec → open_fault (step_at rec.steps names.step) ≡ None
-    → between ≡ before → IsFileHeld names.proof between log → Fails why (settled_text inputs.book rec names.step log) → ExplainsLog names.proof why between.held after.held between.cuts after.cuts said
+pub not-settled-since : (names : ImportNames) (before between after : Outside) (status said : ℕ) (found : Option Record) (inputs : Inputs) (rec : Record) (log : List ℕ) (why : SettleErr) → IsShown names.shown before inputs rec → open_fault (step_numbered rec.steps names.step) ≡ None
+    → between ≡ before → IsFileHeld names.proof between log → SettleFails why (settled_text inputs.book rec names.step log) → ExplainsLog names.proof why between.held after.held between.cuts after.cuts said
     → status ≡ said → found ≡ None → after.files ≡ between.files → ImportEnds names before after status found
 not-settled-since names before between after status said found inputs rec log why s is same held h e status_is none files =
     not-settled names before after status found inputs rec log why s is
@@ -158,7 +158,7 @@ not-settled-since names before between after status said found inputs rec log wh
     none (files ∙ ap (λ (o : Outside). o.files) same)
 
 -- the log settled the step, and the new record was delivered
-pub settled-since : (names : ImportNames) (before between later after : Outside) (status : ℕ) (found : Option Record) (inputs : Inputs) (rec : Record) (log : List ℕ) (new : Record) → IsShown names.shown before inputs rec → open_fault (step_at rec.steps names.step) ≡ None
+pub settled-since : (names : ImportNames) (before between later after : Outside) (status : ℕ) (found : Option Record) (inputs : Inputs) (rec : Record) (log : List ℕ) (new : Record) → IsShown names.shown before inputs rec → open_fault (step_numbered rec.steps names.step) ≡ None
     → between ≡ before → IsFileHeld names.proof between log → settled_text inputs.book rec names.step log ≡ Ok new → IsRecordIn new.order inputs new → IsHeld new → found ≡ Some new → IsSince between later
     → Delivers (import_texts names inputs new) (summary_in new.order inputs (undecided_of new.steps)) (done_status (undecided_of new.steps)) later after status → ImportEnds names before after status found
 settled-since names before between later after status found inputs rec log new s is same held ok own kept some since d =

@@ -13,7 +13,7 @@ use Rattle.outside_io.specs.Loads.{Writes}
 use Rattle.auction_core.specs.Backed.{is_undecided, undecided_of}
 use Rattle.auction_core.specs.declared.record.Record.{Record}
 use Rattle.auction_core.specs.declared.record.Step.{Step}
-use Rattle.open_tests.specs.Queries.{step_at}
+use Rattle.open_tests.specs.Queries.{step_numbered}
 use Rattle.open_tests.specs.Settling.{settled_text}
 use Rattle.open_tests.specs.declared.settle.SettleErr.{SettleErr}
 use Rattle.transcript_text.specs.Named.{IsHeld}
@@ -54,8 +54,8 @@ use Rattle.auction_cmd.proofs.VerifyReadings.{is-there}
 -- ---- two that are one
 
 -- the step of two records that are one
-same-fault : (names : ImportNames) (rec other : Record) → rec ≡ other → open_fault (step_at rec.steps names.step) ≡ open_fault (step_at other.steps names.step)
-same-fault names rec other same = ap (λ (r : Record). open_fault (step_at r.steps names.step)) same
+same-fault : (names : ImportNames) (rec other : Record) → rec ≡ other → open_fault (step_numbered rec.steps names.step) ≡ open_fault (step_numbered other.steps names.step)
+same-fault names rec other same = ap (λ (r : Record). open_fault (step_numbered r.steps names.step)) same
 
 -- what two texts settle that are one
 same-settled : (names : ImportNames) (a b : Inputs) (rec other : Record) (s t : List ℕ) → a ≡ b → rec ≡ other → s ≡ t → settled_text a.book rec names.step s ≡ settled_text b.book other names.step t
@@ -139,11 +139,11 @@ module _ (names : ImportNames) (before after : Outside) (status : ℕ) (found : 
   log-in : (files : List StoredFile) (log : List ℕ) → before.files ≡ Some files → IsFileHeld names.proof before log → IsLogIn files names.proof log
   log-in files log told held = record { told = (held files told).0; within = (held files told).1 }
 
-  abbrev settled-step : (files : List StoredFile) (inputs : Inputs) (rec new : Record) (log : List ℕ) → before.files ≡ Some files → IsShown names.shown before inputs rec → open_fault (step_at rec.steps names.step) ≡ None → IsFileHeld names.proof before log
+  abbrev settled-step : (files : List StoredFile) (inputs : Inputs) (rec new : Record) (log : List ℕ) → before.files ≡ Some files → IsShown names.shown before inputs rec → open_fault (step_numbered rec.steps names.step) ≡ None → IsFileHeld names.proof before log
       → settled_text inputs.book rec names.step log ≡ Ok new → IsRecordIn new.order inputs new → IsHeld new → found ≡ Some new → IsSettledStep files names found
   settled-step files inputs rec new log told s is held ok own kept some =
       let accepted = s.accepted files told in
-      let x : (y : Step) × (step_at rec.steps names.step ≡ Some y) × (is_undecided y.shown ≡ true) = undecided-some (step_at rec.steps names.step) is in
+      let x : (y : Step) × (step_numbered rec.steps names.step ≡ Some y) × (is_undecided y.shown ≡ true) = undecided-some (step_numbered rec.steps names.step) is in
       let c = changed inputs rec new names.step log x.0 (accepted-auction files names.shown.inputs inputs accepted s.named) s.own x.1 x.2 ok in
       record {
         sound = sound-in files inputs rec told s;
@@ -270,8 +270,8 @@ module _ (names : ImportNames) (before after : Outside) (status : ℕ) (found : 
 
   abbrev Cause : (files : List StoredFile) → IsSoundIn files names.shown → Type 0
   Cause files s =
-      ((fault : StepFault) × (open_fault (step_at s.rec.steps names.step) ≡ Some fault) × IsSaid before after (step_line names.step fault))
-      ⊎ ((log : List ℕ) × (fault : SettleErr) × IsLogIn files names.proof log × (open_fault (step_at s.rec.steps names.step) ≡ None)
+      ((fault : StepFault) × (open_fault (step_numbered s.rec.steps names.step) ≡ Some fault) × IsSaid before after (step_line names.step fault))
+      ⊎ ((log : List ℕ) × (fault : SettleErr) × IsLogIn files names.proof log × (open_fault (step_numbered s.rec.steps names.step) ≡ None)
       × (settled_text s.inputs.book s.rec names.step log ≡ Err fault) × IsSaid before after (unsettled_line names.proof fault))
 
   import-refused : (files : List StoredFile) → ImportEnds names before after status found → before.files ≡ Some files → status ≡ 10 → (s : IsSoundIn files names.shown) × Cause files s
@@ -298,15 +298,15 @@ module _ (names : ImportNames) (before after : Outside) (status : ℕ) (found : 
       let (bytes, is, more) = long files told in
       absurd (over file_limit (length log) (subst (λ z. file_limit < length z) (same-text bytes log (sym is ∙ l.told)) more) l.within)
 
-  import-refuses_step : (files : List StoredFile) (s : IsSoundIn files names.shown) (fault : StepFault) → ImportEnds names before after status found → before.files ≡ Some files → open_fault (step_at s.rec.steps names.step) ≡ Some fault → IsOr 10 before status
+  import-refuses_step : (files : List StoredFile) (s : IsSoundIn files names.shown) (fault : StepFault) → ImportEnds names before after status found → before.files ≡ Some files → open_fault (step_numbered s.rec.steps names.step) ≡ Some fault → IsOr 10 before status
   import-refuses_step files s fault (NothingShown end none) told f = unshown-or names.shown before after status 10 found files s.inputs s.text s.rec end none told s.given s.shown
   import-refuses_step files s fault (ImportStarved e) told f = inr (inl e.status_is)
   import-refuses_step files s fault (NoOpenStep inputs rec own o is ten none said same) told f = inl ten
-  import-refuses_step files s fault (NoLog inputs rec o is n none same) told f = two-faults (step_at s.rec.steps names.step) fault f (sym (same-fault names rec s.rec (one-record files inputs rec s told o)) ∙ is)
+  import-refuses_step files s fault (NoLog inputs rec o is n none same) told f = two-faults (step_numbered s.rec.steps names.step) fault f (sym (same-fault names rec s.rec (one-record files inputs rec s told o)) ∙ is)
   import-refuses_step files s fault (NotSettled inputs rec log own o is held err ten none said same) told f = inl ten
-  import-refuses_step files s fault (Settled inputs rec log new o is held ok own kept some d) told f = two-faults (step_at s.rec.steps names.step) fault f (sym (same-fault names rec s.rec (one-record files inputs rec s told o)) ∙ is)
+  import-refuses_step files s fault (Settled inputs rec log new o is held ok own kept some d) told f = two-faults (step_numbered s.rec.steps names.step) fault f (sym (same-fault names rec s.rec (one-record files inputs rec s told o)) ∙ is)
 
-  import-refuses_log : (files : List StoredFile) (s : IsSoundIn files names.shown) (log : List ℕ) (fault : SettleErr) → ImportEnds names before after status found → before.files ≡ Some files → open_fault (step_at s.rec.steps names.step) ≡ None → IsLogIn files names.proof log → settled_text s.inputs.book s.rec names.step log ≡ Err fault → IsOr 10 before status
+  import-refuses_log : (files : List StoredFile) (s : IsSoundIn files names.shown) (log : List ℕ) (fault : SettleErr) → ImportEnds names before after status found → before.files ≡ Some files → open_fault (step_numbered s.rec.steps names.step) ≡ None → IsLogIn files names.proof log → settled_text s.inputs.book s.rec names.step log ≡ Err fault → IsOr 10 before status
   import-refuses_log files s log fault (NothingShown end none) told f l err = unshown-or names.shown before after status 10 found files s.inputs s.text s.rec end none told s.given s.shown
   import-refuses_log files s log fault (ImportStarved e) told f l err = inr (inl e.status_is)
   import-refuses_log files s log fault (NoOpenStep inputs rec own o is ten none said same) told f l err = inl ten
@@ -316,10 +316,10 @@ module _ (names : ImportNames) (before after : Outside) (status : ℕ) (found : 
       ok-not-err (settled_text s.inputs.book s.rec names.step log) new fault
       (sym (same-settled names inputs s.inputs rec s.rec own log (one-inputs files inputs rec s told o) (one-record files inputs rec s told o) (one-log files log own told held l)) ∙ ok) err
 
-  import-complete : (files : List StoredFile) (s : IsSoundIn files names.shown) (log : List ℕ) (new : Record) → ImportEnds names before after status found → before.files ≡ Some files → open_fault (step_at s.rec.steps names.step) ≡ None → IsLogIn files names.proof log → settled_text s.inputs.book s.rec names.step log ≡ Ok new → IsOr (done_status (undecided_of new.steps)) before status ⊎ (status ≡ 4)
+  import-complete : (files : List StoredFile) (s : IsSoundIn files names.shown) (log : List ℕ) (new : Record) → ImportEnds names before after status found → before.files ≡ Some files → open_fault (step_numbered s.rec.steps names.step) ≡ None → IsLogIn files names.proof log → settled_text s.inputs.book s.rec names.step log ≡ Ok new → IsOr (done_status (undecided_of new.steps)) before status ⊎ (status ≡ 4)
   import-complete files s log new (NothingShown end none) told f l ok = inl (unshown-or names.shown before after status (done_status (undecided_of new.steps)) found files s.inputs s.text s.rec end none told s.given s.shown)
   import-complete files s log new (ImportStarved e) told f l ok = inl (inr (inl e.status_is))
-  import-complete files s log new (NoOpenStep inputs rec own o is ten none said same) told f l ok = two-faults (step_at rec.steps names.step) own is (same-fault names rec s.rec (one-record files inputs rec s told o) ∙ f)
+  import-complete files s log new (NoOpenStep inputs rec own o is ten none said same) told f l ok = two-faults (step_numbered rec.steps names.step) own is (same-fault names rec s.rec (one-record files inputs rec s told o) ∙ f)
   import-complete files s log new (NoLog inputs rec o is n none same) told f l ok = inl (unloaded-or files log (done_status (undecided_of new.steps)) told n l)
   import-complete files s log new (NotSettled inputs rec own why o is held err ten none said same) told f l ok =
       ok-not-err (settled_text s.inputs.book s.rec names.step log) new why ok
@@ -383,10 +383,10 @@ module _ (names : ImportNames) (before after : Outside) (status : ℕ) (found : 
   held-not-long files own bytes told held is more =
       absurd (over file_limit (length own) (subst (λ z. file_limit < length z) (same-text bytes own (sym is ∙ (held files told).0)) more) (held files told).1)
 
-  import-refuses_long_log : (files : List StoredFile) (s : IsSoundIn files names.shown) (bytes : List ℕ) → ImportEnds names before after status found → before.files ≡ Some files → open_fault (step_at s.rec.steps names.step) ≡ None → bytes_of files names.proof ≡ Some bytes → file_limit < length bytes → IsOr 5 before status
+  import-refuses_long_log : (files : List StoredFile) (s : IsSoundIn files names.shown) (bytes : List ℕ) → ImportEnds names before after status found → before.files ≡ Some files → open_fault (step_numbered s.rec.steps names.step) ≡ None → bytes_of files names.proof ≡ Some bytes → file_limit < length bytes → IsOr 5 before status
   import-refuses_long_log files s bytes (NothingShown end none) told f is more = unshown-or names.shown before after status 5 found files s.inputs s.text s.rec end none told s.given s.shown
   import-refuses_long_log files s bytes (ImportStarved e) told f is more = inr (inl e.status_is)
-  import-refuses_long_log files s bytes (NoOpenStep inputs rec own o at ten none said same) told f is more = two-faults (step_at rec.steps names.step) own at (same-fault names rec s.rec (one-record files inputs rec s told o) ∙ f)
+  import-refuses_long_log files s bytes (NoOpenStep inputs rec own o at ten none said same) told f is more = two-faults (step_numbered rec.steps names.step) own at (same-fault names rec s.rec (one-record files inputs rec s told o) ∙ f)
   import-refuses_long_log files s bytes (NoLog inputs rec o at (Unloaded three rises absent said) none same) told f is more = inr (inr (three, λ steady. no-text bytes (bytes_of files names.proof) (absent files told steady) is))
   import-refuses_long_log files s bytes (NoLog inputs rec o at (LongText five long said) none same) told f is more = inl five
   import-refuses_long_log files s bytes (NotSettled inputs rec log own o at held e ten none said same) told f is more = held-not-long files log bytes told held is more
@@ -447,11 +447,11 @@ module _ (names : ImportNames) (before after : Outside) (status : ℕ) (found : 
   for-memory steady (inr (inl eight)) = eight
   for-memory steady (inr (inr (three, unsteady))) = absurd (unsteady steady)
 
-  import-missing_log : (files : List StoredFile) (s : IsSoundIn files names.shown) → ImportEnds names before after status found → before.files ≡ Some files → before.steady ≡ true → open_fault (step_at s.rec.steps names.step) ≡ None → bytes_of files names.proof ≡ None →
+  import-missing_log : (files : List StoredFile) (s : IsSoundIn files names.shown) → ImportEnds names before after status found → before.files ≡ Some files → before.steady ≡ true → open_fault (step_numbered s.rec.steps names.step) ≡ None → bytes_of files names.proof ≡ None →
       (status ≡ 8) ⊎ ((status ≡ 3) × IsSaid before after (unread_line names.proof))
   import-missing_log files s (NothingShown end none) told steady f gone = inl (for-memory steady (unshown-or names.shown before after status 8 found files s.inputs s.text s.rec end none told s.given s.shown))
   import-missing_log files s (ImportStarved e) told steady f gone = inl e.status_is
-  import-missing_log files s (NoOpenStep inputs rec own o at ten none said same) told steady f gone = two-faults (step_at rec.steps names.step) own at (same-fault names rec s.rec (one-record files inputs rec s told o) ∙ f)
+  import-missing_log files s (NoOpenStep inputs rec own o at ten none said same) told steady f gone = two-faults (step_numbered rec.steps names.step) own at (same-fault names rec s.rec (one-record files inputs rec s told o) ∙ f)
   import-missing_log files s (NoLog inputs rec o at (Unloaded three rises absent said) none same) told steady f gone = inr (three, said)
   import-missing_log files s (NoLog inputs rec o at (LongText five long said) none same) told steady f gone =
       let (bytes, is, more) = long files told in absurd (no-text bytes (bytes_of files names.proof) gone is)

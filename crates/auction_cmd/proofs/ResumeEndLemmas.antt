@@ -23,7 +23,7 @@ use Rattle.auction_core.specs.declared.record.Step.{Step}
 use Rattle.auction_core.specs.Auction.{AuctionView}
 use Rattle.auction_core.specs.Backed.{IsBacked, ending_of, is_outside}
 use Rattle.auction_core.specs.LogNumbers.{steps_in}
-use Rattle.auction_core.specs.NotShown.{NotShown, kept_as, not_kept, not_shown, not_shown_at, order_kept, start_fault, started_fault, step_or, unstarted_fault, within}
+use Rattle.auction_core.specs.NotShown.{NotShown, kept_as, not_kept, not_shown, not_shown_at, order_kept, start_fault, started_fault, step_fault_or, unstarted_fault, within_steps}
 use Rattle.auction_core.specs.Postings.{GoesOn, GoesOnIn}
 use Rattle.auction_core.specs.Prefix.{IsPrefix, resumed}
 use Rattle.auction_core.specs.Rule.{IsAuction}
@@ -159,7 +159,7 @@ start-fits sc book (ByProof proof) none = cc
 start-fits sc book (Undecided xs) none = cc
 
 -- where no fault is found up to some step, the start has none
-no-start-fault : (o : Option Place) (rest : Option NotShown) (ended : Bool) (n : ℕ) → (if ended then step_or 0 o rest else within n (step_or 0 o rest)) ≡ None → o ≡ None
+no-start-fault : (o : Option Place) (rest : Option NotShown) (ended : Bool) (n : ℕ) → (if ended then step_fault_or 0 o rest else within_steps n (step_fault_or 0 o rest)) ≡ None → o ≡ None
 no-start-fault None rest ended n e = refl
 no-start-fault (Some place) rest true n e = cc
 no-start-fault (Some place) rest false n e =

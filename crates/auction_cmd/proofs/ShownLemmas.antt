@@ -2,7 +2,7 @@
 use Rattle.std.proofs.Common.{◌≡◌, ◌∙◌, ℕ, ap, subst, Option, Some, None}
 use Rattle.auction_core.specs.Backed.{undecided_of}
 use Rattle.auction_core.specs.declared.record.Record.{Record}
-use Rattle.open_tests.specs.Queries.{step_at}
+use Rattle.open_tests.specs.Queries.{step_numbered}
 use Rattle.auction_cmd.specs.declared.inputs.Inputs.{Inputs}
 use Rattle.auction_cmd.specs.declared.settling.StepFault.{StepFault}
 use Rattle.auction_cmd.specs.Delivery.{IsNotStored, IsPrinted, IsStored, NamedText}
@@ -22,7 +22,7 @@ sound-printed names before between after status found inputs rec s same kept p =
     (subst (λ b. IsPrinted (result_of rec.order inputs (undecided_of rec.steps)) (done_status (undecided_of rec.steps)) b after status) same p)
 
 -- the step is none to export, which is said
-pub no-step : (names : ExportNames) (before between after : Outside) (status : ℕ) (found : Option Record) (inputs : Inputs) (rec : Record) (fault : StepFault) → IsShown names.shown before inputs rec → missing_fault (step_at rec.steps names.step) ≡ Some fault
+pub no-step : (names : ExportNames) (before between after : Outside) (status : ℕ) (found : Option Record) (inputs : Inputs) (rec : Record) (fault : StepFault) → IsShown names.shown before inputs rec → missing_fault (step_numbered rec.steps names.step) ≡ Some fault
     → status ≡ 10 → found ≡ None → between ≡ before → IsSaid between after (step_line names.step fault) → after.files ≡ between.files → ExportEnds names before after status found
 no-step names before between after status found inputs rec fault s is ten none same said files =
     NoStep inputs rec fault s is ten none (subst (λ (b : Outside). IsSaid b after (step_line names.step fault)) same said) (files ∙ ap (λ (o : Outside). o.files) same)

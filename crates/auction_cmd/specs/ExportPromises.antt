@@ -5,7 +5,7 @@ use Rattle.outside_io.specs.Faults.{HasRisen}
 use Rattle.outside_io.specs.Files.{StoredFile, bytes_of}
 use Rattle.auction_core.specs.declared.record.Record.{Record}
 use Rattle.auction_core.specs.declared.record.Step.{Step}
-use Rattle.open_tests.specs.Queries.{step_at}
+use Rattle.open_tests.specs.Queries.{step_numbered}
 use Rattle.open_tests.specs.Settling.{formula_text}
 use Rattle.auction_cmd.specs.declared.fault.TranscriptFault.{TranscriptFault}
 use Rattle.auction_cmd.specs.declared.inputs.Inputs.{Inputs}
@@ -29,7 +29,7 @@ pub record IsStepAsked (files : List StoredFile) (names : VerifyNames) (step : �
   pub given : IsGiven files names inputs text
   pub rec : Record
   pub shown : verified inputs text ≡ Ok rec
-  pub at : step_at rec.steps step ≡ there
+  pub at : step_numbered rec.steps step ≡ there
 
 pub record ExportPromises (names : ExportNames) (before after : Outside) (status : ℕ) (found : Option Record) : Type 0 where
   pub statuses : IsTrue (is_in (DONE ∷ UNREAD ∷ UNWRITTEN ∷ REFUSED ∷ NO_MEMORY ∷ NOT_SHOWN ∷ NOT_SETTLED ∷ []) status)

@@ -13,7 +13,7 @@ use Rattle.auction_core.specs.declared.record.Step.{Step}
 use Rattle.auction_core.specs.Backed.{is_undecided, undecided_of}
 use Rattle.auction_core.specs.State.{test_of}
 use Rattle.transcript_text.specs.Spelling.{transcript_text}
-use Rattle.open_tests.specs.Queries.{step_at}
+use Rattle.open_tests.specs.Queries.{step_numbered}
 use Rattle.open_tests.specs.Settled.{decided_row, without_test}
 use Rattle.open_tests.specs.Settling.{settled_text}
 use Rattle.open_tests.specs.declared.settle.SettleErr.{SettleErr}
@@ -54,7 +54,7 @@ pub record IsLogIn (files : List StoredFile) (name log : List ℕ) : Type 0 wher
 pub record IsSettledStep (files : List StoredFile) (names : ImportNames) (found : Option Record) : Type 0 where
   pub sound : IsSoundIn files names.shown
   pub step : Step
-  pub there : step_at sound.rec.steps names.step ≡ Some step
+  pub there : step_numbered sound.rec.steps names.step ≡ Some step
   pub open_before : is_undecided step.shown ≡ true
   pub log : List ℕ
   pub held : IsLogIn files names.proof log
@@ -114,7 +114,7 @@ pub record IsUnlogged (names : ImportNames) (before after : Outside) (status : �
   pub inputs : Inputs
   pub rec : Record
   pub shown : IsShown names.shown before inputs rec
-  pub open_before : open_fault (step_at rec.steps names.step) ≡ None
+  pub open_before : open_fault (step_numbered rec.steps names.step) ≡ None
   pub unloaded : IsNotLoaded names.proof before after status
 
 pub record ImportPromises (names : ImportNames) (before after : Outside) (status : ℕ) (found : Option Record) : Type 0 where
@@ -142,17 +142,17 @@ pub record ImportPromises (names : ImportNames) (before after : Outside) (status
   -- of the log is refused, or the log doesn't refute the step's set. The line says which.
   pub refused : (files : List StoredFile) → before.files ≡ Some files → status ≡ NOT_SETTLED →
       (s : IsSoundIn files names.shown) × (
-      ((fault : StepFault) × (open_fault (step_at s.rec.steps names.step) ≡ Some fault) × IsSaid before after (step_line names.step fault))
-      ⊎ ((log : List ℕ) × (fault : SettleErr) × IsLogIn files names.proof log × (open_fault (step_at s.rec.steps names.step) ≡ None)
+      ((fault : StepFault) × (open_fault (step_numbered s.rec.steps names.step) ≡ Some fault) × IsSaid before after (step_line names.step fault))
+      ⊎ ((log : List ℕ) × (fault : SettleErr) × IsLogIn files names.proof log × (open_fault (step_numbered s.rec.steps names.step) ≡ None)
       × (settled_text s.inputs.book s.rec names.step log ≡ Err fault) × IsSaid before after (unsettled_line names.proof fault)))
   pub refuses_step : (files : List StoredFile) (s : IsSoundIn files names.shown) (fault : StepFault) →
-      before.files ≡ Some files → open_fault (step_at s.rec.steps names.step) ≡ Some fault → IsOr NOT_SETTLED before status
+      before.files ≡ Some files → open_fault (step_numbered s.rec.steps names.step) ≡ Some fault → IsOr NOT_SETTLED before status
   pub refuses_log : (files : List StoredFile) (s : IsSoundIn files names.shown) (log : List ℕ) (fault : SettleErr) →
-      before.files ≡ Some files → open_fault (step_at s.rec.steps names.step) ≡ None → IsLogIn files names.proof log →
+      before.files ≡ Some files → open_fault (step_numbered s.rec.steps names.step) ≡ None → IsLogIn files names.proof log →
       settled_text s.inputs.book s.rec names.step log ≡ Err fault → IsOr NOT_SETTLED before status
   -- A log that settles an undecided step of a sound transcript is taken, but for want of memory and faults of the outside.
   pub complete : (files : List StoredFile) (s : IsSoundIn files names.shown) (log : List ℕ) (new : Record) →
-      before.files ≡ Some files → open_fault (step_at s.rec.steps names.step) ≡ None → IsLogIn files names.proof log →
+      before.files ≡ Some files → open_fault (step_numbered s.rec.steps names.step) ≡ None → IsLogIn files names.proof log →
       settled_text s.inputs.book s.rec names.step log ≡ Ok new →
       IsOr (done_status (undecided_of new.steps)) before status ⊎ (status ≡ UNWRITTEN)
   -- At 9 it ended as `verify` ends, and at 3 and 5 too, or since the log was not loaded, of a sound transcript and an undecided
@@ -168,7 +168,7 @@ pub record ImportPromises (names : ImportNames) (before after : Outside) (status
       before.files ≡ Some files → inputs_of files names.shown.inputs ≡ Ok inputs → bytes_of files names.shown.transcript ≡ Some bytes →
       file_limit < length bytes → IsOr REFUSED before status
   pub refuses_long_log : (files : List StoredFile) (s : IsSoundIn files names.shown) (bytes : List ℕ) →
-      before.files ≡ Some files → open_fault (step_at s.rec.steps names.step) ≡ None → bytes_of files names.proof ≡ Some bytes →
+      before.files ≡ Some files → open_fault (step_numbered s.rec.steps names.step) ≡ None → bytes_of files names.proof ≡ Some bytes →
       file_limit < length bytes → IsOr REFUSED before status
   -- Nothing is stored at 3, 5, 9 and 10, and no other file is touched at any status.
   pub untouched : IsTrue (is_in (UNREAD ∷ REFUSED ∷ NOT_SHOWN ∷ NOT_SETTLED ∷ []) status) → after.files ≡ before.files
@@ -180,7 +180,7 @@ pub record ImportPromises (names : ImportNames) (before after : Outside) (status
   pub surely_read : (files : List StoredFile) →
       before.files ≡ Some files → before.steady ≡ true → AreAllThere files names.shown → IsSome (bytes_of files names.proof) → status ≢ UNREAD
   pub missing_log : (files : List StoredFile) (s : IsSoundIn files names.shown) →
-      before.files ≡ Some files → before.steady ≡ true → open_fault (step_at s.rec.steps names.step) ≡ None →
+      before.files ≡ Some files → before.steady ≡ true → open_fault (step_numbered s.rec.steps names.step) ≡ None →
       bytes_of files names.proof ≡ None → (status ≡ NO_MEMORY) ⊎ ((status ≡ UNREAD) × IsSaid before after (unread_line names.proof))
   -- Status 4 comes only where a count of faults rose: the step is settled, and a store failed, or both texts are stored and the
   -- summary was written, or some of it from the first byte on. It never comes over a steady folder and a sink that surely takes

@@ -10,7 +10,7 @@ use Rattle.auction_core.specs.declared.record.Record.{Record}
 use Rattle.transcript_text.specs.declared.error.TextErr.{TextErr}
 use Rattle.transcript_text.specs.declared.error.TextErr.TheVariants.{Version, BadLine, Truncated, NoMemory as NoRoom}
 use Rattle.transcript_text.specs.Pieces.{HasRead, ReadSoFar}
-use Rattle.open_tests.specs.Settling.{Fails}
+use Rattle.open_tests.specs.Settling.{SettleFails}
 use Rattle.open_tests.specs.declared.settle.SettleErr.{SettleErr}
 use Rattle.open_tests.specs.declared.settle.SettleErr.TheVariants as settle
 use Rattle.auction_cmd.specs.declared.fault.TranscriptFault.{TranscriptFault}
@@ -90,4 +90,4 @@ ExplainsLog name settle.NoMemory held held' cuts cuts' status = (status ≡ NO_M
 -- inputs; or the log's fault. Memory may run out.
 abbrev pub IsSettling : Inputs → Result Record SettleErr → Result Record SettleErr → Type 0
 IsSettling inputs wanted (Ok rec) = (wanted ≡ Ok rec) × IsRecordIn rec.order inputs rec
-IsSettling inputs wanted (Err why) = Fails why wanted
+IsSettling inputs wanted (Err why) = SettleFails why wanted

@@ -8,7 +8,7 @@ ghost use Rattle.auction_cmd.specs.Outside.{outside};
 ghost use Rattle.auction_cmd.specs.Records.{IsRecordIn};
 ghost use Rattle.auction_cmd.specs.Settling.{missing_fault};
 ghost use Rattle.auction_cmd.specs.Words.{export_seen};
-ghost use Rattle.open_tests.specs.Queries.{step_at};
+ghost use Rattle.open_tests.specs.Queries.{step_numbered};
 ghost use Rattle.open_tests.specs.Settling.{formula_text};
 
 use crate::explain::starve;
@@ -29,7 +29,7 @@ use std::alloc::{AllocError as NoMemory, Global};
 fn formula_of(alloc: Global, inputs: &Inputs, rec: &Record, step: u32) -> Result<Vec<u8>, NoMemory>
     requires auction { IsOfAuction inputs.now.scenario inputs.now.book }
     requires own { IsRecordIn rec.now.order inputs.now rec.now }
-    requires there { missing_fault (step_at rec.now.steps step) ≡ None }
+    requires there { missing_fault (step_numbered rec.now.steps step) ≡ None }
     ensures { IfOk result (λ text. text.items ≡ formula_text inputs.now.book rec.now step) }
 {
     let text = formula_of_step(alloc, rec, &inputs.book, step)?;

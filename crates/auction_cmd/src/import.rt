@@ -5,7 +5,7 @@ ghost use Rattle.pack_defs.specs.Scenario.{IsWithinLimits};
 ghost use Rattle.auction_core.specs.Backed.{undecided_of};
 ghost use Rattle.auction_core.specs.Setup.{IsOfAuction};
 ghost use Rattle.transcript_text.specs.Spelling.{transcript_text};
-ghost use Rattle.open_tests.specs.Queries.{step_at};
+ghost use Rattle.open_tests.specs.Queries.{step_numbered};
 ghost use Rattle.open_tests.specs.Settling.{settled_text};
 ghost use Rattle.auction_cmd.specs.Delivery.{Delivers};
 ghost use Rattle.auction_cmd.specs.Ends.{ImportEnds, pair_of_texts};
@@ -52,7 +52,7 @@ fn settled_by(
 ) -> Result<Record, SettleErr>
     requires auction { IsOfAuction inputs.now.scenario inputs.now.book }
     requires own { IsRecordIn rec.order inputs.now rec }
-    requires undecided { open_fault (step_at rec.steps step) ≡ None }
+    requires undecided { open_fault (step_numbered rec.steps step) ≡ None }
     ensures { IsSettling inputs.now (settled_text inputs.now.book rec step text.now) result }
 {
     inputs.book.keeps_order();

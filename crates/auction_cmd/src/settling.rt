@@ -3,7 +3,7 @@
 ghost use Rattle.std.specs.Prelude.{◌≡◌, ◌≤◌, ◌++◌, decimal, option_map};
 ghost use Rattle.auction_cmd.specs.Outside.{IsSaidTo};
 ghost use Rattle.auction_cmd.specs.Settling.{unsettled_line, missing_fault, open_fault, step_line, step_why, unlogged_text};
-ghost use Rattle.open_tests.specs.Queries.{step_at};
+ghost use Rattle.open_tests.specs.Queries.{step_numbered};
 
 use crate::says::{say, say_at};
 use auction_core::record::{Record, Shown, Step};
@@ -23,7 +23,7 @@ pub enum StepFault {
 
 // The step of this number, from 1, if there is one.
 fn step_at(rec: &Record, step: u32) -> Option<&Step>
-    ensures { option_map (λ x. x.now) result ≡ step_at rec.now.steps step }
+    ensures { option_map (λ x. x.now) result ≡ step_numbered rec.now.steps step }
 {
     let place = (step as usize).checked_sub(1)?;
     rec.steps.as_slice().get(place)
@@ -31,7 +31,7 @@ fn step_at(rec: &Record, step: u32) -> Option<&Step>
 
 /// Why this step can't be exported, if it can't.
 pub fn missing_fault(rec: &Record, step: u32) -> Option<StepFault>
-    ensures { result ≡ missing_fault (step_at rec.now.steps step) }
+    ensures { result ≡ missing_fault (step_numbered rec.now.steps step) }
 {
     match step_at(rec, step) {
         Some(_) => None,
@@ -41,7 +41,7 @@ pub fn missing_fault(rec: &Record, step: u32) -> Option<StepFault>
 
 /// Why this step can't be settled, if it can't.
 pub fn open_fault(rec: &Record, step: u32) -> Option<StepFault>
-    ensures { result ≡ open_fault (step_at rec.now.steps step) }
+    ensures { result ≡ open_fault (step_numbered rec.now.steps step) }
 {
     let Some(step) = step_at(rec, step) else {
         return Some(StepFault::NoSuchStep);

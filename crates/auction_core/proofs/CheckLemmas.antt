@@ -24,7 +24,7 @@ use Rattle.auction_core.specs.declared.prefix.ShownWhy.TheVariants.{NotValid}
 use Rattle.auction_core.specs.declared.prefix.ResumeErr.{ResumeErr}
 use Rattle.auction_core.specs.declared.prefix.ResumeErr.TheVariants as resume
 use Rattle.auction_core.specs.declared.step_err.StepErr.{StepErr}
-use Rattle.auction_core.specs.Checked.{IsAt, Tells, is_empty_shown, step_told, step_leaves}
+use Rattle.auction_core.specs.Checked.{IsAt, IsStepFault, is_empty_shown, step_told, step_leaves}
 use Rattle.auction_core.specs.NotShown.{NotShown, Explains, not_shown_at, start_fault, steps_fault}
 use Rattle.auction_core.specs.LogNumbers.{steps_in}
 use Rattle.auction_core.proofs.NumberLemmas.{steps-beside}
@@ -208,8 +208,8 @@ fit-fault sc book order state start delta e s h =
 pub fit-ok : (sc : Scenario) (book : BookView) (order : Order) (state : CoreState) (start : Shown) (delta : List (ℕ × ℕ)) → state ≡ opening sc book order → start ≡ Fits delta → state.start ≡ None → fit_fault book (start_task sc state.number) delta ≡ None → start_fault sc book start ≡ None
 fit-ok sc book order state start delta e s h none = fit-fault sc book order state start delta e s h ∙ none
 
-pub fit-why : (sc : Scenario) (book : BookView) (order : Order) (state : CoreState) (start : Shown) (delta : List (ℕ × ℕ)) (r : StepErr) → state ≡ opening sc book order → start ≡ Fits delta → state.start ≡ None → Tells r (option_map NotValid (fit_fault book (start_task sc state.number) delta)) → Tells r (option_map NotValid (start_fault sc book start))
-fit-why sc book order state start delta r e s h told = subst (λ o. Tells r (option_map NotValid o)) (sym (fit-fault sc book order state start delta e s h)) told
+pub fit-why : (sc : Scenario) (book : BookView) (order : Order) (state : CoreState) (start : Shown) (delta : List (ℕ × ℕ)) (r : StepErr) → state ≡ opening sc book order → start ≡ Fits delta → state.start ≡ None → IsStepFault r (option_map NotValid (fit_fault book (start_task sc state.number) delta)) → IsStepFault r (option_map NotValid (start_fault sc book start))
+fit-why sc book order state start delta r e s h told = subst (λ o. IsStepFault r (option_map NotValid o)) (sym (fit-fault sc book order state start delta e s h)) told
 
 pub fit-stands : (sc : Scenario) (book : BookView) (order : Order) (state new : CoreState) (start : Shown) (delta : List (ℕ × ℕ)) → state ≡ opening sc book order → start ≡ Fits delta → state.start ≡ None → new ≡ answered sc book state (Fits delta)
     → (xs : List TranscriptStep) (found : Option NotShown) → steps_fault sc book 1 (after_start sc order start) (clock_tests sc order) xs ≡ found → IsAt sc book order start [] xs found new

@@ -17,14 +17,14 @@ use Rattle.auction_core.specs.Clock.{IsClockOf, answered_clock, answered_standin
 use Rattle.auction_core.specs.Course.{CourseView, IsCourse, IsDue, clock_of, core_state, left_of, map_after, next_test}
 use Rattle.auction_core.specs.Past.{PastView}
 use Rattle.auction_core.specs.Rule.{IsAuction}
-use Rattle.auction_core.specs.Setup.{IsSound, SetupView}
+use Rattle.auction_core.specs.Setup.{IsSetupSound, SetupView}
 use Rattle.auction_core.specs.State.{CoreState, delta_of, settled, shows_room}
 use Rattle.auction_core.proofs.ClockLemmas.{is_on_air_at, length-standings}
 use Rattle.auction_core.proofs.Paid.{answer-clock}
 use Rattle.auction_core.proofs.Sets.{step_of}
 use Rattle.auction_core.proofs.Steps.{after_steps-push}
 
-pub sound-auction : (s : SetupView) → IsSound s → IsAuction s.scenario s.book
+pub sound-auction : (s : SetupView) → IsSetupSound s → IsAuction s.scenario s.book
 sound-auction s h = let some = h.auction.limits.some_worker in record { stations = h.auction.limits.ascend; in_order = h.in_order; workers = omega (arith, some) }
 
 -- ---- what a test's answer makes of the lists of a state
@@ -116,7 +116,7 @@ next-clock s c shown i past more =
     let first : CoreState = after_start s.scenario s.order (shown_start c.start) in
     ap (λ xs. (after_steps s.scenario first xs).clock) more ∙ ap (λ z. z.clock) (after_steps-push s.scenario first c.past.steps (step_of (next_test s c) shown))
 
-pub next-is-clock : (s : SetupView) (c : CourseView) (shown : Shown) (i : ℕ) (past : PastView) → IsSound s → IsCourse s c → IsDue s c → IsAt s c i → IsStepMore s c shown past →
+pub next-is-clock : (s : SetupView) (c : CourseView) (shown : Shown) (i : ℕ) (past : PastView) → IsSetupSound s → IsCourse s c → IsDue s c → IsAt s c i → IsStepMore s c shown past →
     IsClockOf s.scenario (clock_of s (next_course s c shown i past)) (next_course s c shown i past).clock
 next-is-clock s c shown i past l h due at more =
     subst (λ z. IsClockOf s.scenario z (next_course s c shown i past).clock) (sym (next-clock s c shown i past more))
@@ -127,7 +127,7 @@ abbrev made : (order : Order) (start : Option Shown) (steps : List Step) (number
 made order start steps number left clock entries = record { order = order; start = start; clock = clock; left = left; map = entries; steps = steps; noted = []; number = number }
 
 -- the station that was tested is on air as its standing says
-next-on-air : (s : SetupView) (c : CourseView) (shown : Shown) (i : ℕ) (past : PastView) → IsSound s → IsCourse s c → IsDue s c → IsAt s c i → IsStepMore s c shown past →
+next-on-air : (s : SetupView) (c : CourseView) (shown : Shown) (i : ℕ) (past : PastView) → IsSetupSound s → IsCourse s c → IsDue s c → IsAt s c i → IsStepMore s c shown past →
     is_on_air (after_answer s.scenario (clock_of s c) (next_test s c) (shows_room shown)) (next_test s c).station ≡ stands_on_air (next_standing s c shown)
 next-on-air s c shown i past l h due at more =
     let standing = next_standing s c shown in
@@ -136,7 +136,7 @@ next-on-air s c shown i past l h due at more =
     ap (λ z. is_on_air z (next_test s c).station) (sym (next-clock s c shown i past more))
     ∙ (is_on_air_at i (next_test s c).station Active (next-is-clock s c shown i past l h due at more).standings at.within at.station ∙ ap stands_on_air here)
 
-pub next-state : (s : SetupView) (c : CourseView) (shown : Shown) (i : ℕ) (past : PastView) (n : ℕ) → IsSound s → IsCourse s c → IsDue s c → IsAt s c i → IsStepMore s c shown past →
+pub next-state : (s : SetupView) (c : CourseView) (shown : Shown) (i : ℕ) (past : PastView) (n : ℕ) → IsSetupSound s → IsCourse s c → IsDue s c → IsAt s c i → IsStepMore s c shown past →
     core_state s (next_course s c shown i past) n ≡ record (settled s.scenario (core_state s c n) (next_test s c) shown) { left = left_of s (next_course s c shown i past) }
 next-state s c shown i past n l h due at more =
     let t = next_test s c in

@@ -20,7 +20,7 @@ use Rattle.auction_core.specs.Clock.{ClockView, IsClockOf}
 use Rattle.auction_core.specs.Course.{CourseView, GivesWithin, GoesByRule, IsCourse, IsIdle, clock_of, core_state, left_of, tests_left}
 use Rattle.auction_core.specs.Parts.{IsPartsOf, last_seen}
 use Rattle.auction_core.specs.Past.{PastView}
-use Rattle.auction_core.specs.Setup.{IsSound, SetupView}
+use Rattle.auction_core.specs.Setup.{IsSetupSound, SetupView}
 use Rattle.auction_core.specs.State.{CoreState, before_start, go_on, last_fit, shows_room, start_delta, start_fits, start_task, started}
 use Rattle.auction_core.proofs.Answers.{filter-in}
 use Rattle.auction_core.proofs.CourseLemmas.{sound-auction}
@@ -55,7 +55,7 @@ pub record IsFirstPast (s : SetupView) (past : PastView) : Type 0 where
 pub first-clock : (s : SetupView) (standings : ClockView) (past : PastView) → past.steps ≡ [] → clock_of s (first_course s.scenario standings past) ≡ opening_state s.scenario
 first-clock s standings past none = ap (λ xs. (after_steps s.scenario (after_start s.scenario s.order Empty) xs).clock) none
 
-pub first-holds : (s : SetupView) (standings : ClockView) (past : PastView) → IsSound s → IsClockOf s.scenario (opening_state s.scenario) standings → IsFirstPast s past → IsCourse s (first_course s.scenario standings past)
+pub first-holds : (s : SetupView) (standings : ClockView) (past : PastView) → IsSetupSound s → IsClockOf s.scenario (opening_state s.scenario) standings → IsFirstPast s past → IsCourse s (first_course s.scenario standings past)
 first-holds s standings past l are f =
     let sc = s.scenario in
     let clock = first-clock s standings past f.steps in
@@ -149,7 +149,7 @@ none-runs c fresh = ap start_fits fresh
 begun-left : (s : SetupView) (c : CourseView) (shown : Shown) → IsIdle c → shows_room shown ≡ true → left_of s (begun c shown) ≡ clock_tests s.scenario s.order
 begun-left s c shown h room = left-runs s (begun c shown) room ∙ (ap₂ (tests_left s) h.round h.turn ∙ left-all s)
 
-begun-rule : (s : SetupView) (c : CourseView) (shown : Shown) → IsSound s → c.start ≡ None → IsIdle c → IsStartShown s.scenario s.book shown → shows_room shown ≡ true → GoesByRule s (begun c shown)
+begun-rule : (s : SetupView) (c : CourseView) (shown : Shown) → IsSetupSound s → c.start ≡ None → IsIdle c → IsStartShown s.scenario s.book shown → shows_room shown ≡ true → GoesByRule s (begun c shown)
 begun-rule s c shown l fresh h is room =
     let bare : IsBare s.scenario (core_state s c 0) = record { clock = idle-clock s c h; left = cond-false (start_fits c.start) (tests_left s c.round c.turn) [] (none-runs c fresh); map = h.map; steps = h.steps } in
     let walked = first-walk s.scenario s.book shown (core_state s c 0) (sound-auction s l) bare is room in

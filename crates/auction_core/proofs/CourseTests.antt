@@ -16,7 +16,7 @@ use Rattle.auction_core.specs.declared.record.Shown.{Shown}
 use Rattle.auction_core.specs.Backed.{IsSettledBy, IsStepShown, shown_start}
 use Rattle.auction_core.specs.Course.{CourseView, GoesByRule, IsAtRest, IsCourse, IsDue, IsOver, IsSettled, clock_of, core_state, left_of, next_test, test_at, tests_left, unasked_of}
 use Rattle.auction_core.specs.Past.{PastView}
-use Rattle.auction_core.specs.Setup.{IsSound, SetupView}
+use Rattle.auction_core.specs.Setup.{IsSetupSound, SetupView}
 use Rattle.auction_core.specs.State.{CoreState, go_on, settled, settled_unasked, shows_room, start_fits, test_task}
 use Rattle.auction_core.specs.Walked.{IsWalked}
 use Rattle.auction_core.proofs.CourseLemmas.{IsAt, IsStepMore, moved-by, next-clock, next_course, next-is-clock, next-state, sound-auction}
@@ -107,7 +107,7 @@ walked-same s start a b before o c m x w =
     subst (λ z. IsWalked s.scenario s.book start z before) same first
 
 -- the station of the next test isn't on air yet
-pub due-off : (s : SetupView) (c : CourseView) → start_fits c.start ≡ true → IsSound s → IsCourse s c → IsDue s c → is_on_air (clock_of s c) (next_test s c).station ≡ false
+pub due-off : (s : SetupView) (c : CourseView) → start_fits c.start ≡ true → IsSetupSound s → IsCourse s c → IsDue s c → is_on_air (clock_of s c) (next_test s c).station ≡ false
 due-off s c running l h due =
     let g = h.rule running in
     (off-air s.scenario s.book _ g.before (clock_of s c) (sound-auction s l) g.walked.clock (next_test s c).station due.active).1
@@ -116,7 +116,7 @@ due-off s c running l h due =
 abbrev pub IsNextShown : SetupView → CourseView → Shown → Type 0
 IsNextShown s c shown = IsStepShown s.scenario s.book (core_state s c 0) (step_of (next_test s c) shown)
 
-next-rule : (s : SetupView) (c : CourseView) (shown : Shown) (i : ℕ) (past : PastView) → IsSound s → start_fits c.start ≡ true → IsCourse s c → IsDue s c → IsAt s c i → IsStepMore s c shown past → IsNextShown s c shown → GoesByRule s (next_course s c shown i past)
+next-rule : (s : SetupView) (c : CourseView) (shown : Shown) (i : ℕ) (past : PastView) → IsSetupSound s → start_fits c.start ≡ true → IsCourse s c → IsDue s c → IsAt s c i → IsStepMore s c shown past → IsNextShown s c shown → GoesByRule s (next_course s c shown i past)
 next-rule s c shown i past l running h due at more is =
     let g = h.rule running in
     let t = next_test s c in
@@ -131,7 +131,7 @@ next-rule s c shown i past l running h due at more is =
       walked = walked-same s (shown_start c.start) (settled s.scenario (core_state s c 0) t shown) (core_state s new 0) (g.before ++ t ∷ []) refl (sym (ap (λ (z : CoreState). z.clock) state)) (sym (ap (λ (z : CoreState). z.map) state)) (sym (ap (λ (z : CoreState). z.steps) state)) moved;
     }
 
-pub next-holds : (s : SetupView) (c : CourseView) (shown : Shown) (i : ℕ) (past : PastView) → IsSound s → start_fits c.start ≡ true → IsCourse s c → IsDue s c → IsAt s c i → HasNoted s c shown i past → IsNextShown s c shown → IsCourse s (next_course s c shown i past)
+pub next-holds : (s : SetupView) (c : CourseView) (shown : Shown) (i : ℕ) (past : PastView) → IsSetupSound s → start_fits c.start ≡ true → IsCourse s c → IsDue s c → IsAt s c i → HasNoted s c shown i past → IsNextShown s c shown → IsCourse s (next_course s c shown i past)
 next-holds s c shown i past l running h due at j is =
     let sc = s.scenario in
     let t = next_test s c in
@@ -156,7 +156,7 @@ next-holds s c shown i past l running h due at j is =
     }
 
 -- one that is equal to the course once its next test is settled so was settled so
-pub is-settled : (s : SetupView) (old new : CourseView) (shown : Shown) (i : ℕ) (past : PastView) → IsSound s → start_fits old.start ≡ true → IsCourse s old → IsDue s old → IsAt s old i → HasNoted s old shown i past → IsNextShown s old shown → new ≡ next_course s old shown i past → IsSettled s shown old new
+pub is-settled : (s : SetupView) (old new : CourseView) (shown : Shown) (i : ℕ) (past : PastView) → IsSetupSound s → start_fits old.start ≡ true → IsCourse s old → IsDue s old → IsAt s old i → HasNoted s old shown i past → IsNextShown s old shown → new ≡ next_course s old shown i past → IsSettled s shown old new
 is-settled s old new shown i past l running h due at j is same = subst (IsSettled s shown old) (sym same) (record {
   holds = next-holds s old shown i past l running h due at j is;
   state = λ n. next-state s old shown i past n l h due at j.steps;

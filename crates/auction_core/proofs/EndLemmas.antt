@@ -21,7 +21,7 @@ use Rattle.auction_core.specs.declared.prefix.ShownWhy.TheVariants as Why
 use Rattle.auction_core.specs.declared.prefix.ResumeErr.{ResumeErr}
 use Rattle.auction_core.specs.declared.prefix.ResumeErr.TheVariants as resume
 use Rattle.auction_core.specs.Checked.{FinishTells, IsAllShown, IsAt, found_in}
-use Rattle.auction_core.specs.NotShown.{NotShown, Explains, not_shown, not_shown_at, start_fault, started_fault, step_or, steps_fault, within}
+use Rattle.auction_core.specs.NotShown.{NotShown, Explains, not_shown, not_shown_at, start_fault, started_fault, step_fault_or, steps_fault, within_steps}
 use Rattle.auction_core.specs.LogNumbers.{steps_in}
 use Rattle.auction_core.proofs.StartFaults.{start-shown}
 use Rattle.auction_core.proofs.FollowLemmas.{end-checked}
@@ -30,7 +30,7 @@ use Rattle.auction_core.proofs.KeptLemmas.{end-within}
 
 pub found-is : (sc : Scenario) (book : BookView) (t : Transcript) → start_fault sc book t.start ≡ None → not_shown sc book t ≡ found_in sc book t
 unfolding not_shown
-found-is sc book t e = ap (λ (o : Option Place). step_or 0 o (found_in sc book t)) e
+found-is sc book t e = ap (λ (o : Option Place). step_fault_or 0 o (found_in sc book t)) e
 
 no-fault : (why : ShownWhy) → None ≡ Some why → ⊥
 no-fault why e = cc
@@ -43,7 +43,7 @@ pub start-err : (sc : Scenario) (book : BookView) (t : Transcript) (r : ResumeEr
 unfolding not_shown
 start-err sc book t r h = explain r (option_map NotValid (start_fault sc book t.start)) 0 (not_shown sc book t) h (go (start_fault sc book t.start))
   where
-    go : (o : Option Place) → (why : ShownWhy) → option_map NotValid o ≡ Some why → step_or 0 o (found_in sc book t) ≡ not_shown_at 0 why
+    go : (o : Option Place) → (why : ShownWhy) → option_map NotValid o ≡ Some why → step_fault_or 0 o (found_in sc book t) ≡ not_shown_at 0 why
     go None why e = absurd (no-fault why e)
     go (Some place) why e = ap (not_shown_at 0) (why-is (NotValid place) why e)
 
@@ -119,5 +119,5 @@ end-err-at sc book t state count r e a h n = end-err sc book t state r e a (subs
 
 pub started-none : (sc : Scenario) (book : BookView) (ended : Bool) (t : Transcript) (state : CoreState) → ended ≡ false → start_fault sc book t.start ≡ None → IsAt sc book t.order t.start (steps_in t.steps) [] (found_in sc book t) state → started_fault sc book ended t ≡ None
 started-none sc book ended t state e none a =
-    ap (λ (b : Bool). if b then not_shown sc book t else within (length t.steps) (not_shown sc book t)) e
-    ∙ (ap (within (length t.steps)) (found-is sc book t none) ∙ (ap (λ (n : ℕ). within n (found_in sc book t)) (sym (same-count t)) ∙ end-within sc book t.order t.start (steps_in t.steps) (found_in sc book t) state a))
+    ap (λ (b : Bool). if b then not_shown sc book t else within_steps (length t.steps) (not_shown sc book t)) e
+    ∙ (ap (within_steps (length t.steps)) (found-is sc book t none) ∙ (ap (λ (n : ℕ). within_steps n (found_in sc book t)) (sym (same-count t)) ∙ end-within sc book t.order t.start (steps_in t.steps) (found_in sc book t) state a))

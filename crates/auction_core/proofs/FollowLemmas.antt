@@ -26,7 +26,7 @@ use Rattle.auction_core.specs.declared.prefix.ShownWhy.TheVariants as Why
 use Rattle.auction_core.specs.Backed.{after_start}
 use Rattle.auction_core.specs.Prefix.{go_through, queries_taken, took_query}
 use Rattle.auction_core.specs.Checked.{IsAt, unasked_told, is_about, task_told, query_told, step_told, step_leaves}
-use Rattle.auction_core.specs.NotShown.{NotShown, query_fault, unasked_fault, step_fault, next_asked, step_or, is_test, at_test, not_shown_at, steps_fault}
+use Rattle.auction_core.specs.NotShown.{NotShown, query_fault, unasked_fault, step_fault, next_asked, step_fault_or, is_test, at_test, not_shown_at, steps_fault}
 use Rattle.auction_core.proofs.StepLemmas.{unasked-shown}
 use Rattle.auction_core.proofs.WalkLemmas.{same-tests}
 use Rattle.auction_core.proofs.GoOnLemmas.{IsUnasked, IsStop, goes-on}
@@ -53,25 +53,25 @@ no-why why e = cc
 
 -- the two ways to tell a step's fault
 fault-same : (test : Bool) (fault : Option Place) (step : ℕ) (more : Option NotShown) → (if test then option_map NotValid fault else Some Why.Order) ≡ None
-    → (test ≡ true) × (fault ≡ None) × ((if test then step_or step fault more else not_shown_at step Why.Order) ≡ more)
+    → (test ≡ true) × (fault ≡ None) × ((if test then step_fault_or step fault more else not_shown_at step Why.Order) ≡ more)
 fault-same true None step more e = (refl, refl, refl)
 fault-same true (Some place) step more e = absurd (absurd-none (NotValid place) e)
 fault-same false fault step more e = absurd (absurd-none Why.Order e)
 
 fault-why : (test : Bool) (fault : Option Place) (step : ℕ) (more : Option NotShown) (why : ShownWhy) → (if test then option_map NotValid fault else Some Why.Order) ≡ Some why
-    → (if test then step_or step fault more else not_shown_at step Why.Order) ≡ not_shown_at step why
+    → (if test then step_fault_or step fault more else not_shown_at step Why.Order) ≡ not_shown_at step why
 fault-why true None step more why e = absurd (no-why why e)
 fault-why true (Some place) step more why e = ap (not_shown_at step) (why-is (NotValid place) why e)
 fault-why false fault step more why e = ap (not_shown_at step) (why-is Why.Order why e)
 
 -- only where the test is the step's does the fault count
-in-true : (b : Bool) (step : ℕ) (f g : Option Place) (more : Option NotShown) → (b ≡ true → f ≡ g) → (if b then step_or step f more else not_shown_at step Why.Order) ≡ (if b then step_or step g more else not_shown_at step Why.Order)
-in-true true step f g more h = ap (λ (o : Option Place). step_or step o more) (h refl)
+in-true : (b : Bool) (step : ℕ) (f g : Option Place) (more : Option NotShown) → (b ≡ true → f ≡ g) → (if b then step_fault_or step f more else not_shown_at step Why.Order) ≡ (if b then step_fault_or step g more else not_shown_at step Why.Order)
+in-true true step f g more h = ap (λ (o : Option Place). step_fault_or step o more) (h refl)
 in-true false step f g more h = refl
 
 -- the walk at a step whose test is the next one that is asked
 at-next : (sc : Scenario) (book : BookView) (step : ℕ) (at : CoreState) (left : List ClockTest) (t : ClockTest) (rest : List ClockTest) (x : TranscriptStep) (xs : List TranscriptStep) → next_asked at.clock left ≡ t ∷ rest
-    → steps_fault sc book step at left (x ∷ xs) ≡ (if is_test t x then step_or step (step_fault sc book at x) (steps_fault sc book (step + 1) (settled sc at (test_of x.step) x.step.shown) rest xs) else not_shown_at step Why.Order)
+    → steps_fault sc book step at left (x ∷ xs) ≡ (if is_test t x then step_fault_or step (step_fault sc book at x) (steps_fault sc book (step + 1) (settled sc at (test_of x.step) x.step.shown) rest xs) else not_shown_at step Why.Order)
 unfolding steps_fault
 at-next sc book step at left t rest x xs e = rw e refl
 
@@ -106,11 +106,11 @@ unasked sc book order start done x xs found state a u =
     let more : Option NotShown = steps_fault sc book (step + 1) (settled sc a.at (test_of x.step) x.step.shown) u.rest xs in
     let told-is : step_told sc book state (length done) x ≡ unasked_told own x = ap (λ (o : Option Step). option_map_or (λ own. unasked_told own x) o (query_told sc book state x)) here in
     let leaves-is : step_leaves sc book state (length done) x ≡ state = ap (λ (o : Option Step). option_map_or (λ own. state) o (answered sc book state x.step.shown)) here in
-    let walk : found ≡ (if is_test u.test x then step_or step (step_fault sc book a.at x) more else not_shown_at step Why.Order) = sym a.rest ∙ at-next sc book step a.at a.left u.test u.rest x xs u.asked in
+    let walk : found ≡ (if is_test u.test x then step_fault_or step (step_fault sc book a.at x) more else not_shown_at step Why.Order) = sym a.rest ∙ at-next sc book step a.at a.left u.test u.rest x xs u.asked in
     let own-fault : (is_test u.test x ≡ true) → step_fault sc book a.at x ≡ fault = λ same.
     let so : settled_unasked sc book a.at (test_of x.step) ≡ Some u.own = ap (settled_unasked sc book a.at) (sym (same-tests u.test x same)) ∙ u.so in
     ap (λ (o : Option Shown). option_map_or (unasked_fault x) o (query_fault sc book (test_task sc book a.at (test_of x.step)) x.step.shown x.firsts)) so in
-    let found-is : found ≡ (if is_test u.test x then step_or step fault more else not_shown_at step Why.Order) = walk ∙ in-true (is_test u.test x) step (step_fault sc book a.at x) fault more own-fault in
+    let found-is : found ≡ (if is_test u.test x then step_fault_or step fault more else not_shown_at step Why.Order) = walk ∙ in-true (is_test u.test x) step (step_fault sc book a.at x) fault more own-fault in
     record {
       none = λ e.
           let parts = fault-same (is_test u.test x) fault step more (sym told-is ∙ e) in
@@ -186,7 +186,7 @@ stopped sc book order start done x xs found state a s =
         let none : settled_unasked sc book a.at (test_of x.step) ≡ None = ap (settled_unasked sc book a.at) (sym t-is) ∙ s.query t ts left-is in
         ap (λ (o : Option Shown). option_map_or (unasked_fault x) o (query_fault sc book (test_task sc book a.at (test_of x.step)) x.step.shown x.firsts)) none
         ∙ ap (λ (v : ClockTest). query_fault sc book (test_task sc book a.at v) x.step.shown x.firsts) (sym t-is) in
-        let found-is : found ≡ (if is_test t x then step_or step' fault more else not_shown_at step' Why.Order) =
+        let found-is : found ≡ (if is_test t x then step_fault_or step' fault more else not_shown_at step' Why.Order) =
         sym a.rest ∙ (at-next sc book step' a.at a.left t ts x xs left-is ∙ in-true (is_test t x) step' (step_fault sc book a.at x) fault more query) in
         record {
           none = λ e.

@@ -22,7 +22,7 @@ use Rattle.auction_core.specs.declared.posting.Reply.TheVariants.{Ended, WrongQu
 use Rattle.auction_core.specs.State.{CoreState, NotedSpent, test_of, shows_room, start_delta, settled, settled_unasked, go_on, started, before_start, start_unasked, opening, has_ended, test_task, start_task, first_task, task_of, past_first, answered}
 use Rattle.auction_core.specs.Take.{PostingView, fault_of, turned_away, take, after_postings}
 use Rattle.auction_core.specs.Backed.{IsValidOf, IsSettledBy, IsStartShown, IsStepShown, after_steps, AreShown, after_start}
-use Rattle.auction_core.specs.Rule.{Answers, SettlesQuery, AreValid, AreNoted, IsQuery, IsStartKept, IsAuction}
+use Rattle.auction_core.specs.Rule.{Answers, SettlesQuery, AreValid, AreNoted, IsQueryNext, IsStartKept, IsAuction}
 use Rattle.auction_core.specs.Walked.{IsWalked}
 use Rattle.auction_core.proofs.Kept.{IsAtStart, IsUnderWay, Stands, IsKept, in-case, match-true, match-false}
 use Rattle.auction_core.proofs.Cases.{take-cases, with_noted, all_spent, noted_as}
@@ -158,7 +158,7 @@ settled-test sc book start state t ts shown a u r k e f s =
     let next : CoreState = record state { noted = []; number = state.number + 1 } in
     let task : task_of sc book state ≡ Some (test_task sc book state t) = task-is sc book state (Some start) (t ∷ ts) e f in
     let valid : IsSettledBy sc book (test_task sc book state t) shown = subst (λ o. MatchOption o ⊥ (λ task. IsSettledBy sc book task shown)) task s in
-    let query : IsQuery sc book state (t ∷ ts) = subst (IsQuery sc book state) f u.query in
+    let query : IsQueryNext sc book state (t ∷ ts) = subst (IsQueryNext sc book state) f u.query in
     let parts : clock_tests sc state.order ≡ u.before ++ t ∷ ts = sym u.parts ∙ ap (λ l. u.before ++ l) f in
     let w : IsWalked sc book start next u.before = record { clock = u.clock; tests = u.tests; shown = u.shown; same_clock = u.same_clock; same_map = u.same_map; clean = u.clean; stations = u.stations; fits = fits-stand-same sc book state next refl refl refl (under-way-fits sc book start state a k r u) } in
     let step : IsStepShown sc book state (step_of t shown) = subst (λ o. MatchOption o (IsSettledBy sc book (test_task sc book state t) shown) (λ unasked. shown ≡ unasked)) (sym query.1) valid in
@@ -258,7 +258,7 @@ more-stands sc book state x h n =
     ] in
     record { start = h.start; stands = go state.start refl h.stands; noted = n }
   where
-    query-same : (l : List ClockTest) → IsQuery sc book state l → IsQuery sc book (with_noted state x) l
+    query-same : (l : List ClockTest) → IsQueryNext sc book state l → IsQueryNext sc book (with_noted state x) l
     query-same [] q = tt
     query-same (t ∷ ts) q = q
 

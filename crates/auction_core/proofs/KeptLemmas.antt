@@ -24,7 +24,7 @@ use Rattle.auction_core.specs.declared.prefix.ResumeErr.{ResumeErr}
 use Rattle.auction_core.specs.declared.prefix.ResumeErr.TheVariants as resume
 use Rattle.auction_core.specs.Backed.{AreShown, after_start, after_steps, undecided_of}
 use Rattle.auction_core.specs.LogNumbers.{AreNumbered, steps_in}
-use Rattle.auction_core.specs.NotShown.{Explains, NotShown, at_test, end_fault, is_test, kept_as, next_asked, not_kept, not_shown, not_shown_at, order_kept, start_fault, started_fault, step_fault, step_or, steps_fault, unstarted_fault, within}
+use Rattle.auction_core.specs.NotShown.{Explains, NotShown, at_test, fault_at_end, is_test, kept_as, next_asked, not_kept, not_shown, not_shown_at, order_kept, start_fault, started_fault, step_fault, step_fault_or, steps_fault, unstarted_fault, within_steps}
 use Rattle.auction_core.specs.Prefix.{IsPrefix, resumed}
 use Rattle.auction_core.specs.Rule.{IsAuction}
 use Rattle.auction_core.specs.Walked.{IsWalked}
@@ -39,7 +39,7 @@ some-none : {A : Type 0} (x : A) → Some x ≡ None → ⊥
 some-none x e = cc
 
 -- a fault of one of these steps is within them
-within-some : (steps : ℕ) (fault : NotShown) → fault.step ≤ steps → within steps (Some fault) ≡ Some fault
+within-some : (steps : ℕ) (fault : NotShown) → fault.step ≤ steps → within_steps steps (Some fault) ≡ Some fault
 within-some steps fault h = go (nat_le fault.step steps) (le-true fault.step steps h)
   where
     le-true : (a b : ℕ) → a ≤ b → nat_le a b ≡ true
@@ -50,11 +50,11 @@ within-some steps fault h = go (nat_le fault.step steps) (le-true fault.step ste
     go false e = absurd cc
 
 -- so there is none where none is within them
-none-within : (steps step : ℕ) (why : ShownWhy) → step ≤ steps → within steps (not_shown_at step why) ≡ None → ⊥
+none-within : (steps step : ℕ) (why : ShownWhy) → step ≤ steps → within_steps steps (not_shown_at step why) ≡ None → ⊥
 none-within steps step why h e = some-none (record { step = step; why = why }) (sym (within-some steps (record { step = step; why = why }) h) ∙ e)
 
 -- a fault behind these steps is not within them
-pub within-behind : (steps : ℕ) (why : ShownWhy) → within steps (not_shown_at (steps + 1) why) ≡ None
+pub within-behind : (steps : ℕ) (why : ShownWhy) → within_steps steps (not_shown_at (steps + 1) why) ≡ None
 within-behind steps why = go (nat_le (steps + 1) steps) (le-false steps)
   where
     le-false : (a : ℕ) → nat_le (a + 1) a ≡ false
@@ -74,11 +74,11 @@ pub record IsFollowedSoFar (sc : Scenario) (book : BookView) (start : Shown) (st
   pub parts : clock_tests sc state.order ≡ before ++ left
   pub numbered : AreNumbered sc book state xs
 
-if-within : (steps step : ℕ) (b : Bool) (o : Option NotShown) → step ≤ steps → within steps (if b then o else not_shown_at step WrongTest) ≡ None → (b ≡ true) × (within steps o ≡ None)
+if-within : (steps step : ℕ) (b : Bool) (o : Option NotShown) → step ≤ steps → within_steps steps (if b then o else not_shown_at step WrongTest) ≡ None → (b ≡ true) × (within_steps steps o ≡ None)
 if-within steps step true o h e = (refl, e)
 if-within steps step false o h e = absurd (none-within steps step WrongTest h e)
 
-or-within : (steps step : ℕ) (o : Option Place) (rest : Option NotShown) → step ≤ steps → within steps (step_or step o rest) ≡ None → (o ≡ None) × (within steps rest ≡ None)
+or-within : (steps step : ℕ) (o : Option Place) (rest : Option NotShown) → step ≤ steps → within_steps steps (step_fault_or step o rest) ≡ None → (o ≡ None) × (within_steps steps rest ≡ None)
 or-within steps step None rest h e = (refl, e)
 or-within steps step (Some place) rest h e = absurd (none-within steps step (NotValid place) h e)
 
@@ -89,7 +89,7 @@ inside : (k l : ℕ) → k + 1 ≤ k + suc l
 inside k l = omega arith
 
 followed-so-far : (sc : Scenario) (book : BookView) (start : Shown) (k : ℕ) (state : CoreState) (before ts : List ClockTest) (xs : List TranscriptStep) → IsAuction sc book → IsWalked sc book start state before → clock_tests sc state.order ≡ before ++ ts
-    → within (k + length xs) (steps_fault sc book (k + 1) state ts xs) ≡ None → IsFollowedSoFar sc book start state xs
+    → within_steps (k + length xs) (steps_fault sc book (k + 1) state ts xs) ≡ None → IsFollowedSoFar sc book start state xs
 unfolding steps_fault
 followed-so-far sc book start k state before ts [] a w parts e = record { before = before; left = ts; walked = w; parts = parts; numbered = tt }
 followed-so-far sc book start k state before ts (x ∷ xs) a w parts e =
@@ -100,12 +100,12 @@ followed-so-far sc book start k state before ts (x ∷ xs) a w parts e =
     next = settled sc state (test_of x.step) x.step.shown
 
     Rest : Type 0
-    Rest = (before' us : List ClockTest) → IsWalked sc book start next before' → clock_tests sc next.order ≡ before' ++ us → within (k + 1 + length xs) (steps_fault sc book (k + 1 + 1) next us xs) ≡ None → IsFollowedSoFar sc book start next xs
+    Rest = (before' us : List ClockTest) → IsWalked sc book start next before' → clock_tests sc next.order ≡ before' ++ us → within_steps (k + 1 + length xs) (steps_fault sc book (k + 1 + 1) next us xs) ≡ None → IsFollowedSoFar sc book start next xs
 
-    go : (left : List ClockTest) → IsPassed sc book start state left → within (k + suc (length xs)) (at_test sc book (k + 1) state x left (λ rest. steps_fault sc book (k + 1 + 1) next rest xs)) ≡ None → Rest → IsFollowedSoFar sc book start state (x ∷ xs)
+    go : (left : List ClockTest) → IsPassed sc book start state left → within_steps (k + suc (length xs)) (at_test sc book (k + 1) state x left (λ rest. steps_fault sc book (k + 1 + 1) next rest xs)) ≡ None → Rest → IsFollowedSoFar sc book start state (x ∷ xs)
     go [] p f more = absurd (none-within (k + suc (length xs)) (k + 1) WrongTest (inside k (length xs)) f)
     go (t ∷ us) p f more =
-        let test = if-within (k + suc (length xs)) (k + 1) (is_test t x) (step_or (k + 1) (step_fault sc book state x) (steps_fault sc book (k + 1 + 1) next us xs)) (inside k (length xs)) f in
+        let test = if-within (k + suc (length xs)) (k + 1) (is_test t x) (step_fault_or (k + 1) (step_fault sc book state x) (steps_fault sc book (k + 1 + 1) next us xs)) (inside k (length xs)) f in
         let both = or-within (k + suc (length xs)) (k + 1) (step_fault sc book state x) (steps_fault sc book (k + 1 + 1) next us xs) (inside k (length xs)) test.1 in
         let same : t ≡ test_of x.step = same-tests t x test.0 in
         let shown = step-shown sc book state x both.0 in
@@ -113,7 +113,7 @@ followed-so-far sc book start k state before ts (x ∷ xs) a w parts e =
         let parts' : clock_tests sc state.order ≡ p.before ++ test_of x.step ∷ us = p.parts ∙ ap (λ (u : ClockTest). p.before ++ u ∷ us) same in
         let w' = walk-step sc book start state p.before us (test_of x.step) x.step.shown a p.walked parts' active shown.0 in
         let rest = more (p.before ++ test_of x.step ∷ []) us w' (parts' ∙ sym (append_assoc p.before (test_of x.step ∷ []) us))
-        (subst (λ n. within n (steps_fault sc book (k + 1 + 1) next us xs) ≡ None) (shift k (length xs)) both.1) in
+        (subst (λ n. within_steps n (steps_fault sc book (k + 1 + 1) next us xs) ≡ None) (shift k (length xs)) both.1) in
         record { before = rest.before; left = rest.left; walked = rest.walked; parts = rest.parts; numbered = (shown.1, rest.numbered) }
 
 -- ---- the whole
@@ -130,7 +130,7 @@ none-before : (n : ℕ) → 0 + n ≡ n
 none-before n = omega arith
 
 -- behind a start shown so
-started : (sc : Scenario) (book : BookView) (order : Order) (start : Shown) (xs : List TranscriptStep) → IsAuction sc book → start_fault sc book start ≡ None → within (length xs) (steps_fault sc book 1 (after_start sc order start) (clock_tests sc order) xs) ≡ None
+started : (sc : Scenario) (book : BookView) (order : Order) (start : Shown) (xs : List TranscriptStep) → IsAuction sc book → start_fault sc book start ≡ None → within_steps (length xs) (steps_fault sc book 1 (after_start sc order start) (clock_tests sc order) xs) ≡ None
     → IsPrefix sc book order (Some start) (steps_in xs) × AreNumbered sc book (after_start sc order start) xs
 unfolding asked_tests
 started sc book order start xs a none e =
@@ -139,7 +139,7 @@ started sc book order start xs a none e =
     let first : CoreState = after_start sc order start in
     let steps : List Step = steps_in xs in
     let f = followed-so-far sc book start 0 first [] (clock_tests sc order) xs a (start-walk sc book order start a s.0 room) refl
-    (subst (λ n. within n (steps_fault sc book 1 first (clock_tests sc order) xs) ≡ None) (sym (none-before (length xs))) e) in
+    (subst (λ n. within_steps n (steps_fault sc book 1 first (clock_tests sc order) xs) ≡ None) (sym (none-before (length xs))) e) in
     let last : CoreState = after_steps sc first steps in
     let own : last.steps ≡ steps = after_steps-steps sc first steps in
     let turned : last.order ≡ order = after_steps-order sc first steps in
@@ -157,8 +157,8 @@ started sc book order start xs a none e =
       f.numbered,
     )
 
-none-if : (b : Bool) (steps : ℕ) (o : Option NotShown) → (if b then o else within steps o) ≡ None → within steps o ≡ None
-none-if true steps o e = ap (within steps) e
+none-if : (b : Bool) (steps : ℕ) (o : Option NotShown) → (if b then o else within_steps steps o) ≡ None → within_steps steps o ≡ None
+none-if true steps o e = ap (within_steps steps) e
 none-if false steps o e = e
 
 -- What is kept without a fault may be kept.
@@ -192,11 +192,11 @@ kept-prefix sc book p a e = go p.start e
 -- ---- what the code comes to
 
 -- where the walk over the steps has come behind the last one, no fault is within them
-pub end-within : (sc : Scenario) (book : BookView) (order : Order) (start : Shown) (done : List Step) (found : Option NotShown) (state : CoreState) → IsAt sc book order start done [] found state → within (length done) found ≡ None
+pub end-within : (sc : Scenario) (book : BookView) (order : Order) (start : Shown) (done : List Step) (found : Option NotShown) (state : CoreState) → IsAt sc book order start done [] found state → within_steps (length done) found ≡ None
 unfolding steps_fault
-end-within sc book order start done found state a = ap (within (length done)) (sym a.rest) ∙ go (next_asked a.at.clock a.left)
+end-within sc book order start done found state a = ap (within_steps (length done)) (sym a.rest) ∙ go (next_asked a.at.clock a.left)
   where
-    go : (ts : List ClockTest) → within (length done) (end_fault (length done + 1) ts) ≡ None
+    go : (ts : List ClockTest) → within_steps (length done) (fault_at_end (length done + 1) ts) ≡ None
     go [] = refl
     go (t ∷ ts) = within-behind (length done) WrongTest
 
@@ -205,9 +205,9 @@ early-more (resume.NotShown step why) n m h le = omega (arith, h, le)
 early-more resume.NoMemory n m h le = tt
 
 -- an error that is early is the fault within
-pub explains-within : (e : ResumeErr) (n : ℕ) (found : Option NotShown) → Explains e found → IsEarly e n → Explains e (within n found)
+pub explains-within : (e : ResumeErr) (n : ℕ) (found : Option NotShown) → Explains e found → IsEarly e n → Explains e (within_steps n found)
 explains-within resume.NoMemory n found h early = tt
-explains-within (resume.NotShown step why) n found h early = ap (within n) h ∙ within-some n (record { step = step; why = why }) early
+explains-within (resume.NotShown step why) n found h early = ap (within_steps n) h ∙ within-some n (record { step = step; why = why }) early
 
 -- the start set fits where the start has no fault
 pub started-room : (sc : Scenario) (book : BookView) (start : Shown) → start_fault sc book start ≡ None → shows_room start ≡ true

@@ -20,7 +20,7 @@ use Rattle.auction_core.specs.Clock.{answered_standing, stands_on_air}
 use Rattle.auction_core.specs.Course.{CourseView, GivesWithin, KeepsPast, clock_of, next_test}
 use Rattle.auction_core.specs.Parts.{IsPartsOf, PartsView, label_of, labelled, last_seen, relabelled}
 use Rattle.auction_core.specs.Past.{PastView}
-use Rattle.auction_core.specs.Setup.{IsSound, SetupView}
+use Rattle.auction_core.specs.Setup.{IsSetupSound, SetupView}
 use Rattle.auction_core.specs.State.{CoreState, delta_of, fit_of, last_fit, settled_unasked, shows_room, test_of, test_task, tested_set}
 use Rattle.auction_core.specs.StepList.{names_only, takes_verdict, way_of}
 use Rattle.auction_core.specs.Walked.{clock_after}
@@ -148,7 +148,7 @@ one-place xs i k up a b e =
     ]
 
 -- what is kept goes with the clock
-pub next-past : (s : SetupView) (c : CourseView) (shown : Shown) (i : ℕ) (past : PastView) → IsSound s → KeepsPast s c → IsAt s c i → HasNoted s c shown i past →
+pub next-past : (s : SetupView) (c : CourseView) (shown : Shown) (i : ℕ) (past : PastView) → IsSetupSound s → KeepsPast s c → IsAt s c i → HasNoted s c shown i past →
     is_on_air (clock_of s c) (next_test s c).station ≡ false → GivesWithin s.scenario (delta_of c.past.steps (next_test s c).station shown) → KeepsPast s (next_course s c shown i past)
 next-past s c shown i past l k at j off gives =
     let sc = s.scenario in

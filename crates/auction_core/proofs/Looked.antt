@@ -14,14 +14,14 @@ use Rattle.auction_core.specs.declared.posting.Said.{Said}
 use Rattle.auction_core.specs.declared.posting.Said.TheVariants.{Good, Bad}
 use Rattle.auction_core.specs.State.{CoreState, task_of}
 use Rattle.auction_core.specs.Take.{accepted, fault_of, judged, take, turned_away}
-use Rattle.auction_core.specs.Said.{IsSaidOf, StandsFor, taken, told, with_answer}
+use Rattle.auction_core.specs.Said.{IsSaidOf, StandsFor, taken, told_of_judged, with_answer}
 
 none-at-fault : (book : BookView) (answer : Answer) (o : Option Task) (p : Option Worker) → MatchOption o ⊥ (λ task. MatchOption p ⊥ (λ worker. IsValid book task worker answer)) → option_and_then (λ task. option_and_then (λ worker. answer_fault book task worker answer) p) o ≡ None
 none-at-fault book answer None p h = absurd h
 none-at-fault book answer (Some task) None h = absurd h
 none-at-fault book answer (Some task) (Some worker) h = h
 
-told-judged : (sc : Scenario) (book : BookView) (state : CoreState) (posting : Posting) (answer : Answer) (said : Said) → IsSaidOf sc book state posting answer said → told sc book state posting.worker said ≡ judged sc book state (with_answer posting answer) (fault_of sc book state (with_answer posting answer))
+told-judged : (sc : Scenario) (book : BookView) (state : CoreState) (posting : Posting) (answer : Answer) (said : Said) → IsSaidOf sc book state posting answer said → told_of_judged sc book state posting.worker said ≡ judged sc book state (with_answer posting answer) (fault_of sc book state (with_answer posting answer))
 told-judged sc book state posting answer (Good certified) h =
     ap (accepted sc book state posting.worker) h.0
     ∙ sym (ap (judged sc book state (with_answer posting answer)) (none-at-fault book answer (task_of sc book state) (slice_get sc.workers posting.worker) h.1))
@@ -31,7 +31,7 @@ pub looked : (sc : Scenario) (book : BookView) (state : CoreState) (posting : Po
 unfolding take taken
 looked sc book state posting answer h =
     let whole = judged sc book state (with_answer posting answer) (fault_of sc book state (with_answer posting answer)) in
-    let go : (o : Option Reply) → turned_away sc state posting.worker posting.number ≡ o → option_map_or (λ reply. (reply, state)) o (told sc book state posting.worker posting.said) ≡ option_map_or (λ reply. (reply, state)) o whole = λ o. elim o as (λ o. turned_away sc state posting.worker posting.number ≡ o → option_map_or (λ reply. (reply, state)) o (told sc book state posting.worker posting.said) ≡ option_map_or (λ reply. (reply, state)) o whole) [
+    let go : (o : Option Reply) → turned_away sc state posting.worker posting.number ≡ o → option_map_or (λ reply. (reply, state)) o (told_of_judged sc book state posting.worker posting.said) ≡ option_map_or (λ reply. (reply, state)) o whole = λ o. elim o as (λ o. turned_away sc state posting.worker posting.number ≡ o → option_map_or (λ reply. (reply, state)) o (told_of_judged sc book state posting.worker posting.said) ≡ option_map_or (λ reply. (reply, state)) o whole) [
       | None ↦ λ e. told-judged sc book state posting answer posting.said (h e)
       | Some reply ↦ λ e. refl
     ] in

@@ -22,7 +22,7 @@ use Rattle.auction_core.proofs.Answers.{answer-number}
 use Rattle.auction_core.specs.declared.transcript.TranscriptStep.{TranscriptStep}
 use Rattle.auction_core.specs.LogNumbers.{clauses_in, first_of}
 use Rattle.auction_core.specs.declared.prefix.ShownWhy.TheVariants.{Order, NotValid}
-use Rattle.auction_core.specs.NotShown.{NotShown, or_first_line, receipt_fault, fault_or, each_fault, receipts_fault, refuted_fault, query_fault, one_log_fault, unasked_fault, step_fault, next_asked, step_or, is_test, at_test, not_shown_at, steps_fault}
+use Rattle.auction_core.specs.NotShown.{NotShown, or_first_line, receipt_fault, first_place_or, each_fault, receipts_fault, refuted_fault, query_fault, one_log_fault, unasked_fault, step_fault, next_asked, step_fault_or, is_test, at_test, not_shown_at, steps_fault}
 
 refuted-number : (book : BookView) (task : Task) (n : ℕ) (o : Option Worker) (how : Refutation) → refuted_fault book (record task { number = n }) o how ≡ refuted_fault book task o how
 refuted-number book task n None how = refl
@@ -33,7 +33,7 @@ each-number book task n [] xs ns = refl
 each-number book task n (w ∷ ws) [] ns = refl
 each-number book task n (w ∷ ws) (x ∷ xs) [] = refl
 each-number book task n (w ∷ ws) (x ∷ xs) (k ∷ ns) =
-    ap₂ (λ (a b : Option Place). fault_or (if k == first_of (clauses_in book task.set) x then a else or_first_line a) b) (answer-number book task n w (Spent x)) (each-number book task n ws xs ns)
+    ap₂ (λ (a b : Option Place). first_place_or (if k == first_of (clauses_in book task.set) x then a else or_first_line a) b) (answer-number book task n w (Spent x)) (each-number book task n ws xs ns)
 
 outside-number : (book : BookView) (task : Task) (n : ℕ) (lines : List Line) (firsts : List ℕ) → one_log_fault book (record task { number = n }) lines firsts ≡ one_log_fault book task lines firsts
 outside-number book task n lines [] = refl
@@ -69,4 +69,4 @@ steps-beside sc book step a b ts (x ∷ xs) =
         → at_test sc book step (beside a b) x left (λ rest. steps_fault sc book (step + 1) (settled sc (beside a b) (test_of x.step) x.step.shown) rest xs)
         ≡ at_test sc book step a x left (λ rest. steps_fault sc book (step + 1) (settled sc a (test_of x.step) x.step.shown) rest xs)
     go [] rest = refl
-    go (t ∷ us) rest = ap₂ (λ (o : Option Place) (r : Option NotShown). if is_test t x then step_or step o r else not_shown_at step Order) (step-beside sc book a b x) (rest us)
+    go (t ∷ us) rest = ap₂ (λ (o : Option Place) (r : Option NotShown). if is_test t x then step_fault_or step o r else not_shown_at step Order) (step-beside sc book a b x) (rest us)

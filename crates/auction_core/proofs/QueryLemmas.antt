@@ -25,7 +25,7 @@ use Rattle.auction_core.specs.declared.record.Shown.{Shown}
 use Rattle.auction_core.specs.declared.record.Shown.TheVariants.{Empty, NoChannel, Same}
 use Rattle.auction_core.specs.Clockwork.{ClockworkView, IsClockwork}
 use Rattle.auction_core.specs.Course.{CourseView, core_state, is_roomy}
-use Rattle.auction_core.specs.Rule.{IsQuery as IsNext, KeepsTheRule}
+use Rattle.auction_core.specs.Rule.{IsQueryNext as IsNext, KeepsTheRule}
 use Rattle.auction_core.specs.Setup.{IsOfAuction, SetupView}
 use Rattle.auction_core.specs.State.{CoreState, answered, first_task, go_on, has_ended, is_same, past_first, queries_left, restricted, settled, settled_unasked, shows_room, start_task, start_unasked, started, task_of, test_task}
 use Rattle.auction_core.proofs.Answers.{component-ascending, filter-in, in-filter}

@@ -11,7 +11,7 @@ use Rattle.auction_core.specs.declared.record.Step.{Step}
 use Rattle.auction_core.specs.Backed.{shown_start, undecided_of}
 use Rattle.auction_core.specs.Course.{CourseView, IsCourse, IsDue, core_state, next_test, tests_left}
 use Rattle.auction_core.specs.Parts.{last_seen, touches_since}
-use Rattle.auction_core.specs.Setup.{IsSound, SetupView}
+use Rattle.auction_core.specs.Setup.{IsSetupSound, SetupView}
 use Rattle.auction_core.specs.State.{is_same, set_in, shows_room, start_fits, test_of, tested_set}
 use Rattle.auction_core.proofs.CourseLemmas.{IsAt, sound-auction}
 use Rattle.auction_core.proofs.CourseTests.{due-left}
@@ -19,7 +19,7 @@ use Rattle.auction_core.proofs.Since.{same-so-far}
 
 -- ---- from round 2 on
 
-pub same-later : (s : SetupView) (c : CourseView) (i : ℕ) → IsSound s → start_fits c.start ≡ true → IsCourse s c → IsDue s c → IsAt s c i → 2 ≤ c.round →
+pub same-later : (s : SetupView) (c : CourseView) (i : ℕ) → IsSetupSound s → start_fits c.start ≡ true → IsCourse s c → IsDue s c → IsAt s c i → 2 ≤ c.round →
     is_same s.scenario s.book (core_state s c 0) (next_test s c) ≡ not (touches_since s.book c.past.parts (next_test s c).station (get_or c.past.seen i 0 + 1))
 same-later s c i l running h due at late =
     let sc = s.scenario in

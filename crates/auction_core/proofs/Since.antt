@@ -17,7 +17,7 @@ use Rattle.pack_defs.proofs.ClockSteps.{test_idle, run_inactive}
 use Rattle.pack_defs.proofs.Rivals.{OneEachRound}
 use Rattle.pack_defs.proofs.ThresholdLaw.{opening_rounds}
 use Rattle.auction_core.specs.declared.record.Step.{Step}
-use Rattle.auction_core.specs.Parts.{AreParts, PartsView, IsPartsOf, IsWithOne, label_of, labelled, last_seen, number_from, number_of, relabelled, touches, touches_since}
+use Rattle.auction_core.specs.Parts.{AreParts, PartsView, IsPartsOf, IsWithOne, label_of, labelled, last_seen, number_from, number_on_air, relabelled, touches, touches_since}
 use Rattle.auction_core.specs.Rule.{IsAuction}
 use Rattle.auction_core.specs.declared.record.Shown.{Shown}
 use Rattle.auction_core.specs.Backed.{after_start, after_steps, undecided_of}
@@ -56,7 +56,7 @@ number-later k (x ∷ xs) ys s out on =
     ]) out on
 
 -- of those on air now, the ones on air then are those with a number up to how many there were then
-pub number-then : (was now_ : ClockState) (more : List OnAirSince) (z : ℕ) → now_.on_air ≡ was.on_air ++ more → is_on_air now_ z ≡ true → (is_on_air was z ≡ true) ↔ (number_of now_ z < length was.on_air + 1)
+pub number-then : (was now_ : ClockState) (more : List OnAirSince) (z : ℕ) → now_.on_air ≡ was.on_air ++ more → is_on_air now_ z ≡ true → (is_on_air was z ≡ true) ↔ (number_on_air now_ z < length was.on_air + 1)
 number-then was now_ more z is on = (
   λ early. let less = number-first 1 was.on_air more z (omega arith) early in subst (λ xs. number_from 1 xs z < length was.on_air + 1) (sym is) (omega (arith, less)),
   λ less. true_from_ne_false (is_on_air was z) (λ out.
@@ -208,7 +208,7 @@ same-by-parts sc book was now_ more parts s a known off is h =
     let later : IsLater was now_ = λ f on. subst (λ xs. list_any (λ (x : OnAirSince). x.station == f) xs ≡ true) (sym is) (any-first was.on_air more f on) in
     let one : IsWithOne (labelled parts) (asked_set sc now_ s) s = asks-with-one sc book now_ parts s known off h in
     let iff = same-iff sc book was now_ s a known later in
-    let before = all-before book (labelled parts) (number_of now_) (label_of parts) h.are (asked_set sc now_ s) s one time in
+    let before = all-before book (labelled parts) (number_on_air now_) (label_of parts) h.are (asked_set sc now_ s) s one time in
     let on_air : (z : ℕ) → is_in (tested_set sc book now_ s) z ≡ true → (z ≡ s → ⊥) → is_on_air now_ z ≡ true = λ z there other.
     ⊎_elim (λ on. on) (λ e. absurd (other (eqb-true z s e))) (or_cases (is_on_air now_ z) (z == s) (Contains-from_filter (λ f. is_on_air now_ f || (f == s)) (facilities sc) z (component-within book (asked_set sc now_ s) s z (is_in-gives (tested_set sc book now_ s) z there))).1) in
     same-truth _ _
@@ -352,7 +352,7 @@ module _ (sc : Scenario) (book : BookView) (clock : ClockState) (t : ClockTest) 
       let on : (z : ℕ) → Contains (labelled parts) z → is_on_air clock z ≡ true = λ z c.
       let w = Contains-from_filter (λ v. not (label_of parts v == 0)) parts.stations z c in
       sym (h.on_air z (subst (λ xs. Contains xs z) h.stations w.0)) ∙ w.1 in
-      let are = relabelled-parts book (labelled parts) (number_of clock) (label_of parts) h.are (labelled new) u with-one n (number_of next)
+      let are = relabelled-parts book (labelled parts) (number_on_air clock) (label_of parts) h.are (labelled new) u with-one n (number_on_air next)
       (λ z c. number-kept 1 clock.on_air (record { station = u; round = t.round } ∷ []) z (on z c))
       (number-new 1 clock.on_air (record { station = u; round = t.round }) u off refl ∙ omega arith)
       (λ z c. let low = h.most z in omega (arith, low)) in
@@ -360,7 +360,7 @@ module _ (sc : Scenario) (book : BookView) (clock : ClockState) (t : ClockTest) 
       record {
         stations = same ∙ h.stations;
         on_air = on-air-next;
-        are = subst (λ (f : ℕ → ℕ). AreParts book (labelled new) (number_of next) f) path are;
+        are = subst (λ (f : ℕ → ℕ). AreParts book (labelled new) (number_on_air next) f) path are;
         most = λ z.
             let long = length-append clock.on_air (record { station = u; round = t.round } ∷ []) in
             let low = h.most z in

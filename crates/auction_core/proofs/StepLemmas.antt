@@ -30,7 +30,7 @@ use Rattle.auction_core.specs.Backed.{IsValidOf, AreReceipts, IsSettledBy, IsSte
 use Rattle.auction_core.proofs.Sets.{unasked-cases}
 use Rattle.auction_core.specs.declared.transcript.TranscriptStep.{TranscriptStep}
 use Rattle.auction_core.specs.LogNumbers.{clauses_in, first_number, first_of, firsts_of}
-use Rattle.auction_core.specs.NotShown.{or_first_line, receipt_fault, fault_or, each_fault, receipts_fault, refuted_fault, outside_log_fault, one_log_fault, query_fault, is_bare, is_like_before, is_unasked_so, unasked_fault, step_fault}
+use Rattle.auction_core.specs.NotShown.{or_first_line, receipt_fault, first_place_or, each_fault, receipts_fault, refuted_fault, outside_log_fault, one_log_fault, query_fault, is_bare, is_like_before, is_unasked_so, unasked_fault, step_fault}
 use Rattle.auction_core.specs.LogNumbers.{IsNumbered}
 
 pub absurd-place : (place : Place) → Some place ≡ None → ⊥
@@ -45,7 +45,7 @@ clean-fit book task delta h = ap (option_map place_of) (faultless book task.set 
 
 -- ---- receipts
 
-fault-parts : (a b : Option Place) → fault_or a b ≡ None → (a ≡ None) × (b ≡ None)
+fault-parts : (a b : Option Place) → first_place_or a b ≡ None → (a ≡ None) × (b ≡ None)
 fault-parts None b e = (refl, e)
 fault-parts (Some place) b e = absurd (absurd-place place e)
 

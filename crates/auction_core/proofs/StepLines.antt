@@ -9,26 +9,26 @@ use Rattle.std.proofs.lemmas.List.{get_or_push, length_push}
 use Rattle.auction_core.specs.declared.record.Shown.{Shown}
 use Rattle.auction_core.specs.declared.record.Shown.TheVariants.{Empty, Fits, Same, NoChannel, Refuted, Outside, Undecided}
 use Rattle.auction_core.specs.declared.record.Step.{Step}
-use Rattle.auction_core.specs.declared.step_list.Line.{Line}
+use Rattle.auction_core.specs.declared.step_list.StepLine.{StepLine}
 use Rattle.auction_core.specs.declared.step_list.Way.{Way}
 use Rattle.auction_core.specs.declared.step_list.Way.TheVariants.{Verdict, LikeBefore, Bare}
 use Rattle.auction_core.specs.State.{fit_of}
-use Rattle.auction_core.specs.StepList.{IsKept, fit_at, line_of, merged, names_only, shown_by, takers, takes_verdict, told_behind, told_with, way_of}
+use Rattle.auction_core.specs.StepList.{IsKept, fit_at, step_line_of, merged, names_only, shown_by, takers, takes_verdict, told_behind, told_with, way_of}
 
-abbrev pub line_as : ℕ → ℕ → Way → Line
+abbrev pub line_as : ℕ → ℕ → Way → StepLine
 line_as r s w = record { round = r; station = s; way = w }
 
 abbrev pub step_as : ℕ → ℕ → Shown → Step
 step_as r s x = record { round = r; station = s; shown = x }
 
-pub length-merged : (ls : List Line) (told : List Shown) → length (merged ls told) ≡ length ls
+pub length-merged : (ls : List StepLine) (told : List Shown) → length (merged ls told) ≡ length ls
 length-merged [] told = refl
 length-merged (l ∷ ls) told = ap suc (length-merged ls (told_behind l.way told))
 
 -- ---- one step more
 
 -- with a verdict of its own
-more-told : (ls : List Line) (told : List Shown) (r s : ℕ) (x : Shown) → takers ls ≡ length told →
+more-told : (ls : List StepLine) (told : List Shown) (r s : ℕ) (x : Shown) → takers ls ≡ length told →
     merged (ls ++ line_as r s Verdict ∷ []) (told ++ x ∷ []) ≡ merged ls told ++ step_as r s x ∷ []
 more-told [] [] r s x e = refl
 more-told [] (y ∷ ys) r s x e = absurd (omega arith)
@@ -43,7 +43,7 @@ more-told (l ∷ ls) told r s x e = behind l.way told e (λ rest f. more-told ls
     behind Bare told e next = ap (λ xs. step_as l.round l.station (NoChannel l.station) ∷ xs) (next told (omega arith))
 
 -- without one
-more-plain : (ls : List Line) (told : List Shown) (r s : ℕ) (way : Way) → takers ls ≡ length told →
+more-plain : (ls : List StepLine) (told : List Shown) (r s : ℕ) (way : Way) → takers ls ≡ length told →
     merged (ls ++ line_as r s way ∷ []) told ≡ merged ls told ++ step_as r s (shown_by way s []) ∷ []
 more-plain [] [] r s way e = refl
 more-plain [] (y ∷ ys) r s way e = absurd (omega arith)
@@ -58,7 +58,7 @@ more-plain (l ∷ ls) told r s way e = behind l.way told e (λ rest f. more-plai
     behind Bare told e next = ap (λ xs. step_as l.round l.station (NoChannel l.station) ∷ xs) (next told (omega arith))
 
 -- however it is shown
-pub pushed : (ls : List Line) (told : List Shown) (r s : ℕ) (x : Shown) → takers ls ≡ length told → names_only s x ≡ true →
+pub pushed : (ls : List StepLine) (told : List Shown) (r s : ℕ) (x : Shown) → takers ls ≡ length told → names_only s x ≡ true →
     merged (ls ++ line_as r s (way_of x) ∷ []) (told_with told x) ≡ merged ls told ++ step_as r s x ∷ []
 pushed ls told r s Empty e n = more-told ls told r s Empty e
 pushed ls told r s (Fits delta) e n = more-told ls told r s (Fits delta) e
@@ -69,11 +69,11 @@ pushed ls told r s (Outside proof) e n = more-told ls told r s (Outside proof) e
 pushed ls told r s (Undecided receipts) e n = more-told ls told r s (Undecided receipts) e
 
 -- the lines with a verdict, once there is one line more
-takers-more : (ls : List Line) (l : Line) → takers (ls ++ l ∷ []) ≡ takers ls + (if takes_verdict l.way then 1 else 0)
+takers-more : (ls : List StepLine) (l : StepLine) → takers (ls ++ l ∷ []) ≡ takers ls + (if takes_verdict l.way then 1 else 0)
 takers-more [] l = omega arith
 takers-more (m ∷ ls) l = let rest = takers-more ls l in omega (arith, rest)
 
-pub still-told : (ls : List Line) (told : List Shown) (r s : ℕ) (x : Shown) → takers ls ≡ length told →
+pub still-told : (ls : List StepLine) (told : List Shown) (r s : ℕ) (x : Shown) → takers ls ≡ length told →
     takers (ls ++ line_as r s (way_of x) ∷ []) ≡ length (told_with told x)
 still-told ls told r s x e =
     takers-more ls (line_as r s (way_of x))
@@ -91,11 +91,11 @@ pub more-with : (told : List Shown) (x : Shown) (w : Way) (b : Bool) → w ≡ w
 more-with told x w b way is some =
     sym (ap (λ c. if c then told ++ x ∷ [] else told) (ap takes_verdict (sym way) ∙ (sym is ∙ some)))
 
-pub takers-now : (ls now : List Line) (told told_now : List Shown) (r s : ℕ) (w : Way) (x : Shown) → w ≡ way_of x → now ≡ ls ++ line_as r s w ∷ [] → told_now ≡ told_with told x → takers ls ≡ length told → takers now ≡ length told_now
+pub takers-now : (ls now : List StepLine) (told told_now : List Shown) (r s : ℕ) (w : Way) (x : Shown) → w ≡ way_of x → now ≡ ls ++ line_as r s w ∷ [] → told_now ≡ told_with told x → takers ls ≡ length told → takers now ≡ length told_now
 takers-now ls now told told_now r s w x way lines verdicts e =
     ap takers (lines ∙ ap (λ v. ls ++ line_as r s v ∷ []) way) ∙ (still-told ls told r s x e ∙ ap length (sym verdicts))
 
-pub steps-now : (ls now : List Line) (told told_now : List Shown) (r s : ℕ) (w : Way) (x : Shown) → w ≡ way_of x → now ≡ ls ++ line_as r s w ∷ [] → told_now ≡ told_with told x → takers ls ≡ length told → names_only s x ≡ true → merged now told_now ≡ merged ls told ++ step_as r s x ∷ []
+pub steps-now : (ls now : List StepLine) (told told_now : List Shown) (r s : ℕ) (w : Way) (x : Shown) → w ≡ way_of x → now ≡ ls ++ line_as r s w ∷ [] → told_now ≡ told_with told x → takers ls ≡ length told → names_only s x ≡ true → merged now told_now ≡ merged ls told ++ step_as r s x ∷ []
 steps-now ls now told told_now r s w x way lines verdicts e named =
     ap (λ ks. merged ks told_now) (lines ∙ ap (λ v. ls ++ line_as r s v ∷ []) way)
     ∙ (ap (merged (ls ++ line_as r s (way_of x) ∷ [])) verdicts ∙ pushed ls told r s x e named)
@@ -111,7 +111,7 @@ still-verdicts told x v = go (takes_verdict (way_of x)) refl
     go true e = list_all-append is_verdict told (x ∷ []) ∙ and_from (list_all is_verdict told) (list_all is_verdict (x ∷ [])) v (and_from (is_verdict x) true e refl)
     go false e = v
 
-pub kept-now : (ls now : List Line) (told told_now : List Shown) (r s : ℕ) (w : Way) (x : Shown) → w ≡ way_of x → now ≡ ls ++ line_as r s w ∷ [] → told_now ≡ told_with told x → IsKept ls told → IsKept now told_now
+pub kept-now : (ls now : List StepLine) (told told_now : List Shown) (r s : ℕ) (w : Way) (x : Shown) → w ≡ way_of x → now ≡ ls ++ line_as r s w ∷ [] → told_now ≡ told_with told x → IsKept ls told → IsKept now told_now
 kept-now ls now told told_now r s w x way lines verdicts k = record {
   each = takers-now ls now told told_now r s w x way lines verdicts k.each;
   verdicts = ap (list_all is_verdict) verdicts ∙ still-verdicts told x k.verdicts;
@@ -126,24 +126,24 @@ a-verdict LikeBefore h = cc
 a-verdict Bare h = cc
 
 -- the lines of the steps are those that are kept
-lines-back : (ls : List Line) (told : List Shown) → takers ls ≡ length told → list_all is_verdict told ≡ true → map line_of (merged ls told) ≡ ls
+lines-back : (ls : List StepLine) (told : List Shown) → takers ls ≡ length told → list_all is_verdict told ≡ true → map step_line_of (merged ls told) ≡ ls
 lines-back [] told e v = refl
 lines-back (l ∷ ls) told e v = behind l.way told e v (λ rest f u. lines-back ls rest f u)
   where
     behind : (w : Way) (told : List Shown) → (if takes_verdict w then 1 else 0) + takers ls ≡ length told → list_all is_verdict told ≡ true →
-        ((rest : List Shown) → takers ls ≡ length rest → list_all is_verdict rest ≡ true → map line_of (merged ls rest) ≡ ls) →
-        line_of (step_as l.round l.station (shown_by w l.station told)) ∷ map line_of (merged ls (told_behind w told)) ≡ line_as l.round l.station w ∷ ls
+        ((rest : List Shown) → takers ls ≡ length rest → list_all is_verdict rest ≡ true → map step_line_of (merged ls rest) ≡ ls) →
+        step_line_of (step_as l.round l.station (shown_by w l.station told)) ∷ map step_line_of (merged ls (told_behind w told)) ≡ line_as l.round l.station w ∷ ls
     behind Verdict [] e v next = absurd (omega arith)
     behind Verdict (y ∷ ys) e v next =
         let both = and_parts (is_verdict y) (list_all is_verdict ys) v in
-        ap (λ w. line_as l.round l.station w ∷ map line_of (merged ls ys)) (a-verdict (way_of y) both.0)
+        ap (λ w. line_as l.round l.station w ∷ map step_line_of (merged ls ys)) (a-verdict (way_of y) both.0)
         ∙ ap (λ ks. line_as l.round l.station Verdict ∷ ks) (next ys (omega arith) both.1)
     behind LikeBefore told e v next = ap (λ ks. line_as l.round l.station LikeBefore ∷ ks) (next told (omega arith) v)
     behind Bare told e v next = ap (λ ks. line_as l.round l.station Bare ∷ ks) (next told (omega arith) v)
 
-pub line-there : (ls : List Line) (told : List Shown) (k : ℕ) → IsKept ls told → slice_get ls k ≡ option_map line_of (slice_get (merged ls told) k)
+pub line-there : (ls : List StepLine) (told : List Shown) (k : ℕ) → IsKept ls told → slice_get ls k ≡ option_map step_line_of (slice_get (merged ls told) k)
 line-there ls told k h =
-    ap (λ ks. slice_get ks k) (sym (lines-back ls told h.each h.verdicts)) ∙ slice_get-map line_of (merged ls told) k
+    ap (λ ks. slice_get ks k) (sym (lines-back ls told h.each h.verdicts)) ∙ slice_get-map step_line_of (merged ls told) k
 
 -- no verdict names a station without a channel
 verdict-names : (s : ℕ) (x : Shown) → is_verdict x ≡ true → names_only s x ≡ true
@@ -155,7 +155,7 @@ verdict-names s (Refuted worker how) h = refl
 verdict-names s (Outside proof) h = refl
 verdict-names s (Undecided receipts) h = refl
 
-names-within : (ls : List Line) (told : List Shown) (k : ℕ) → takers ls ≡ length told → list_all is_verdict told ≡ true → MatchOption (slice_get (merged ls told) k) ⊤ (λ x. names_only x.station x.shown ≡ true)
+names-within : (ls : List StepLine) (told : List Shown) (k : ℕ) → takers ls ≡ length told → list_all is_verdict told ≡ true → MatchOption (slice_get (merged ls told) k) ⊤ (λ x. names_only x.station x.shown ≡ true)
 names-within [] told k e v = record {}
 names-within (l ∷ ls) told k e v = behind l.way told k e v (λ rest j f u. names-within ls rest j f u)
   where
@@ -170,7 +170,7 @@ names-within (l ∷ ls) told k e v = behind l.way told k e v (λ rest j f u. nam
     behind Bare told zero e v next = eq-eqb l.station l.station refl
     behind Bare told (suc k) e v next = next told k (omega arith) v
 
-pub names-there : (ls : List Line) (told : List Shown) (k : ℕ) → IsKept ls told → MatchOption (slice_get (merged ls told) k) ⊤ (λ x. names_only x.station x.shown ≡ true)
+pub names-there : (ls : List StepLine) (told : List Shown) (k : ℕ) → IsKept ls told → MatchOption (slice_get (merged ls told) k) ⊤ (λ x. names_only x.station x.shown ≡ true)
 names-there ls told k h = names-within ls told k h.each h.verdicts
 
 -- ---- where a fit stands among the verdicts

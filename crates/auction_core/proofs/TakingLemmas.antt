@@ -12,7 +12,7 @@ use Rattle.auction_core.specs.declared.posting.Said.{Said}
 use Rattle.auction_core.specs.declared.record.Shown.{Shown}
 use Rattle.auction_core.specs.Backed.{IsSettledBy}
 use Rattle.auction_core.specs.Rule.{SettlesQuery}
-use Rattle.auction_core.specs.Said.{taken, told}
+use Rattle.auction_core.specs.Said.{taken, told_of_judged}
 use Rattle.auction_core.specs.State.{CoreState, NotedSpent, answered, go_on, has_ended, past_first, settled, shows_room, start_delta, started, task_of}
 use Rattle.auction_core.specs.Take.{advanced, turned_away}
 use Rattle.auction_core.proofs.Keeps.{go-on-start}
@@ -63,11 +63,11 @@ advanced-is sc book state after noted shown next a n e =
 pub taken-turned : (sc : Scenario) (book : BookView) (state : CoreState) (posting : Posting) (reply : Reply) → turned_away sc state posting.worker posting.number ≡ Some reply → (reply, state) ≡ taken sc book state posting
 unfolding taken
 taken-turned sc book state posting reply e =
-    sym (ap (λ o. option_map_or (λ reply. (reply, state)) o (told sc book state posting.worker posting.said)) e)
+    sym (ap (λ o. option_map_or (λ reply. (reply, state)) o (told_of_judged sc book state posting.worker posting.said)) e)
 
 -- one that isn't
-pub taken-told : (sc : Scenario) (book : BookView) (state : CoreState) (posting : Posting) (said : Said) → turned_away sc state posting.worker posting.number ≡ None → posting.said ≡ said → told sc book state posting.worker said ≡ taken sc book state posting
+pub taken-told : (sc : Scenario) (book : BookView) (state : CoreState) (posting : Posting) (said : Said) → turned_away sc state posting.worker posting.number ≡ None → posting.said ≡ said → told_of_judged sc book state posting.worker said ≡ taken sc book state posting
 unfolding taken
 taken-told sc book state posting said e s =
-    ap (told sc book state posting.worker) (sym s)
-    ∙ sym (ap (λ o. option_map_or (λ reply. (reply, state)) o (told sc book state posting.worker posting.said)) e)
+    ap (told_of_judged sc book state posting.worker) (sym s)
+    ∙ sym (ap (λ o. option_map_or (λ reply. (reply, state)) o (told_of_judged sc book state posting.worker posting.said)) e)

@@ -16,7 +16,7 @@ use Rattle.auction_core.specs.Backed.{IsSettledBy, IsStartShown, undecided_of}
 use Rattle.auction_core.specs.Clockwork.{IsClockwork}
 use Rattle.auction_core.specs.Course.{CourseView, IsAtRest, IsCourse, IsDue, clock_of, core_state, left_of, next_test, tests_left, unasked_of}
 use Rattle.auction_core.specs.Parts.{label_of, touched_set}
-use Rattle.auction_core.specs.Rule.{IsQuery, KeepsTheRule, SettlesQuery}
+use Rattle.auction_core.specs.Rule.{IsQueryNext, KeepsTheRule, SettlesQuery}
 use Rattle.auction_core.specs.Setup.{IsOfAuction, SetupView}
 use Rattle.auction_core.specs.State.{CoreState, first_task, has_ended, start_fits, start_task, start_unasked, task_of, test_task, tested_set}
 use Rattle.auction_core.proofs.Answers.{component-ascending}
@@ -162,7 +162,7 @@ pub start-shown : (sc : Scenario) (book : BookView) (state : CoreState) (shown :
 start-shown sc book state shown fresh k settles =
     let task : task_of sc book state ≡ Some (start_task sc state.number) = task-is sc book state None state.left fresh refl in
     let by : IsSettledBy sc book (start_task sc state.number) shown = subst (λ o. MatchOption o ⊥ (λ task. IsSettledBy sc book task shown)) task settles in
-    let asked : start_unasked sc book ≡ None = subst (λ o. MatchOption o (start_unasked sc book ≡ None) (λ start. IsQuery sc book state state.left)) fresh k.query in
+    let asked : start_unasked sc book ≡ None = subst (λ o. MatchOption o (start_unasked sc book ≡ None) (λ start. IsQueryNext sc book state state.left)) fresh k.query in
     subst (λ o. MatchOption o (IsSettledBy sc book (start_task sc 1) shown) (λ unasked. shown ≡ unasked)) (sym asked) (shown-number sc book (start_task sc state.number) 1 shown by)
 
 -- what settles the next test's shows its step

@@ -13,7 +13,7 @@ use Rattle.pack_defs.specs.Scenario.{facilities}
 use Rattle.pack_defs.specs.Components.{component}
 use Rattle.pack_defs.specs.ClockRule.{ClockState, asked_set, is_on_air}
 use Rattle.pack_defs.proofs.Chains.{ascending-filter}
-use Rattle.auction_core.specs.Parts.{IsPartsOf, PartsView, is_asked, label_in, label_of, labelled, marked, number_of, touched_set, touches}
+use Rattle.auction_core.specs.Parts.{IsPartsOf, PartsView, is_asked, label_in, label_of, labelled, marked, number_on_air, touched_set, touches}
 use Rattle.auction_core.specs.Rule.{IsAuction}
 use Rattle.auction_core.specs.State.{tested_set}
 use Rattle.auction_core.proofs.PartLemmas.{ListsNear, label-at, meets, meets-touches}
@@ -158,4 +158,4 @@ touched-tested sc book clock s parts a known off h =
     test z = (z == s) || (not (label z == 0) && touched z)
 
     word : (z : ℕ) → is_in (component book (asked_set sc clock s) s) z ≡ ((z == s) || (is_in on z && touched z))
-    word z = part-of book on (number_of clock) label h.are (asked_set sc clock s) s (asks-with-one sc book clock parts s known off h) z
+    word z = part-of book on (number_on_air clock) label h.are (asked_set sc clock s) s (asks-with-one sc book clock parts s known off h) z

@@ -20,14 +20,14 @@ use Rattle.auction_core.proofs.Room.{IsOf, new-map}
 use Rattle.auction_core.proofs.Done.{AreListed, step-moves}
 use Rattle.auction_core.specs.declared.transcript.TranscriptStep.{TranscriptStep}
 use Rattle.auction_core.specs.declared.prefix.ShownWhy.TheVariants.{Order, NotValid}
-use Rattle.auction_core.specs.NotShown.{NotShown, step_fault, next_asked, end_fault, step_or, is_test, at_test, not_shown_at, steps_fault}
+use Rattle.auction_core.specs.NotShown.{NotShown, step_fault, next_asked, fault_at_end, step_fault_or, is_test, at_test, not_shown_at, steps_fault}
 use Rattle.auction_core.specs.LogNumbers.{steps_in, AreNumbered}
 use Rattle.auction_core.proofs.StepLemmas.{step-shown, step-none}
 
 absurd-fault : (x : NotShown) → Some x ≡ None → ⊥
 absurd-fault x e = cc
 
-pub step_or-parts : (step : ℕ) (o : Option Place) (rest : Option NotShown) → step_or step o rest ≡ None → (o ≡ None) × (rest ≡ None)
+pub step_or-parts : (step : ℕ) (o : Option Place) (rest : Option NotShown) → step_fault_or step o rest ≡ None → (o ≡ None) × (rest ≡ None)
 step_or-parts step None rest e = (refl, e)
 step_or-parts step (Some place) rest e = absurd (absurd-fault (record { step = step; why = NotValid place }) e)
 
@@ -84,7 +84,7 @@ followed sc book start step state before ts [] a w parts e =
     let p = passed sc book start state before ts w parts in
     go (next_asked state.clock ts) p e
   where
-    go : (left : List ClockTest) → IsPassed sc book start state left → end_fault step left ≡ None → IsFollowed sc book start state []
+    go : (left : List ClockTest) → IsPassed sc book start state left → fault_at_end step left ≡ None → IsFollowed sc book start state []
     go [] p f = record { walked = subst (IsWalked sc book start state) (sym (p.parts ∙ append-nil p.before)) p.walked; numbered = tt }
     go (t ∷ us) p f = absurd (absurd-fault (record { step = step; why = Order }) f)
 followed sc book start step state before ts (x ∷ xs) a w parts e =
@@ -100,7 +100,7 @@ followed sc book start step state before ts (x ∷ xs) a w parts e =
     go : (left : List ClockTest) → IsPassed sc book start state left → at_test sc book step state x left (λ rest. steps_fault sc book (step + 1) next rest xs) ≡ None → Rest → IsFollowed sc book start state (x ∷ xs)
     go [] p f more = absurd (absurd-fault (record { step = step; why = Order }) f)
     go (t ∷ us) p f more =
-        let test = if-parts (is_test t x) step (step_or step (step_fault sc book state x) (steps_fault sc book (step + 1) next us xs)) f in
+        let test = if-parts (is_test t x) step (step_fault_or step (step_fault sc book state x) (steps_fault sc book (step + 1) next us xs)) f in
         let both = step_or-parts step (step_fault sc book state x) (steps_fault sc book (step + 1) next us xs) test.1 in
         let same : t ≡ test_of x.step = same-tests t x test.0 in
         let shown = step-shown sc book state x both.0 in

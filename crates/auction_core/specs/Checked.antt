@@ -16,7 +16,7 @@ use Rattle.cert_types.specs.declared.answer.CertifyWhy.TheVariants as certify
 use Rattle.auction_core.specs.declared.record.Shown.{Shown}
 use Rattle.auction_core.specs.declared.record.Shown.TheVariants.{Empty, Fits, Same, NoChannel, Refuted, Outside, Undecided}
 use Rattle.auction_core.specs.declared.record.Step.{Step}
-use Rattle.auction_core.specs.declared.step_list.Line.{Line}
+use Rattle.auction_core.specs.declared.step_list.StepLine.{StepLine}
 use Rattle.auction_core.specs.declared.step_list.Way.{Way}
 use Rattle.auction_core.specs.declared.step_list.Way.TheVariants.{Verdict, LikeBefore, Bare}
 use Rattle.auction_core.specs.State.{CoreState, answered, go_on, has_ended, task_of}
@@ -48,7 +48,7 @@ shows_so LikeBefore s shown = is_like_before shown
 shows_so Bare s shown = is_bare s shown
 
 -- the same fault, by what is kept of the step that was settled without a query
-abbrev pub line_told : Line → TranscriptStep → Option ShownWhy
+abbrev pub line_told : StepLine → TranscriptStep → Option ShownWhy
 line_told own x =
     if own.round == x.step.round && own.station == x.step.station
     then option_map NotValid (unless (shows_so own.way own.station x.step.shown && is_empty x.firsts) Kind None)
@@ -80,9 +80,9 @@ step_leaves sc book state place x =
     option_map_or (λ own. state) (slice_get state.steps place) (answered sc book state x.step.shown)
 
 -- the fault is what a check of a step tells, unless memory ran out
-abbrev pub Tells : StepErr → Option ShownWhy → Type 0
-Tells (step.Fault why) told = told ≡ Some why
-Tells step.NoMemory told = Unit {0}
+abbrev pub IsStepFault : StepErr → Option ShownWhy → Type 0
+IsStepFault (step.Fault why) told = told ≡ Some why
+IsStepFault step.NoMemory told = Unit {0}
 
 -- what a refusal of the check of an answer comes to
 abbrev pub step_err : CertifyWhy → StepErr

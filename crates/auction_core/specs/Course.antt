@@ -14,7 +14,7 @@ use Rattle.auction_core.specs.Backed.{after_start, after_steps, shown_start}
 use Rattle.auction_core.specs.Clock.{ClockView, IsClockOf, stands_on_air}
 use Rattle.auction_core.specs.Parts.{IsPartsOf, last_seen}
 use Rattle.auction_core.specs.Past.{PastView}
-use Rattle.auction_core.specs.Setup.{IsSound, SetupView}
+use Rattle.auction_core.specs.Setup.{IsSetupSound, SetupView}
 use Rattle.auction_core.specs.State.{CoreState, last_fit, settled, settled_unasked, start_fits}
 use Rattle.auction_core.specs.Walked.{IsWalked}
 
@@ -95,7 +95,7 @@ pub record IsIdle (c : CourseView) : Type 0 where
 
 -- What the program keeps says where the clock stands.
 pub record IsCourse (s : SetupView) (c : CourseView) : Type 0 where
-  pub sound : IsSound s
+  pub sound : IsSetupSound s
   pub clock : IsClockOf s.scenario (clock_of s c) c.clock
   pub stations : c.map.stations ≡ facilities s.scenario
   pub begun : 1 ≤ c.round

@@ -58,9 +58,9 @@ receipt_fault book task worker x first =
     if first == first_of (clauses_in book task.set) x then fault else or_first_line fault
 
 -- the first of two faults
-abbrev pub fault_or : Option Place → Option Place → Option Place
-fault_or (Some place) rest = Some place
-fault_or None rest = rest
+abbrev pub first_place_or : Option Place → Option Place → Option Place
+first_place_or (Some place) rest = Some place
+first_place_or None rest = rest
 
 -- the first fault of a receipt of each of these workers, in their order, with the numbers of their logs' first lines
 abbrev pub each_fault : BookView → Task → List Worker → List Receipt → List ℕ → Option Place
@@ -68,7 +68,7 @@ each_fault book task [] xs ns = None
 each_fault book task (w ∷ ws) [] ns = None
 each_fault book task (w ∷ ws) (x ∷ xs) [] = None
 each_fault book task (w ∷ ws) (x ∷ xs) (n ∷ ns) =
-    fault_or (receipt_fault book task w x n) (each_fault book task ws xs ns)
+    first_place_or (receipt_fault book task w x n) (each_fault book task ws xs ns)
 
 -- there is a receipt of each worker first
 abbrev pub receipts_fault : BookView → Task → List Worker → List Receipt → List ℕ → Option Place
@@ -153,14 +153,14 @@ abbrev pub not_shown_at : ℕ → ShownWhy → Option NotShown
 not_shown_at step why = Some (record { step = step; why = why })
 
 -- no test is left that is asked
-abbrev pub end_fault : ℕ → List ClockTest → Option NotShown
-end_fault step [] = None
-end_fault step (t ∷ ts) = not_shown_at step WrongTest
+abbrev pub fault_at_end : ℕ → List ClockTest → Option NotShown
+fault_at_end step [] = None
+fault_at_end step (t ∷ ts) = not_shown_at step WrongTest
 
 -- a step's fault, else that of the rest
-abbrev pub step_or : ℕ → Option Place → Option NotShown → Option NotShown
-step_or step None rest = rest
-step_or step (Some place) rest = not_shown_at step (NotValid place)
+abbrev pub step_fault_or : ℕ → Option Place → Option NotShown → Option NotShown
+step_fault_or step None rest = rest
+step_fault_or step (Some place) rest = not_shown_at step (NotValid place)
 
 -- the step is of this test
 abbrev pub is_test : ClockTest → TranscriptStep → Bool
@@ -171,11 +171,11 @@ is_test t x = t.round == x.step.round && t.station == x.step.station
 abbrev pub at_test : Scenario → BookView → ℕ → CoreState → TranscriptStep → List ClockTest → (List ClockTest → Option NotShown) → Option NotShown
 at_test sc book step state x [] rest = not_shown_at step WrongTest
 at_test sc book step state x (t ∷ ts) rest =
-    if is_test t x then step_or step (step_fault sc book state x) (rest ts) else not_shown_at step WrongTest
+    if is_test t x then step_fault_or step (step_fault sc book state x) (rest ts) else not_shown_at step WrongTest
 
 -- the first fault of these steps, the first of which has this number, where the clock stands so with these tests left
 unfoldable pub steps_fault : Scenario → BookView → ℕ → CoreState → List ClockTest → List TranscriptStep → Option NotShown
-steps_fault sc book step state ts [] = end_fault step (next_asked state.clock ts)
+steps_fault sc book step state ts [] = fault_at_end step (next_asked state.clock ts)
 steps_fault sc book step state ts (x ∷ xs) =
     at_test sc book step state x (next_asked state.clock ts)
     (λ rest. steps_fault sc book (step + 1) (settled sc state (test_of x.step) x.step.shown) rest xs)
@@ -193,14 +193,14 @@ start_fault sc book (Undecided xs) = Some Kind
 -- The first step of a transcript that is not shown, and why; none where the transcript is sound. The start is step 0.
 unfoldable pub not_shown : Scenario → BookView → Transcript → Option NotShown
 not_shown sc book t =
-    step_or 0 (start_fault sc book t.start) (steps_fault sc book 1 (after_start sc t.order t.start) (clock_tests sc t.order) t.steps)
+    step_fault_or 0 (start_fault sc book t.start) (steps_fault sc book 1 (after_start sc t.order t.start) (clock_tests sc t.order) t.steps)
 
 -- ---- the beginning of a transcript
 
 -- the fault, if it is of the start or of one of this many steps
-abbrev pub within : ℕ → Option NotShown → Option NotShown
-within steps None = None
-within steps (Some fault) = if nat_le fault.step steps then Some fault else None
+abbrev pub within_steps : ℕ → Option NotShown → Option NotShown
+within_steps steps None = None
+within_steps steps (Some fault) = if nat_le fault.step steps then Some fault else None
 
 -- in which order a round tests: as the first line says, by volume where it is missing
 abbrev pub order_kept : Prefix → Order
@@ -216,7 +216,7 @@ unstarted_fault p = if is_empty p.steps && not p.ended then None else not_shown_
 
 -- behind a start that was shown: that a step is missing behind those that are there is a fault only where they end there
 abbrev pub started_fault : Scenario → BookView → Bool → Transcript → Option NotShown
-started_fault sc book ended t = if ended then not_shown sc book t else within (length t.steps) (not_shown sc book t)
+started_fault sc book ended t = if ended then not_shown sc book t else within_steps (length t.steps) (not_shown sc book t)
 
 -- The first step of what is kept of a transcript that is not shown, and why; none where an auction goes on from it.
 unfoldable pub not_kept : Scenario → BookView → Prefix → Option NotShown

@@ -92,8 +92,8 @@ number_from k [] s = 0
 number_from k (x ∷ xs) s = if x.station == s then k else number_from (suc k) xs s
 
 -- how many were on air once the station had gone on air, itself among them
-abbrev pub number_of : ClockState → ℕ → ℕ
-number_of clock s = number_from 1 clock.on_air s
+abbrev pub number_on_air : ClockState → ℕ → ℕ
+number_on_air clock s = number_from 1 clock.on_air s
 
 -- how many were on air at the station's last test among these steps, from this state of the clock on; this where it has none
 abbrev pub last_seen : Scenario → ClockState → List Step → ℕ → ℕ → ℕ
@@ -105,5 +105,5 @@ last_seen sc clock (x ∷ xs) s n =
 pub record IsPartsOf (sc : Scenario) (book : BookView) (clock : ClockState) (parts : PartsView) : Type 0 where
   pub stations : parts.stations ≡ facilities sc
   pub on_air : (z : ℕ) → Contains (facilities sc) z → not (label_of parts z == 0) ≡ is_on_air clock z
-  pub are : AreParts book (labelled parts) (number_of clock) (label_of parts)
+  pub are : AreParts book (labelled parts) (number_on_air clock) (label_of parts)
   pub most : (z : ℕ) → label_of parts z ≤ length clock.on_air

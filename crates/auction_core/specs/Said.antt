@@ -15,15 +15,15 @@ use Rattle.auction_core.specs.Take.{PostingView, accepted, fault_of, turned_away
 use Rattle.auction_core.specs.Rule.{Answers}
 
 -- what a worker's answer does that was looked at
-abbrev pub told : Scenario → BookView → CoreState → ℕ → Said → Reply × CoreState
-told sc book state w (Good certified) = accepted sc book state w certified.answer
-told sc book state w (Bad place) = (Rejected place, state)
+abbrev pub told_of_judged : Scenario → BookView → CoreState → ℕ → Said → Reply × CoreState
+told_of_judged sc book state w (Good certified) = accepted sc book state w certified.answer
+told_of_judged sc book state w (Bad place) = (Rejected place, state)
 
 -- what such a posting is told, and the state after it
 unfoldable pub taken : Scenario → BookView → CoreState → Posting → Reply × CoreState
 taken sc book state posting =
     option_map_or (λ reply. (reply, state)) (turned_away sc state posting.worker posting.number)
-    (told sc book state posting.worker posting.said)
+    (told_of_judged sc book state posting.worker posting.said)
 
 -- the posting with this answer, not looked at
 abbrev pub with_answer : Posting → Answer → PostingView

@@ -18,13 +18,13 @@ pub record IsOfAuction (sc : Scenario) (book : BookView) : Type 0 where
   pub stations : stations_of book ≡ facilities sc
 
 -- and the book is in order
-pub record IsSound (s : SetupView) : Type 0 where
+pub record IsSetupSound (s : SetupView) : Type 0 where
   pub auction : IsOfAuction s.scenario s.book
   pub in_order : IsInOrder s.book
 
 -- What the program keeps of it: the prices by round, and the places of the stations in a round's order.
 pub record IsSetup (s : SetupView) (schedule places : List ℕ) : Type 0 where
-  pub sound : IsSound s
+  pub sound : IsSetupSound s
   pub offers : schedule ≡ prices s.scenario
   pub turns_are : map (slice_index (facilities s.scenario)) places ≡ turns s.scenario s.order
   pub within : All (λ i. i < length s.scenario.stations) places

@@ -5,7 +5,7 @@ use Rattle.std.specs.List.{list_all}
 use Rattle.auction_core.specs.declared.record.Shown.{Shown}
 use Rattle.auction_core.specs.declared.record.Shown.TheVariants.{Empty, Fits, Same, NoChannel, Refuted, Outside, Undecided}
 use Rattle.auction_core.specs.declared.record.Step.{Step}
-use Rattle.auction_core.specs.declared.step_list.Line.{Line}
+use Rattle.auction_core.specs.declared.step_list.StepLine.{StepLine}
 use Rattle.auction_core.specs.declared.step_list.Way.{Way}
 use Rattle.auction_core.specs.declared.step_list.Way.TheVariants.{Verdict, LikeBefore, Bare}
 use Rattle.auction_core.specs.State.{fit_of}
@@ -46,22 +46,22 @@ told_behind LikeBefore told = told
 told_behind Bare told = told
 
 -- the steps of these lines and verdicts
-abbrev pub merged : List Line → List Shown → List Step
+abbrev pub merged : List StepLine → List Shown → List Step
 merged [] told = []
 merged (l ∷ ls) told =
     record { round = l.round; station = l.station; shown = shown_by l.way l.station told } ∷ merged ls (told_behind l.way told)
 
 -- how many of the lines have a verdict of their own
-abbrev pub takers : List Line → ℕ
+abbrev pub takers : List StepLine → ℕ
 takers [] = 0
 takers (l ∷ ls) = (if takes_verdict l.way then 1 else 0) + takers ls
 
 -- the line of a step
-abbrev pub line_of : Step → Line
-line_of x = record { round = x.round; station = x.station; way = way_of x.shown }
+abbrev pub step_line_of : Step → StepLine
+step_line_of x = record { round = x.round; station = x.station; way = way_of x.shown }
 
 -- there is a verdict for each line that has one of its own, and each of them is one
-pub record IsKept (lines : List Line) (told : List Shown) : Type 0 where
+pub record IsKept (lines : List StepLine) (told : List Shown) : Type 0 where
   pub each : takers lines ≡ length told
   pub verdicts : list_all (λ x. takes_verdict (way_of x)) told ≡ true
 

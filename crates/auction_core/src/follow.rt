@@ -12,7 +12,7 @@ ghost use Rattle.cert_types.specs.Valid.{fit_fault};
 ghost use Rattle.pack_defs.specs.ClockRule.{clock_tests};
 ghost use Rattle.pack_defs.specs.declared.order.Order.{Order};
 ghost use Rattle.auction_core.specs.declared.transcript.TranscriptStep.{TranscriptStep};
-ghost use Rattle.auction_core.specs.Checked.{FinishTells, IsAllShown, IsAt, IsEarly, Tells, found_in, is_empty_shown};
+ghost use Rattle.auction_core.specs.Checked.{FinishTells, IsAllShown, IsAt, IsEarly, IsStepFault, found_in, is_empty_shown};
 ghost use Rattle.auction_core.specs.LogNumbers.{steps_in};
 ghost use Rattle.auction_core.specs.NotShown.{NotShown, Explains, not_kept, not_shown, order_kept, start_fault, started_fault, steps_fault};
 ghost use Rattle.auction_core.specs.Prefix.{resumed};
@@ -35,7 +35,7 @@ use std::alloc::Global;
 
 // The error of a step at fault.
 fn at(step: u64, e: StepErr) -> ResumeErr
-    ensures why { (found : Option ShownWhy) → Tells e found → Explains result (option_map (λ why. record { step = step; why = why }) found) }
+    ensures why { (found : Option ShownWhy) → IsStepFault e found → Explains result (option_map (λ why. record { step = step; why = why }) found) }
     ensures early { IsEarly result step }
 {
     match e {
@@ -57,7 +57,7 @@ fn start_fit(alloc: Global, clockwork: &mut Clockwork, delta: ChannelMap) -> Res
     requires standing { clockwork.old.state.start ≡ None }
     ensures fault { OnOk result (fit_fault clockwork.old.book (start_task clockwork.old.scenario clockwork.old.state.number) delta ≡ None) }
     ensures state { OnOk result (clockwork.new.state ≡ answered clockwork.old.scenario clockwork.old.book clockwork.old.state (Shown.Fits delta)) }
-    ensures why { IfErr result (λ e. Tells e (option_map NotValid (fit_fault clockwork.old.book (start_task clockwork.old.scenario clockwork.old.state.number) delta))) }
+    ensures why { IfErr result (λ e. IsStepFault e (option_map NotValid (fit_fault clockwork.old.book (start_task clockwork.old.scenario clockwork.old.state.number) delta))) }
     ensures scenario { OnOk result (clockwork.new.scenario ≡ clockwork.old.scenario) }
     ensures book { OnOk result (clockwork.new.book ≡ clockwork.old.book) }
 {
@@ -80,7 +80,7 @@ fn check_start(alloc: Global, clockwork: &mut Clockwork, start: Shown) -> Result
     requires opening { clockwork.old.state ≡ opening clockwork.old.scenario clockwork.old.book clockwork.old.state.order }
     ensures fault { OnOk result (start_fault clockwork.old.scenario clockwork.old.book start ≡ None) }
     ensures at { OnOk result ((xs : List TranscriptStep) (found : Option NotShown) → steps_fault clockwork.old.scenario clockwork.old.book 1 (after_start clockwork.old.scenario clockwork.old.state.order start) (clock_tests clockwork.old.scenario clockwork.old.state.order) xs ≡ found → IsAt clockwork.old.scenario clockwork.old.book clockwork.old.state.order start [] xs found clockwork.new.state) }
-    ensures why { IfErr result (λ e. Tells e (option_map NotValid (start_fault clockwork.old.scenario clockwork.old.book start))) }
+    ensures why { IfErr result (λ e. IsStepFault e (option_map NotValid (start_fault clockwork.old.scenario clockwork.old.book start))) }
     ensures scenario { OnOk result (clockwork.new.scenario ≡ clockwork.old.scenario) }
     ensures book { OnOk result (clockwork.new.book ≡ clockwork.old.book) }
 {

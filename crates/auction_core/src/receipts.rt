@@ -4,7 +4,7 @@ ghost use Rattle.std.specs.Prelude.{◌≡◌, IfErr, IfOk, None, Some, length, 
 ghost use Rattle.cert_types.specs.Query.{IsQuery};
 ghost use Rattle.cert_types.specs.Valid.{answer_fault};
 ghost use Rattle.cert_types.specs.declared.answer.Answer.TheVariants as Answer;
-ghost use Rattle.auction_core.specs.Checked.{Tells, numbered_fault};
+ghost use Rattle.auction_core.specs.Checked.{IsStepFault, numbered_fault};
 ghost use Rattle.auction_core.specs.NotShown.{each_fault, receipts_fault};
 ghost use Rattle.auction_core.specs.declared.prefix.ShownWhy.TheVariants.{NotValid};
 
@@ -31,7 +31,7 @@ fn receipt_step(
     requires { IsQuery book.now task.now }
     ensures same { IfOk result (λ x. x ≡ receipt) }
     ensures valid { IfOk result (λ x. numbered_fault right (answer_fault book.now task.now worker.now (Answer.Spent receipt)) ≡ None) }
-    ensures why { IfErr result (λ e. Tells e (option_map NotValid (numbered_fault right (answer_fault book.now task.now worker.now (Answer.Spent receipt))))) }
+    ensures why { IfErr result (λ e. IsStepFault e (option_map NotValid (numbered_fault right (answer_fault book.now task.now worker.now (Answer.Spent receipt))))) }
 {
     match let_through(alloc, book, task, worker, Answer::Spent(receipt)) {
         Ok(Answer::Spent(receipt)) => {
@@ -59,7 +59,7 @@ fn receipts(
     requires firsts { length firsts.now ≡ length workers.now }
     ensures same { IfOk result (λ xs. xs.items ≡ receipts.items) }
     ensures valid { IfOk result (λ xs. each_fault book.now task.now workers.now receipts.items firsts.now ≡ None) }
-    ensures why { IfErr result (λ e. Tells e (option_map NotValid (each_fault book.now task.now workers.now receipts.items firsts.now))) }
+    ensures why { IfErr result (λ e. IsStepFault e (option_map NotValid (each_fault book.now task.now workers.now receipts.items firsts.now))) }
 {
     let clauses = clause_count(book, task.set.as_slice());
     let mut checked = Vec::new(alloc);
@@ -87,7 +87,7 @@ pub(crate) fn undecided(
     requires { IsQuery book.now task.now }
     ensures same { IfOk result (λ xs. xs ≡ all) }
     ensures valid { IfOk result (λ xs. receipts_fault book.now task.now workers.now all firsts.now ≡ None) }
-    ensures why { IfErr result (λ e. Tells e (option_map NotValid (receipts_fault book.now task.now workers.now all firsts.now))) }
+    ensures why { IfErr result (λ e. IsStepFault e (option_map NotValid (receipts_fault book.now task.now workers.now all firsts.now))) }
 {
     if all.as_slice().len() != workers.len() || firsts.len() != workers.len() {
         return Err(not_valid(Place::Kind));

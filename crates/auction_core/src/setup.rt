@@ -5,7 +5,7 @@ ghost use Rattle.std.specs.Prelude.{◌≡◌, ◌<◌, ◌≤◌, IfOk, length,
 ghost use Rattle.pack_defs.specs.ClockRule.{turns};
 ghost use Rattle.pack_defs.specs.Prices.{last_round, prices};
 ghost use Rattle.pack_defs.specs.Scenario.{facilities};
-ghost use Rattle.auction_core.specs.Setup.{IsOfAuction, IsSound};
+ghost use Rattle.auction_core.specs.Setup.{IsOfAuction, IsSetupSound};
 
 use crate::turns::places;
 use offer_sched::offers::schedule;
@@ -59,7 +59,7 @@ impl Setup {
     /// The scenario. It is within the limits, and the book is of its stations and in order.
     pub fn scenario(&self) -> &Scenario
         ensures value { result.now ≡ self.now.scenario }
-        ensures sound { IsSound self.now }
+        ensures sound { IsSetupSound self.now }
     {
         &self.scenario
     }

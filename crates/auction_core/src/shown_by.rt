@@ -4,7 +4,7 @@ ghost use Rattle.std.specs.Prelude.{◌≡◌, IfErr, IfOk, None, Some, length, 
 ghost use Rattle.cert_types.specs.Outside.{outside_fault};
 ghost use Rattle.cert_types.specs.Query.{IsQuery};
 ghost use Rattle.cert_types.specs.Valid.{answer_fault, fit_fault};
-ghost use Rattle.auction_core.specs.Checked.{Tells};
+ghost use Rattle.auction_core.specs.Checked.{IsStepFault};
 ghost use Rattle.auction_core.specs.NotShown.{one_log_fault, refuted_fault};
 ghost use Rattle.auction_core.specs.declared.prefix.ShownWhy.TheVariants.{NotValid};
 
@@ -38,7 +38,7 @@ pub(crate) fn let_through(
     requires { IsQuery book.now task.now }
     ensures same { IfOk result (λ a. a ≡ answer) }
     ensures valid { IfOk result (λ a. answer_fault book.now task.now worker.now answer ≡ None) }
-    ensures why { IfErr result (λ e. Tells e (option_map NotValid (answer_fault book.now task.now worker.now answer))) }
+    ensures why { IfErr result (λ e. IsStepFault e (option_map NotValid (answer_fault book.now task.now worker.now answer))) }
 {
     match certify_query(alloc, book, task, worker, answer) {
         Ok(certified) => Ok(certified.into_answer()),
@@ -57,7 +57,7 @@ pub(crate) fn fit(
     requires { IsQuery book.now task.now }
     ensures same { IfOk result (λ d. d ≡ delta) }
     ensures valid { IfOk result (λ d. fit_fault book.now task.now delta ≡ None) }
-    ensures why { IfErr result (λ e. Tells e (option_map NotValid (fit_fault book.now task.now delta))) }
+    ensures why { IfErr result (λ e. IsStepFault e (option_map NotValid (fit_fault book.now task.now delta))) }
 {
     match let_through(alloc, book, task, &NO_ONE, Answer::Fit(delta)) {
         Ok(Answer::Fit(delta)) => Ok(delta),
@@ -78,7 +78,7 @@ pub(crate) fn refuted(
     requires { IsQuery book.now task.now }
     ensures same { IfOk result (λ h. h ≡ how) }
     ensures valid { IfOk result (λ h. refuted_fault book.now task.now (slice_get workers.now worker) how ≡ None) }
-    ensures why { IfErr result (λ e. Tells e (option_map NotValid (refuted_fault book.now task.now (slice_get workers.now worker) how))) }
+    ensures why { IfErr result (λ e. IsStepFault e (option_map NotValid (refuted_fault book.now task.now (slice_get workers.now worker) how))) }
 {
     let Some(worker) = workers.get(worker as usize) else {
         return Err(not_valid(Place::Kind));
@@ -100,7 +100,7 @@ fn refuting(
     requires { IsQuery book.now task.now }
     ensures same { IfOk result (λ p. p ≡ proof) }
     ensures valid { IfOk result (λ p. outside_fault book.now task.now.set proof.log.lines ≡ None) }
-    ensures why { IfErr result (λ e. Tells e (option_map NotValid (outside_fault book.now task.now.set proof.log.lines))) }
+    ensures why { IfErr result (λ e. IsStepFault e (option_map NotValid (outside_fault book.now task.now.set proof.log.lines))) }
 {
     match certify_outside(alloc, book, task, proof.log) {
         Ok(proof) => Ok(proof),
@@ -120,7 +120,7 @@ pub(crate) fn outside(
     requires { IsQuery book.now task.now }
     ensures same { IfOk result (λ p. p ≡ proof) }
     ensures valid { IfOk result (λ p. one_log_fault book.now task.now proof.log.lines firsts.now ≡ None) }
-    ensures why { IfErr result (λ e. Tells e (option_map NotValid (one_log_fault book.now task.now proof.log.lines firsts.now))) }
+    ensures why { IfErr result (λ e. IsStepFault e (option_map NotValid (one_log_fault book.now task.now proof.log.lines firsts.now))) }
 {
     if firsts.len() != 1 {
         return Err(not_valid(Place::Kind));

@@ -5,7 +5,7 @@ ghost use Rattle.auction_core.specs.Setup.{IsOfAuction};
 ghost use Rattle.auction_core.specs.State.{answered};
 ghost use Rattle.cert_types.specs.Query.{IsQuery};
 ghost use Rattle.pack_defs.specs.declared.scenario.Scenario.{Scenario};
-ghost use Rattle.auction_core.specs.Checked.{Tells, is_about, line_told, query_told, shows_so, step_leaves, step_told};
+ghost use Rattle.auction_core.specs.Checked.{IsStepFault, is_about, line_told, query_told, shows_so, step_leaves, step_told};
 ghost use Rattle.auction_core.specs.NotShown.{is_bare, is_like_before, query_fault};
 ghost use Rattle.auction_core.specs.declared.prefix.ShownWhy.TheVariants.{NotValid};
 
@@ -15,7 +15,7 @@ use crate::receipts::undecided;
 use crate::record::{Shown, Step};
 use crate::shown_by::{fit, outside, refuted};
 use crate::step_err::{StepErr, not_valid, told};
-use crate::step_list::{Line, Way};
+use crate::step_list::{StepLine, Way};
 use crate::transcript::TranscriptStep;
 use cert_types::answer::Place;
 use cert_types::task::Task;
@@ -41,7 +41,7 @@ fn is_like_before(shown: &Shown) -> bool
 }
 
 // Whether the test is shown as this line has it, which needed no query.
-fn shows_so(own: Line, shown: &Shown) -> bool
+fn shows_so(own: StepLine, shown: &Shown) -> bool
     ensures { result ≡ shows_so own.way own.station shown.now }
 {
     match own.way {
@@ -52,7 +52,7 @@ fn shows_so(own: Line, shown: &Shown) -> bool
 }
 
 // Checks a step against one that was settled without a query, by the line that is kept of it.
-fn unasked_step(own: Line, x: &TranscriptStep) -> Option<ShownWhy>
+fn unasked_step(own: StepLine, x: &TranscriptStep) -> Option<ShownWhy>
     ensures { result ≡ line_told own x.now }
 {
     if own.round != x.step.round || own.station != x.step.station {
@@ -76,7 +76,7 @@ fn settling(
     requires { IsQuery book.now task.now }
     ensures same { IfOk result (λ x. x ≡ shown) }
     ensures valid { IfOk result (λ x. (sc : Scenario) → sc.workers ≡ workers.now → query_fault sc book.now task.now shown firsts.now ≡ None) }
-    ensures why { IfErr result (λ e. (sc : Scenario) → sc.workers ≡ workers.now → Tells e (option_map NotValid (query_fault sc book.now task.now shown firsts.now))) }
+    ensures why { IfErr result (λ e. (sc : Scenario) → sc.workers ≡ workers.now → IsStepFault e (option_map NotValid (query_fault sc book.now task.now shown firsts.now))) }
 {
     match shown {
         Shown::Fits(delta) => {
@@ -126,7 +126,7 @@ pub(crate) fn query_step(
     requires { IsOfAuction clockwork.old.scenario clockwork.old.book }
     ensures told { OnOk result (query_told clockwork.old.scenario clockwork.old.book clockwork.old.state x ≡ None) }
     ensures state { OnOk result (clockwork.new.state ≡ answered clockwork.old.scenario clockwork.old.book clockwork.old.state x.step.shown) }
-    ensures why { IfErr result (λ e. Tells e (query_told clockwork.old.scenario clockwork.old.book clockwork.old.state x)) }
+    ensures why { IfErr result (λ e. IsStepFault e (query_told clockwork.old.scenario clockwork.old.book clockwork.old.state x)) }
     ensures scenario { OnOk result (clockwork.new.scenario ≡ clockwork.old.scenario) }
     ensures book { OnOk result (clockwork.new.book ≡ clockwork.old.book) }
 {
@@ -166,7 +166,7 @@ pub(crate) fn check_step(
     requires { IsOfAuction clockwork.old.scenario clockwork.old.book }
     ensures told { OnOk result (step_told clockwork.old.scenario clockwork.old.book clockwork.old.state place x ≡ None) }
     ensures state { OnOk result (clockwork.new.state ≡ step_leaves clockwork.old.scenario clockwork.old.book clockwork.old.state place x) }
-    ensures why { IfErr result (λ e. Tells e (step_told clockwork.old.scenario clockwork.old.book clockwork.old.state place x)) }
+    ensures why { IfErr result (λ e. IsStepFault e (step_told clockwork.old.scenario clockwork.old.book clockwork.old.state place x)) }
     ensures scenario { OnOk result (clockwork.new.scenario ≡ clockwork.old.scenario) }
     ensures book { OnOk result (clockwork.new.book ≡ clockwork.old.book) }
 {

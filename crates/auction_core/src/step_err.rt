@@ -2,7 +2,7 @@
 
 ghost use Rattle.std.specs.Prelude.{◌≡◌, IfErr, None, OnOk, Option, Some, option_map};
 ghost use Rattle.cert_types.specs.declared.answer.Place.{Place};
-ghost use Rattle.auction_core.specs.Checked.{Tells, numbered_fault, step_err};
+ghost use Rattle.auction_core.specs.Checked.{IsStepFault, numbered_fault, step_err};
 ghost use Rattle.auction_core.specs.NotShown.{or_first_line};
 ghost use Rattle.auction_core.specs.declared.prefix.ShownWhy.TheVariants.{NotValid};
 ghost use Rattle.auction_core.specs.declared.step_err.StepErr.TheVariants.{NoMemory};
@@ -56,7 +56,7 @@ pub(crate) fn why_of(why: CertifyWhy) -> StepErr
 /// What a fault or none comes to.
 pub(crate) fn told(why: Option<ShownWhy>) -> Result<(), StepErr>
     ensures told { OnOk result (why ≡ None) }
-    ensures why { IfErr result (λ e. Tells e why) }
+    ensures why { IfErr result (λ e. IsStepFault e why) }
 {
     match why {
         Some(why) => Err(StepErr::Fault(why)),
@@ -77,7 +77,7 @@ fn or_first_line(place: Place) -> Place
 
 /// Why a step with a log was not let through, by whether its log begins with the right number.
 pub(crate) fn numbered(right: bool, e: StepErr) -> StepErr
-    ensures { (fault : Option Place) → Tells e (option_map NotValid fault) → Tells result (option_map NotValid (numbered_fault right fault)) }
+    ensures { (fault : Option Place) → IsStepFault e (option_map NotValid fault) → IsStepFault result (option_map NotValid (numbered_fault right fault)) }
 {
     if right {
         return e;

@@ -3,7 +3,7 @@
 ghost use Rattle.std.specs.Prelude.{◌≡◌, ◌≤◌, ◌+◌, ◌++◌, ◌∷◌, [], IfOk, MatchOption, OnOk, length, option_map, slice_get, true, unwrap_or, ⊤};
 ghost use Rattle.std.specs.Vec.Iter.{into_iter_items};
 ghost use Rattle.auction_core.specs.State.{fit_of};
-ghost use Rattle.auction_core.specs.StepList.{fit_at, line_of, names_only, shown_by, takes_verdict, told_behind, told_with, way_of};
+ghost use Rattle.auction_core.specs.StepList.{fit_at, step_line_of, names_only, shown_by, takes_verdict, told_behind, told_with, way_of};
 
 use crate::record::{Shown, Step};
 use pack_defs::channel_map::ChannelMap;
@@ -25,7 +25,7 @@ pub enum Way {
 
 /// A step without its verdict.
 #[derive(Clone, Copy, Debug, PartialEq, Eq)]
-pub struct Line {
+pub struct StepLine {
     /// The round, from 1.
     pub round: u32,
     /// The station, by its facility number.
@@ -36,7 +36,7 @@ pub struct Line {
 /// The steps of an auction, in order. One that needed no query takes twelve bytes.
 #[derive(Debug, Drop)]
 pub struct StepList {
-    lines: Vec<Line>,
+    lines: Vec<StepLine>,
     told: Vec<Shown>,
 }
 
@@ -84,8 +84,8 @@ impl StepList {
 
     /// The step at this place, from 0, without its verdict: when and of whom it was, and what shows it; none behind the last.
     /// Where that is a station without a channel, it is the step's own.
-    pub fn line(&self, place: usize) -> Option<Line>
-        ensures line { result ≡ option_map line_of (slice_get self.now.steps place) }
+    pub fn line(&self, place: usize) -> Option<StepLine>
+        ensures line { result ≡ option_map step_line_of (slice_get self.now.steps place) }
         ensures names { MatchOption (slice_get self.now.steps place) ⊤ (λ x. names_only x.station x.shown ≡ true) }
     {
         match self.lines.get(place) {
@@ -136,7 +136,7 @@ impl StepList {
             shown,
         } = step;
         let way = way_of(&shown);
-        self.lines.push_reserved(Line {
+        self.lines.push_reserved(StepLine {
             round,
             station,
             way,
@@ -199,7 +199,7 @@ fn fit_of(shown: &Shown) -> Option<&ChannelMap>
 }
 
 // How the step of this line is shown. Its verdict, if it has one, is the first of these, and is taken out.
-fn shown_by(line: &Line, told: &mut IntoIter<Shown>) -> Shown
+fn shown_by(line: &StepLine, told: &mut IntoIter<Shown>) -> Shown
     ensures shown { result ≡ shown_by line.now.way line.now.station (into_iter_items told.old) }
     ensures told { into_iter_items told.new ≡ told_behind line.now.way (into_iter_items told.old) }
 {

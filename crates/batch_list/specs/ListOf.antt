@@ -22,25 +22,25 @@ listed_of (scenario ∷ result ∷ []) = if is_utf8 scenario && is_utf8 result t
 listed_of _ = None
 
 -- what was listed with the names of one record more, if there is room for them
-abbrev pub with_record : List ListedNames → List (List ℕ) → Option (List ListedNames)
-with_record listed fields = if nat_lt (length listed) list_limit then option_map (λ names. listed ++ names ∷ []) (listed_of fields) else None
+abbrev pub with_listed : List ListedNames → List (List ℕ) → Option (List ListedNames)
+with_listed listed fields = if nat_lt (length listed) list_limit then option_map (λ names. listed ++ names ∷ []) (listed_of fields) else None
 
 -- What was listed with the names of these records, one after the other. One that is refused refuses all.
-unfoldable pub with_records : List ListedNames → List (List (List ℕ)) → Option (List ListedNames)
-with_records listed [] = Some listed
-with_records listed (r ∷ rs) = option_and_then (λ next. with_records next rs) (with_record listed r)
+unfoldable pub with_all_listed : List ListedNames → List (List (List ℕ)) → Option (List ListedNames)
+with_all_listed listed [] = Some listed
+with_all_listed listed (r ∷ rs) = option_and_then (λ next. with_all_listed next rs) (with_listed listed r)
 
 -- what comes after a line of the file, or the refusal of this line
-abbrev pub after_line : ℕ → Option (List ListedNames) → (List ListedNames → Result (List ListedNames) ListErr) → Result (List ListedNames) ListErr
-after_line line (Some next) rest = rest next
-after_line line None rest = Err (BadLine line)
+abbrev pub after_list_line : ℕ → Option (List ListedNames) → (List ListedNames → Result (List ListedNames) ListErr) → Result (List ListedNames) ListErr
+after_list_line line (Some next) rest = rest next
+after_list_line line None rest = Err (BadLine line)
 
 -- What was listed with the names of the records of these lines of the file, of which the first has this number. The first
 -- record that is refused refuses all, with its line's number.
-unfoldable pub with_file_lines : List ListedNames → ℕ → List (List ℕ) → Result (List ListedNames) ListErr
-with_file_lines listed number [] = Ok listed
-with_file_lines listed number (line ∷ lines) =
-    after_line number (with_records listed (line_records line)) (λ next. with_file_lines next (number + 1) lines)
+unfoldable pub with_list_lines : List ListedNames → ℕ → List (List ℕ) → Result (List ListedNames) ListErr
+with_list_lines listed number [] = Ok listed
+with_list_lines listed number (line ∷ lines) =
+    after_list_line number (with_all_listed listed (line_records line)) (λ next. with_list_lines next (number + 1) lines)
 
 -- a list that was read through, unless it has no record
 abbrev pub unless_empty : Result (List ListedNames) ListErr → Result (List ListedNames) ListErr
@@ -50,4 +50,4 @@ unless_empty (Err e) = Err e
 
 -- the names of each record of a list, in its order, or why it is refused
 unfoldable pub list_of : List ℕ → Result (List ListedNames) ListErr
-list_of bytes = unless_empty (with_file_lines [] 1 (lines_of bytes))
+list_of bytes = unless_empty (with_list_lines [] 1 (lines_of bytes))

@@ -1,7 +1,7 @@
 //! Why a list is refused.
 
 ghost use Rattle.std.specs.Prelude.{◌≡◌};
-ghost use Rattle.batch_list.specs.declared.error.AddErr.TheVariants.{NoMemory as NoRoom};
+ghost use Rattle.batch_list.specs.declared.error.ListAddErr.TheVariants.{NoMemory as NoRoom};
 ghost use Rattle.batch_list.specs.declared.error.ListErr.TheVariants.{NoMemory};
 
 use std::alloc::{AllocError, AllocFailed};
@@ -27,25 +27,25 @@ impl From<AllocError> for ListErr {
 
 /// Why a record was not taken.
 #[derive(Clone, Copy, Debug, PartialEq, Eq)]
-pub(crate) enum AddErr {
+pub(crate) enum ListAddErr {
     /// It is refused.
     Refused,
     /// Memory ran out.
     NoMemory,
 }
 
-impl From<AllocError> for AddErr {
+impl From<AllocError> for ListAddErr {
     ghost from_gives = { λ _ e. e ≡ NoRoom };
 
-    fn from(_e: AllocError) -> AddErr {
-        AddErr::NoMemory
+    fn from(_e: AllocError) -> ListAddErr {
+        ListAddErr::NoMemory
     }
 }
 
-impl<T: Drop> From<AllocFailed<T>> for AddErr {
+impl<T: Drop> From<AllocFailed<T>> for ListAddErr {
     ghost from_gives = { λ _ e. e ≡ NoRoom };
 
-    fn from(_e: AllocFailed<T>) -> AddErr {
-        AddErr::NoMemory
+    fn from(_e: AllocFailed<T>) -> ListAddErr {
+        ListAddErr::NoMemory
     }
 }

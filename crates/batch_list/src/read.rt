@@ -3,10 +3,10 @@
 
 ghost use Rattle.std.specs.Prelude.{◌≡◌, ◌≤◌, [], IfOk, length, map};
 ghost use Rattle.constraint_files.specs.Records.{line_records, lines_of};
-ghost use Rattle.batch_list.specs.ListOf.{list_limit, list_of, with_file_lines, with_record, with_records};
-ghost use Rattle.batch_list.specs.Reads.{Changes, Reads};
+ghost use Rattle.batch_list.specs.ListOf.{list_limit, list_of, with_list_lines, with_listed, with_all_listed};
+ghost use Rattle.batch_list.specs.Reads.{ListChanges, ListReads};
 
-use crate::error::{AddErr, ListErr};
+use crate::error::{ListAddErr, ListErr};
 use crate::line::{BatchLine, names_of};
 use constraint_files::records::{fields, split_line};
 use std::alloc::Global;
@@ -15,22 +15,22 @@ use std::alloc::Global;
 const LIST_LIMIT: usize = 256;
 
 /// Adds what a record says. After an error the list is lost.
-fn add_record(alloc: Global, list: &mut Vec<BatchLine>, row: &[Vec<u8>]) -> Result<(), AddErr>
-    ensures { Changes (with_record list.old.items (map (λ f. f.items) row.now)) list.new.items result }
+fn add_record(alloc: Global, list: &mut Vec<BatchLine>, row: &[Vec<u8>]) -> Result<(), ListAddErr>
+    ensures { ListChanges (with_listed list.old.items (map (λ f. f.items) row.now)) list.new.items result }
 {
     if list.len() >= LIST_LIMIT {
-        return Err(AddErr::Refused);
+        return Err(ListAddErr::Refused);
     }
     let Some((scenario, output)) = names_of(row) else {
-        return Err(AddErr::Refused);
+        return Err(ListAddErr::Refused);
     };
     list.push(BatchLine::new(alloc, scenario, output)?)?;
     Ok(())
 }
 
 /// Adds what the records of a line of the file say. After an error the list is lost.
-fn add_line(alloc: Global, list: &mut Vec<BatchLine>, line: &[u8]) -> Result<(), AddErr>
-    ensures { Changes (with_records list.old.items (line_records line.now)) list.new.items result }
+fn add_line(alloc: Global, list: &mut Vec<BatchLine>, line: &[u8]) -> Result<(), ListAddErr>
+    ensures { ListChanges (with_all_listed list.old.items (line_records line.now)) list.new.items result }
 {
     let records = fields(alloc, line)?;
     for record in &records {
@@ -41,7 +41,7 @@ fn add_line(alloc: Global, list: &mut Vec<BatchLine>, line: &[u8]) -> Result<(),
 
 /// Reads the records of a list, of which there may be none.
 fn read_records(alloc: Global, bytes: &[u8]) -> Result<Vec<BatchLine>, ListErr>
-    ensures { Reads (with_file_lines [] 1 (lines_of bytes.now)) result }
+    ensures { ListReads (with_list_lines [] 1 (lines_of bytes.now)) result }
 {
     let mut list = Vec::new(alloc);
     let mut rest = bytes;
@@ -50,8 +50,8 @@ fn read_records(alloc: Global, bytes: &[u8]) -> Result<Vec<BatchLine>, ListErr>
         let (line, after) = split_line(rest);
         match add_line(alloc, &mut list, line) {
             Ok(()) => {}
-            Err(AddErr::Refused) => return Err(ListErr::BadLine { line: number }),
-            Err(AddErr::NoMemory) => return Err(ListErr::NoMemory),
+            Err(ListAddErr::Refused) => return Err(ListErr::BadLine { line: number }),
+            Err(ListAddErr::NoMemory) => return Err(ListErr::NoMemory),
         }
         rest = after;
         number += 1;
@@ -69,7 +69,7 @@ fn read_records(alloc: Global, bytes: &[u8]) -> Result<Vec<BatchLine>, ListErr>
 /// `BadLine` at the first record that hasn't two fields, that has a field that isn't UTF-8, or that is the 257th, with its
 /// line's number, counted from 1. `Empty` where there is no record. `NoMemory` where memory runs out.
 pub fn read_list(alloc: Global, bytes: &[u8]) -> Result<Vec<BatchLine>, ListErr>
-    ensures reads { Reads (list_of bytes.now) result }
+    ensures reads { ListReads (list_of bytes.now) result }
     ensures some { IfOk result (λ v. 1 ≤ length v.items) }
     ensures few { IfOk result (λ v. length v.items ≤ list_limit) }
 {

@@ -10,8 +10,8 @@ use Rattle.clause_db.specs.Clauses.{Clauses, LitWithin, ClausesWithin}
 use Rattle.clause_db.specs.Forced.{is_false_clause}
 use Rattle.rup_check.specs.declared.line.Line.{Line}
 use Rattle.rup_check.specs.Follows.{clauses_before}
-use Rattle.cnf_encode.specs.Decode.{listed}
-use Rattle.trail_prop.specs.Open.{IsSettled, IsComplete, value_of}
+use Rattle.cnf_encode.specs.Decode.{listed_model}
+use Rattle.trail_prop.specs.Open.{IsClauseSettled, IsComplete, value_known}
 use Rattle.cdcl_prove.specs.Picks.{IsTotal}
 
 -- the model says of each variable whether it is true on the trail
@@ -44,14 +44,14 @@ each-true : (vars : ℕ) (known : List Lit) (model : ℕ → Bool) (clauses more
 each-true vars known model [] more r t w c = refl
 each-true vars known model (d ∷ ds) more r t w c =
     and_from (clause_holds model d) (list_all (clause_holds model) ds)
-    (clause-true vars known model d r t (All-head (λ (z : List Lit). All (LitWithin vars) z) d ds w) (All-head (IsSettled known) d (ds ++ more) c).0)
-    (each-true vars known model ds more r t (All-tail (λ (z : List Lit). All (LitWithin vars) z) d ds w) (All-tail (IsSettled known) d (ds ++ more) c))
+    (clause-true vars known model d r t (All-head (λ (z : List Lit). All (LitWithin vars) z) d ds w) (All-head (IsClauseSettled known) d (ds ++ more) c).0)
+    (each-true vars known model ds more r t (All-tail (λ (z : List Lit). All (LitWithin vars) z) d ds w) (All-tail (IsClauseSettled known) d (ds ++ more) c))
 
 pub model-satisfies : (formula : Clauses) (lines : List Line) (known : List Lit) (model : ℕ → Bool) → Reads formula.vars known model → IsTotal formula.vars known → ClausesWithin formula.vars formula.list → IsComplete (clauses_before formula.list lines) known → Satisfies model formula.list
 model-satisfies formula lines known model r t w c = each-true formula.vars known model formula.list (map (λ (l : Line). l.lits) lines) r t w c
 
 -- one value more
-pub reads-more : (known : List Lit) (values : List Bool) (i : ℕ) (b : Bool) → length values ≡ i → ((v : ℕ) → 1 ≤ v → v ≤ i → listed values v ≡ has_lit known (pos_lit v)) → b ≡ has_lit known (pos_lit (i + 1)) → (v : ℕ) → 1 ≤ v → v ≤ i + 1 → listed (values ++ b ∷ []) v ≡ has_lit known (pos_lit v)
+pub reads-more : (known : List Lit) (values : List Bool) (i : ℕ) (b : Bool) → length values ≡ i → ((v : ℕ) → 1 ≤ v → v ≤ i → listed_model values v ≡ has_lit known (pos_lit v)) → b ≡ has_lit known (pos_lit (i + 1)) → (v : ℕ) → 1 ≤ v → v ≤ i + 1 → listed_model (values ++ b ∷ []) v ≡ has_lit known (pos_lit v)
 reads-more known values i b n before here v low high =
     elim (cases_lt i v) [
       | inl last ↦
@@ -64,7 +64,7 @@ reads-more known values i b n before here v low high =
     ]
 
 -- what is known of a variable that is true, or isn't
-pub value-reads : (known : List Lit) (v : ℕ) → unwrap_or (value_of known v) false ≡ has_lit known (pos_lit v)
+pub value-reads : (known : List Lit) (v : ℕ) → unwrap_or (value_known known v) false ≡ has_lit known (pos_lit v)
 value-reads known v = step (has_lit known (pos_lit v)) (has_lit known (neg_lit v))
   where
     step : (p n : Bool) → unwrap_or (if p then Some true else (if n then Some false else None)) false ≡ p

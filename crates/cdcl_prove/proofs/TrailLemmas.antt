@@ -8,7 +8,7 @@ use Rattle.clause_db.specs.Clause.{opposite, has_lit, clause_at}
 use Rattle.clause_db.specs.Clauses.{Clauses, LitWithin}
 use Rattle.clause_db.specs.Forced.{is_false_clause, not_false, forced_by}
 use Rattle.clause_db.proofs.Literals.{has-push_new}
-use Rattle.trail_prop.specs.declared.entry.Entry.{Entry}
+use Rattle.trail_prop.specs.declared.entry.TrailEntry.{TrailEntry}
 use Rattle.trail_prop.specs.Open.{LitsWithin}
 use Rattle.trail_prop.specs.Entries.{lits_of, EachOpens}
 use Rattle.trail_prop.specs.Trails.{EntryFits, EachFits, IsTrail, HasReason, forced_at, IsFalseAt}
@@ -19,26 +19,26 @@ use Rattle.trail_prop.proofs.Trailing.{fits-opens}
 use Rattle.cdcl_prove.proofs.Following.{append-nil, has-left}
 
 -- the entry at a place fits after those before it
-pub fits-at : (c : Clauses) (before es : List Entry) (at : ℕ) (d : Entry) → EachFits c before es → at < length es → EntryFits c (before ++ take at es) (get_or es at d)
+pub fits-at : (c : Clauses) (before es : List TrailEntry) (at : ℕ) (d : TrailEntry) → EachFits c before es → at < length es → EntryFits c (before ++ take at es) (get_or es at d)
 fits-at c before [] at d f l = absurd (omega arith)
-fits-at c before (x ∷ xs) zero d f l = subst (λ (z : List Entry). EntryFits c z x) (sym (append-nil before)) f.0
-fits-at c before (x ∷ xs) (suc k) d f l = subst (λ (z : List Entry). EntryFits c z (get_or xs k d)) (append_assoc before (x ∷ []) (take k xs)) (fits-at c (before ++ x ∷ []) xs k d f.1 (omega arith))
+fits-at c before (x ∷ xs) zero d f l = subst (λ (z : List TrailEntry). EntryFits c z x) (sym (append-nil before)) f.0
+fits-at c before (x ∷ xs) (suc k) d f l = subst (λ (z : List TrailEntry). EntryFits c z (get_or xs k d)) (append_assoc before (x ∷ []) (take k xs)) (fits-at c (before ++ x ∷ []) xs k d f.1 (omega arith))
 
-pub each-within : (c : Clauses) (before es : List Entry) → EachFits c before es → All (λ (e : Entry). LitWithin c.vars e.lit) es
-each-within c before [] f = All-nil (λ (e : Entry). LitWithin c.vars e.lit)
-each-within c before (x ∷ xs) f = All-cons (λ (e : Entry). LitWithin c.vars e.lit) x xs f.0.within (each-within c (before ++ x ∷ []) xs f.1)
+pub each-within : (c : Clauses) (before es : List TrailEntry) → EachFits c before es → All (λ (e : TrailEntry). LitWithin c.vars e.lit) es
+each-within c before [] f = All-nil (λ (e : TrailEntry). LitWithin c.vars e.lit)
+each-within c before (x ∷ xs) f = All-cons (λ (e : TrailEntry). LitWithin c.vars e.lit) x xs f.0.within (each-within c (before ++ x ∷ []) xs f.1)
 
 -- a variable of an earlier entry is at no later place
-apart-at : (c : Clauses) (before es : List Entry) (k : Lit) (at : ℕ) (d : Entry) → has_lit (lits_of before) k ≡ true → EachFits c before es → at < length es → (get_or es at d).lit.var ≢ k.var
+apart-at : (c : Clauses) (before es : List TrailEntry) (k : Lit) (at : ℕ) (d : TrailEntry) → has_lit (lits_of before) k ≡ true → EachFits c before es → at < length es → (get_or es at d).lit.var ≢ k.var
 apart-at c before [] k at d h f l = absurd (omega arith)
 apart-at c before (x ∷ xs) k zero d h f l = λ e. open-apart (lits_of before) x.lit k f.0.opens h (sym e)
 apart-at c before (x ∷ xs) k (suc n) d h f l = apart-at c (before ++ x ∷ []) xs k n d (has-left before (x ∷ []) k h) f.1 (omega arith)
 
-known-here : (before : List Entry) (x : Entry) → has_lit (lits_of (before ++ x ∷ [])) x.lit ≡ true
+known-here : (before : List TrailEntry) (x : TrailEntry) → has_lit (lits_of (before ++ x ∷ [])) x.lit ≡ true
 known-here before x = ap (λ (z : List Lit). has_lit z x.lit) (lits-push before x) ∙ has-push_new (lits_of before) x.lit
 
 -- two entries of one variable are one
-pub same-entry : (c : Clauses) (before es : List Entry) (i j : ℕ) (d : Entry) → EachFits c before es → i < length es → j < length es → (get_or es i d).lit.var ≡ (get_or es j d).lit.var → get_or es i d ≡ get_or es j d
+pub same-entry : (c : Clauses) (before es : List TrailEntry) (i j : ℕ) (d : TrailEntry) → EachFits c before es → i < length es → j < length es → (get_or es i d).lit.var ≡ (get_or es j d).lit.var → get_or es i d ≡ get_or es j d
 same-entry c before [] i j d f l m e = absurd (omega arith)
 same-entry c before (x ∷ xs) zero zero d f l m e = refl
 same-entry c before (x ∷ xs) zero (suc j) d f l m e = absurd (apart-at c (before ++ x ∷ []) xs x.lit j d (known-here before x) f.1 (omega arith) (sym e))
@@ -71,22 +71,22 @@ forcing-number known clauses n l f = step (clause_at clauses n) refl f
     step (Some clause) e f = number-within clauses n clause e
 
 -- the literals of a false clause are of the trail's variables
-pub false-within : (c : Clauses) (es : List Entry) (clause : List Lit) → IsTrail c es → is_false_clause (lits_of es) clause ≡ true → LitsWithin c.vars clause
+pub false-within : (c : Clauses) (es : List TrailEntry) (clause : List Lit) → IsTrail c es → is_false_clause (lits_of es) clause ≡ true → LitsWithin c.vars clause
 false-within c es [] t f = All-nil (LitWithin c.vars)
 false-within c es (l ∷ ls) t f =
     let parts = and_parts (has_lit (lits_of es) (opposite l)) (is_false_clause (lits_of es) ls) f in
     All-cons (LitWithin c.vars) l ls (known-within c.vars [] es (opposite l) (fits-opens c [] es t) parts.0) (false-within c es ls t parts.1)
 
-pub false-within_at : (c : Clauses) (es : List Entry) (o : Option (List Lit)) (clause : List Lit) → IsTrail c es → o ≡ Some clause → IsFalseAt (lits_of es) o → LitsWithin c.vars clause
+pub false-within_at : (c : Clauses) (es : List TrailEntry) (o : Option (List Lit)) (clause : List Lit) → IsTrail c es → o ≡ Some clause → IsFalseAt (lits_of es) o → LitsWithin c.vars clause
 false-within_at c es o clause t e f = false-within c es clause t (subst (λ (z : Option (List Lit)). IsFalseAt (lits_of es) z) e f)
 
-opens-take : (c : Clauses) (before es : List Entry) (at : ℕ) → EachFits c before es → EachOpens c.vars before (take at es)
+opens-take : (c : Clauses) (before es : List TrailEntry) (at : ℕ) → EachFits c before es → EachOpens c.vars before (take at es)
 opens-take c before es zero f = tt
 opens-take c before [] (suc k) f = tt
 opens-take c before (x ∷ xs) (suc k) f = (f.0.within, f.0.opens, opens-take c (before ++ x ∷ []) xs k f.1)
 
 -- so are those of a clause of which all but some of these variables are false
-mostly-within : (c : Clauses) (es : List Entry) (clause : List Lit) → EachOpens c.vars [] es → LitsWithin c.vars (not_false (lits_of es) clause) → LitsWithin c.vars clause
+mostly-within : (c : Clauses) (es : List TrailEntry) (clause : List Lit) → EachOpens c.vars [] es → LitsWithin c.vars (not_false (lits_of es) clause) → LitsWithin c.vars clause
 mostly-within c es [] t w = w
 mostly-within c es (l ∷ ls) t w = step (has_lit (lits_of es) (opposite l)) refl w (mostly-within c es ls t)
   where
@@ -95,14 +95,14 @@ mostly-within c es (l ∷ ls) t w = step (has_lit (lits_of es) (opposite l)) ref
     step false h w f = All-cons (LitWithin c.vars) l ls (All-head (LitWithin c.vars) l (not_false (lits_of es) ls) w) (f (All-tail (LitWithin c.vars) l (not_false (lits_of es) ls) w))
 
 -- what forced the entry at a place
-forced-here : (c : Clauses) (es : List Entry) (at n : ℕ) (d : Entry) → IsTrail c es → at < length es → (get_or es at d).reason ≡ Some n → forced_at (lits_of (take at es)) (clause_at c.list n) ≡ Some (get_or es at d).lit
+forced-here : (c : Clauses) (es : List TrailEntry) (at n : ℕ) (d : TrailEntry) → IsTrail c es → at < length es → (get_or es at d).reason ≡ Some n → forced_at (lits_of (take at es)) (clause_at c.list n) ≡ Some (get_or es at d).lit
 forced-here c es at n d t l r = subst (λ (z : Option ℕ). HasReason c.list (lits_of (take at es)) (get_or es at d).lit z) r (fits-at c [] es at d t l).reasons
 
-pub reason-number : (c : Clauses) (es : List Entry) (at n : ℕ) (d : Entry) → IsTrail c es → at < length es → (get_or es at d).reason ≡ Some n → (1 ≤ n) × (n ≤ length c.list)
+pub reason-number : (c : Clauses) (es : List TrailEntry) (at n : ℕ) (d : TrailEntry) → IsTrail c es → at < length es → (get_or es at d).reason ≡ Some n → (1 ≤ n) × (n ≤ length c.list)
 reason-number c es at n d t l r = forcing-number (lits_of (take at es)) c.list n (get_or es at d).lit (forced-here c es at n d t l r)
 
 -- and those of a reason
-pub reason-within : (c : Clauses) (es : List Entry) (at n : ℕ) (d : Entry) (clause : List Lit) → IsTrail c es → at < length es → (get_or es at d).reason ≡ Some n → clause_at c.list n ≡ Some clause → LitsWithin c.vars clause
+pub reason-within : (c : Clauses) (es : List TrailEntry) (at n : ℕ) (d : TrailEntry) (clause : List Lit) → IsTrail c es → at < length es → (get_or es at d).reason ≡ Some n → clause_at c.list n ≡ Some clause → LitsWithin c.vars clause
 reason-within c es at n d clause t l r k =
     let by : forced_by (lits_of (take at es)) clause ≡ Some (get_or es at d).lit = subst (λ (z : Option (List Lit)). forced_at (lits_of (take at es)) z ≡ Some (get_or es at d).lit) k (forced-here c es at n d t l r) in
     let only = only_open-is (lits_of (take at es)) (not_false (lits_of (take at es)) clause) (get_or es at d).lit by in

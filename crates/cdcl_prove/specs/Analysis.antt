@@ -4,49 +4,49 @@ use Rattle.std.specs.Prelude.{ℕ, ◌-◌, ◌≡◌, ◌||◌, Bool, true, fal
 use Rattle.std.specs.List.{All}
 use Rattle.clause_db.specs.declared.lit.Lit.{Lit}
 use Rattle.clause_db.specs.Clause.{opposite, clause_at}
-use Rattle.trail_prop.specs.declared.entry.Entry.{Entry}
-use Rattle.cdcl_prove.specs.declared.mark.Mark.{Mark}
-use Rattle.cdcl_prove.specs.declared.mark.Mark.TheVariants.{Unmet, Kept, Resolved}
+use Rattle.trail_prop.specs.declared.entry.TrailEntry.{TrailEntry}
+use Rattle.cdcl_prove.specs.declared.mark.VariableMark.{VariableMark}
+use Rattle.cdcl_prove.specs.declared.mark.VariableMark.TheVariants.{Unmet, Kept, Resolved}
 
-abbrev pub is_kept : Mark → Bool
+abbrev pub is_kept : VariableMark → Bool
 is_kept Unmet = false
 is_kept Kept = true
 is_kept Resolved = false
 
-abbrev pub is_resolved : Mark → Bool
+abbrev pub is_resolved : VariableMark → Bool
 is_resolved Unmet = false
 is_resolved Kept = false
 is_resolved Resolved = true
 
 -- the mark of a variable, the first for variable 1
-abbrev pub mark_of : List Mark → ℕ → Mark
+abbrev pub mark_of : List VariableMark → ℕ → VariableMark
 mark_of marks v = slice_index_or marks (v - 1) Unmet
 
 -- the variable is kept; it is resolved away; it was met
-abbrev pub keeps : List Mark → ℕ → Bool
+abbrev pub keeps : List VariableMark → ℕ → Bool
 keeps marks v = is_kept (mark_of marks v)
 
-abbrev pub resolves : List Mark → ℕ → Bool
+abbrev pub resolves : List VariableMark → ℕ → Bool
 resolves marks v = is_resolved (mark_of marks v)
 
-abbrev pub has_met : List Mark → ℕ → Bool
+abbrev pub has_met : List VariableMark → ℕ → Bool
 has_met marks v = keeps marks v || resolves marks v
 
 -- the entries of variables that pass the test
-abbrev pub entries_of : (ℕ → Bool) → List Entry → List Entry
-entries_of test entries = filter (λ e. test e.lit.var) entries
+abbrev pub entries_passing : (ℕ → Bool) → List TrailEntry → List TrailEntry
+entries_passing test entries = filter (λ e. test e.lit.var) entries
 
 -- the number of the clause that forced an entry
-abbrev pub reason_of : Entry → ℕ
+abbrev pub reason_of : TrailEntry → ℕ
 reason_of e = unwrap_or e.reason 0
 
 -- the line: the opposites of the literals that are kept
-abbrev pub line_of : (ℕ → Bool) → List Entry → List Lit
-line_of kept entries = map (λ e. opposite e.lit) (entries_of kept entries)
+abbrev pub learnt_line_of : (ℕ → Bool) → List TrailEntry → List Lit
+learnt_line_of kept entries = map (λ e. opposite e.lit) (entries_passing kept entries)
 
 -- its hints: the reasons of the entries that are resolved away, in the order of the trail, and the false clause
-abbrev pub hints_of : (ℕ → Bool) → List Entry → ℕ → List ℕ
-hints_of resolved entries conflict = map reason_of (entries_of resolved entries) ++ conflict ∷ []
+abbrev pub hints_of : (ℕ → Bool) → List TrailEntry → ℕ → List ℕ
+hints_of resolved entries conflict = map reason_of (entries_passing resolved entries) ++ conflict ∷ []
 
 -- there is such a clause, and each of its variables was met
 abbrev pub IsMetAt : (ℕ → Bool) → Option (List Lit) → Type 0
@@ -59,21 +59,21 @@ IsReasonMet met clauses None = ⊥
 IsReasonMet met clauses (Some n) = IsMetAt met (clause_at clauses n)
 
 -- of each entry that is resolved away the reason's variables were met
-abbrev pub AreClosed : (ℕ → Bool) → (ℕ → Bool) → List (List Lit) → List Entry → Type 0
+abbrev pub AreClosed : (ℕ → Bool) → (ℕ → Bool) → List (List Lit) → List TrailEntry → Type 0
 AreClosed resolved met clauses entries = All (λ e. resolved e.lit.var ≡ true → IsReasonMet met clauses e.reason) entries
 
 -- the later marks have met more, and resolve the same away
-pub record MeetsMore (earlier later : List Mark) : Type 0 where
+pub record MeetsMore (earlier later : List VariableMark) : Type 0 where
   pub size : length later ≡ length earlier
   pub still : (v : ℕ) → has_met earlier v ≡ true → has_met later v ≡ true
   pub same : (v : ℕ) → resolves later v ≡ resolves earlier v
 
 -- a mark for each variable, and of each entry that is resolved away the reason was met
-pub record IsClosed (vars : ℕ) (clauses : List (List Lit)) (entries : List Entry) (marks : List Mark) : Type 0 where
+pub record IsClosed (vars : ℕ) (clauses : List (List Lit)) (entries : List TrailEntry) (marks : List VariableMark) : Type 0 where
   pub size : length marks ≡ vars
   pub closed : AreClosed (resolves marks) (has_met marks) clauses entries
 
 -- and so was the false clause: a conflict is analysed
-pub record IsAnalysed (vars : ℕ) (clauses : List (List Lit)) (entries : List Entry) (conflict : ℕ) (marks : List Mark) : Type 0 where
+pub record IsAnalysed (vars : ℕ) (clauses : List (List Lit)) (entries : List TrailEntry) (conflict : ℕ) (marks : List VariableMark) : Type 0 where
   pub closed : IsClosed vars clauses entries marks
   pub met : IsMetAt (has_met marks) (clause_at clauses conflict)

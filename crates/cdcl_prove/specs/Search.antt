@@ -11,10 +11,10 @@ use Rattle.trail_prop.specs.declared.entry.Conflict.{Conflict}
 use Rattle.trail_prop.specs.Entries.{lits_of}
 use Rattle.trail_prop.specs.Open.{IsComplete}
 use Rattle.trail_prop.specs.Trails.{IsFalseAt}
-use Rattle.cdcl_prove.specs.declared.search.Step.{Step}
-use Rattle.cdcl_prove.specs.declared.search.Step.TheVariants as step
-use Rattle.cdcl_prove.specs.declared.solve.Outcome.{Outcome}
-use Rattle.cdcl_prove.specs.declared.solve.Outcome.TheVariants as outcome
+use Rattle.cdcl_prove.specs.declared.search.SearchStep.{SearchStep}
+use Rattle.cdcl_prove.specs.declared.search.SearchStep.TheVariants as step
+use Rattle.cdcl_prove.specs.declared.solve.SearchEnd.{SearchEnd}
+use Rattle.cdcl_prove.specs.declared.solve.SearchEnd.TheVariants as outcome
 use Rattle.cdcl_prove.specs.Derivation.{Derived, clauses_of}
 use Rattle.cdcl_prove.specs.Picks.{IsTotal}
 
@@ -34,17 +34,17 @@ pub record IsLast (d : Derived) (line : Line) : Type 0 where
   pub ends : is_empty_clause line.lits ≡ true
 
 -- what one step leaves: a line more, a model, or the last line of a refutation
-abbrev pub StepIs : Derived → Derived → Step → Type 0
-StepIs earlier later step.Learnt = length later.lines ≡ length earlier.lines + 1
-StepIs earlier later step.Model = IsModel later × (later.lines ≡ earlier.lines)
-StepIs earlier later (step.Refuted line) = IsLast later line × (later.lines ≡ earlier.lines)
+abbrev pub SearchStepIs : Derived → Derived → SearchStep → Type 0
+SearchStepIs earlier later step.Learnt = length later.lines ≡ length earlier.lines + 1
+SearchStepIs earlier later step.Model = IsModel later × (later.lines ≡ earlier.lines)
+SearchStepIs earlier later (step.Refuted line) = IsLast later line × (later.lines ≡ earlier.lines)
 
 -- how a search ends that has a budget of lines and a query of this number, where the poll's latest answer is `last`
-abbrev pub OutcomeIs : Derived → ℕ → ℕ → ℕ → Outcome → Type 0
-OutcomeIs d budget number last outcome.Model = IsModel d
-OutcomeIs d budget number last (outcome.Refuted line) = IsLast d line × (length d.lines < budget)
-OutcomeIs d budget number last outcome.Spent = length d.lines ≡ budget
-OutcomeIs d budget number last (outcome.Moved now) = (last ≡ now) × (now ≢ number)
+abbrev pub SearchEndIs : Derived → ℕ → ℕ → ℕ → SearchEnd → Type 0
+SearchEndIs d budget number last outcome.Model = IsModel d
+SearchEndIs d budget number last (outcome.Refuted line) = IsLast d line × (length d.lines < budget)
+SearchEndIs d budget number last outcome.Spent = length d.lines ≡ budget
+SearchEndIs d budget number last (outcome.Moved now) = (last ≡ now) × (now ≢ number)
 
 -- the answer is a fit, and names no station with the channel that it has in the last map: each has another there, or none
 abbrev pub IsFitOfChanges : List (ℕ × ℕ) → Answer → Type 0

@@ -8,7 +8,7 @@ ghost use Rattle.cert_types.specs.declared.task.Task.{Task};
 ghost use Rattle.cert_types.specs.Query.{IsQuery};
 ghost use Rattle.cert_types.specs.Refutes.{is_subset};
 ghost use Rattle.cert_types.specs.Valid.{IsValid, learns};
-ghost use Rattle.cnf_encode.specs.Decode.{listed};
+ghost use Rattle.cnf_encode.specs.Decode.{listed_model};
 ghost use Rattle.trail_prop.specs.Entries.{lits_of};
 ghost use Rattle.cdcl_prove.specs.Formulas.{IsFormulaOf};
 ghost use Rattle.cdcl_prove.specs.Search.{IsFitOfChanges, IsLast, IsModel};
@@ -45,7 +45,7 @@ pub(crate) fn fit(
 
 // Whether each variable of the trail is true, variable 1 first.
 fn values(alloc: Global, trail: &Trail) -> Result<Vec<bool>, NoMemory>
-    ensures { IfOk result (λ values. (v : ℕ) → 1 ≤ v → v ≤ trail.now.clauses.vars → listed values.items v ≡ has_lit (lits_of trail.now.entries) (pos_lit v)) }
+    ensures { IfOk result (λ values. (v : ℕ) → 1 ≤ v → v ≤ trail.now.clauses.vars → listed_model values.items v ≡ has_lit (lits_of trail.now.entries) (pos_lit v)) }
 {
     let mut values = Vec::new(alloc);
     for i in 0..trail.clauses().vars() as u64 {

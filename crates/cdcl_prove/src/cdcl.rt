@@ -8,11 +8,11 @@ ghost use Rattle.cert_types.specs.Valid.{learns};
 ghost use Rattle.cdcl_prove.specs.Formulas.{IsFormulaOf};
 
 use crate::answers::{fit, receipt, refutation};
-use crate::guide::Guide;
+use crate::guide::DecisionGuide;
 use crate::kept::{Asked, ask};
 use crate::policy::{STEPS_OF_LAST_CHANNEL, STEPS_WITHOUT_CHANNEL};
 use crate::search::Search;
-use crate::solve::{Outcome, solve};
+use crate::solve::{SearchEnd, solve};
 use cert_types::answer::Answer;
 use cert_types::poll::{Attempt, Poll};
 use cert_types::task::Task;
@@ -220,12 +220,12 @@ fn attempt_within<P: Poll>(
     let mut search = begin(alloc, book, task, part, worker.seed)?;
     let outcome = solve(alloc, &mut search, worker.budget, task.number, poll)?;
     match outcome {
-        Outcome::Model | Outcome::Spent => Ok(None),
-        Outcome::Refuted(last) => {
+        SearchEnd::Model | SearchEnd::Spent => Ok(None),
+        SearchEnd::Refuted(last) => {
             let answer = refutation(alloc, part, search.into_derivation(), last)?;
             Ok(Some(Attempt::Said(answer)))
         }
-        Outcome::Moved { now } => Ok(Some(Attempt::Moved { now })),
+        SearchEnd::Moved { now } => Ok(Some(Attempt::Moved { now })),
     }
 }
 
@@ -245,17 +245,17 @@ fn attempt_whole<P: Poll>(
     let mut search = begin(alloc, book, task, task.set.as_slice(), worker.seed)?;
     let outcome = solve(alloc, &mut search, worker.budget, task.number, poll)?;
     match outcome {
-        Outcome::Model => {
+        SearchEnd::Model => {
             let answer = fit(alloc, book, task, &search.derivation)?;
             Ok(Attempt::Said(answer))
         }
-        Outcome::Refuted(last) => {
+        SearchEnd::Refuted(last) => {
             let set = task.set.as_slice();
             let answer = refutation(alloc, set, search.into_derivation(), last)?;
             Ok(Attempt::Said(answer))
         }
-        Outcome::Spent => Ok(Attempt::Said(receipt(search.into_derivation()))),
-        Outcome::Moved { now } => Ok(Attempt::Moved { now }),
+        SearchEnd::Spent => Ok(Attempt::Said(receipt(search.into_derivation()))),
+        SearchEnd::Moved { now } => Ok(Attempt::Moved { now }),
     }
 }
 
@@ -285,8 +285,8 @@ fn guide_by(
     set: &[u32],
     vars: u32,
     ties: Ties,
-) -> Result<Guide, NoMemory> {
-    let mut guide = Guide::new(alloc, vars, ties)?;
+) -> Result<DecisionGuide, NoMemory> {
+    let mut guide = DecisionGuide::new(alloc, vars, ties)?;
     let mut var: u32 = 0;
     for s in set {
         let last = task.last.get(*s);

@@ -6,17 +6,17 @@ ghost use Rattle.cdcl_prove.specs.Picks.{IsOpenVariable, PickIs, VariableIs};
 
 use crate::policy::{STEPS_OF_CONFLICT, VARIABLE_DECAY};
 use clause_db::lit::Lit;
-use kept_search::order::Order;
+use kept_search::order::ActivityOrder;
 use kept_search::ties::Ties;
 use std::alloc::{AllocError as NoMemory, Global};
-use trail_prop::entry::Entry;
+use trail_prop::entry::TrailEntry;
 use trail_prop::trail::Trail;
 
 /// What guides the search: the order in which variables are decided, the value that each is tried with first, and the
 /// level at which each got its value. Nothing that the solver says rests on it.
 #[derive(Drop)]
-pub(crate) struct Guide {
-    order: Order,
+pub(crate) struct DecisionGuide {
+    order: ActivityOrder,
     // For each variable, from place 1 on.
     phases: Vec<bool>,
     levels: Vec<u32>,
@@ -24,14 +24,14 @@ pub(crate) struct Guide {
     noted: usize,
 }
 
-impl Guide {
+impl DecisionGuide {
     /// No variable is preferred, so that the ties alone order them, and each is tried as false.
-    pub(crate) fn new(alloc: Global, vars: u32, ties: Ties) -> Result<Guide, NoMemory> {
+    pub(crate) fn new(alloc: Global, vars: u32, ties: Ties) -> Result<DecisionGuide, NoMemory> {
         let mut phases = Vec::new(alloc);
         phases.resize(vars as usize + 1, false)?;
         let mut levels = Vec::new(alloc);
         levels.resize(vars as usize + 1, 0)?;
-        Ok(Guide {
+        Ok(DecisionGuide {
             order: ordered(alloc, vars, ties)?,
             phases,
             levels,
@@ -46,7 +46,7 @@ impl Guide {
     }
 
     /// Notes the levels of the entries that are new on the trail.
-    pub(crate) fn note(&mut self, entries: &[Entry]) {
+    pub(crate) fn note(&mut self, entries: &[TrailEntry]) {
         for at in self.noted..entries.len() {
             let var = entries[at].lit.var as usize;
             if var < self.levels.len() {
@@ -58,7 +58,7 @@ impl Guide {
 
     /// Before the trail is cut above a level: its variables from there on can be decided again, with the values that they
     /// have now.
-    pub(crate) fn release(&mut self, entries: &[Entry], level: u32) -> Result<(), NoMemory> {
+    pub(crate) fn release(&mut self, entries: &[TrailEntry], level: u32) -> Result<(), NoMemory> {
         for at in (0..entries.len()).rev() {
             let entry = entries[at];
             if entry.level <= level {
@@ -140,9 +140,9 @@ impl Guide {
 }
 
 // The variables from 1 to so many, each as active as the ties draw it; where that is alike, in their order.
-fn ordered(alloc: Global, vars: u32, ties: Ties) -> Result<Order, NoMemory> {
+fn ordered(alloc: Global, vars: u32, ties: Ties) -> Result<ActivityOrder, NoMemory> {
     let mut ties = ties;
-    let mut order = Order::new(alloc, vars, VARIABLE_DECAY)?;
+    let mut order = ActivityOrder::new(alloc, vars, VARIABLE_DECAY)?;
     for v in 0..vars {
         order.raise(v + 1, ties.draw());
         order.put(v + 1)?;

@@ -2,14 +2,14 @@
 
 ghost use Rattle.std.specs.Prelude.{ℕ, ◌≡◌, ◌≤◌, ◌⊎◌, true, OnOk, length};
 ghost use Rattle.cdcl_prove.specs.Analysis.{has_met, mark_of, resolves};
-ghost use Rattle.cdcl_prove.specs.declared.mark.Mark.TheVariants.{Unmet};
+ghost use Rattle.cdcl_prove.specs.declared.mark.VariableMark.TheVariants.{Unmet};
 
 use std::alloc::{AllocError as NoMemory, Global};
 use std::marker::Model;
 
 /// What an analysis of a conflict has done with a variable.
 #[derive(Clone, Copy, Debug, PartialEq, Eq)]
-pub(crate) enum Mark {
+pub(crate) enum VariableMark {
     /// It has not met it.
     Unmet,
     /// It has met it, and keeps its literal for the line.
@@ -20,23 +20,23 @@ pub(crate) enum Mark {
 
 /// A mark for each variable, from variable 1 on.
 #[derive(Drop)]
-pub(crate) struct Marks {
-    marks: Vec<Mark>,
+pub(crate) struct VariableMarks {
+    marks: Vec<VariableMark>,
 }
 
-impl Model for Marks {
+impl Model for VariableMarks {
     ghost use Rattle.std.specs.Prelude.{List};
-    ghost use Rattle.cdcl_prove.specs.declared.mark.Mark.{Mark};
+    ghost use Rattle.cdcl_prove.specs.declared.mark.VariableMark.{VariableMark};
 
-    ghost Value = { List Mark };
+    ghost Value = { List VariableMark };
 
     ghost view = { λ m. m.marks.items };
 }
 
-impl Marks {
+impl VariableMarks {
     /// No mark.
-    pub(crate) fn new(alloc: Global) -> Marks {
-        Marks {
+    pub(crate) fn new(alloc: Global) -> VariableMarks {
+        VariableMarks {
             marks: Vec::new(alloc),
         }
     }
@@ -47,12 +47,12 @@ impl Marks {
         ensures unmet { OnOk result ((v : ℕ) → mark_of self.new v ≡ Unmet) }
     {
         self.marks.clear();
-        self.marks.resize(vars as usize, Mark::Unmet)?;
+        self.marks.resize(vars as usize, VariableMark::Unmet)?;
         Ok(())
     }
 
     /// The mark of a variable.
-    pub(crate) fn get(&self, var: u64) -> Mark
+    pub(crate) fn get(&self, var: u64) -> VariableMark
         requires from_one { 1 ≤ var }
         requires within { var ≤ length self.now }
         ensures { result ≡ mark_of self.now var }
@@ -69,10 +69,10 @@ impl Marks {
         ensures still { (v : ℕ) → has_met self.old v ≡ true → has_met self.new v ≡ true }
         ensures same { (v : ℕ) → resolves self.new v ≡ resolves self.old v }
     {
-        if self.get(var) != Mark::Unmet {
+        if self.get(var) != VariableMark::Unmet {
             return false;
         }
-        self.marks[(var - 1) as usize] = Mark::Kept;
+        self.marks[(var - 1) as usize] = VariableMark::Kept;
         true
     }
 
@@ -84,6 +84,6 @@ impl Marks {
         ensures still { (v : ℕ) → has_met self.old v ≡ true → has_met self.new v ≡ true }
         ensures others { (v : ℕ) → 1 ≤ v → resolves self.new v ≡ true → (v ≡ var) ⊎ (resolves self.old v ≡ true) }
     {
-        self.marks[(var - 1) as usize] = Mark::Resolved;
+        self.marks[(var - 1) as usize] = VariableMark::Resolved;
     }
 }

@@ -1,17 +1,17 @@
 //! The whole search: step after step, until it is decided, its budget is spent or another query stands.
 
 ghost use Rattle.std.specs.Prelude.{◌≡◌, ◌≤◌, IfOk, length};
-ghost use Rattle.cdcl_prove.specs.Search.{OutcomeIs};
+ghost use Rattle.cdcl_prove.specs.Search.{SearchEndIs};
 
 use crate::policy::LINES_BETWEEN_POLLS;
-use crate::search::{Search, Step};
+use crate::search::{Search, SearchStep};
 use cert_types::poll::{Poll, moved};
 use rup_check::line::Line;
 use std::alloc::{AllocError as NoMemory, Global};
 
 /// How a search ended.
 #[derive(Debug, Drop)]
-pub(crate) enum Outcome {
+pub(crate) enum SearchEnd {
     /// Every variable has a value, and no clause is false.
     Model,
     /// The last line of a refutation, which is empty.
@@ -30,10 +30,10 @@ pub(crate) fn solve<P: Poll>(
     budget: u32,
     number: u64,
     poll: &mut P,
-) -> Result<Outcome, NoMemory>
+) -> Result<SearchEnd, NoMemory>
     requires { length search.old.derivation.lines ≤ budget }
     ensures formula { search.new.derivation.formula ≡ search.old.derivation.formula }
-    ensures outcome { IfOk result (λ outcome. OutcomeIs search.new.derivation budget number (P.last poll.new) outcome) }
+    ensures outcome { IfOk result (λ outcome. SearchEndIs search.new.derivation budget number (P.last poll.new) outcome) }
     ensures goes { P.goes poll.old poll.new }
 {
     'lines: while search.derivation.len() < budget as usize {
@@ -43,13 +43,13 @@ pub(crate) fn solve<P: Poll>(
             search.derivation.len(),
             LINES_BETWEEN_POLLS as usize,
         ) {
-            return Ok(Outcome::Moved { now });
+            return Ok(SearchEnd::Moved { now });
         }
         match search.step(alloc)? {
-            Step::Learnt => {}
-            Step::Model => return Ok(Outcome::Model),
-            Step::Refuted(line) => return Ok(Outcome::Refuted(line)),
+            SearchStep::Learnt => {}
+            SearchStep::Model => return Ok(SearchEnd::Model),
+            SearchStep::Refuted(line) => return Ok(SearchEnd::Refuted(line)),
         }
     }
-    Ok(Outcome::Spent)
+    Ok(SearchEnd::Spent)
 }

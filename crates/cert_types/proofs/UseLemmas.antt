@@ -5,11 +5,11 @@ use Rattle.std.proofs.lemmas.Bool.{and_parts, and_from, cond-true, cond-false, l
 use Rattle.std.proofs.lemmas.List.{get_or-replicate}
 use Rattle.std.proofs.lemmas.List.Sums.{fold_more, sum_by-append}
 use Rattle.clause_db.specs.declared.lit.Lit.{Lit}
-use Rattle.clause_db.specs.Clause.{has_lit, same_lit}
+use Rattle.clause_db.specs.Clause.{has_lit, same_lit, code_of}
 use Rattle.clause_db.proofs.Literals.{same_lit-refl}
 use Rattle.cnf_encode.proofs.PairLemmas.{list_all-get}
 use Rattle.rup_check.specs.declared.line.Line.{Line}
-use Rattle.rup_check.specs.Known.{code_of, is_within}
+use Rattle.rup_check.specs.Known.{is_lit_within}
 use Rattle.rup_check.proofs.Marking.{code-below, within-from}
 use Rattle.cert_types.specs.Fresh.{stands_within}
 use Rattle.cert_types.specs.Uses.{AreCounted, UsesView, are_used, count_of, is_used, one_more, times_in, times_of}
@@ -69,12 +69,12 @@ counted-end uses left lits l t is h =
     h.1 ∙ ap (λ n. min n (2 ^ 32 - 1)) same
 
 -- one line more
-pub counted-line : (vars : ℕ) (old new : UsesView) (lines : List Line) (i : ℕ) (line : Line) (lits : List Lit) → i < length lines → line ≡ get_or lines i line → lits ≡ line.lits → AreCounted vars (take i lines) old → new.vars ≡ old.vars → ((l : Lit) (t : ℕ) → is_within old.vars l ≡ true → count_of old l ≡ min t (2 ^ 32 - 1) → count_of new l ≡ min (t + times_in lits l) (2 ^ 32 - 1)) → AreCounted vars (take (i + 1) lines) new
+pub counted-line : (vars : ℕ) (old new : UsesView) (lines : List Line) (i : ℕ) (line : Line) (lits : List Lit) → i < length lines → line ≡ get_or lines i line → lits ≡ line.lits → AreCounted vars (take i lines) old → new.vars ≡ old.vars → ((l : Lit) (t : ℕ) → is_lit_within old.vars l ≡ true → count_of old l ≡ min t (2 ^ 32 - 1) → count_of new l ≡ min (t + times_in lits l) (2 ^ 32 - 1)) → AreCounted vars (take (i + 1) lines) new
 counted-line vars old new lines i line lits below is read h same more = record {
   of_vars = same ∙ h.of_vars;
   each = λ l w.
       let whole : times_of (take (i + 1) lines) l ≡ times_of (take i lines) l + times_in line.lits l = fold_more (λ a (x : Line). a + times_in x.lits l) 0 lines i line below ∙ ap (λ (x : Line). times_of (take i lines) l + times_in x.lits l) (sym is) in
-      more l (times_of (take i lines) l) (ap (λ v. is_within v l) h.of_vars ∙ w) (h.each l w)
+      more l (times_of (take i lines) l) (ap (λ v. is_lit_within v l) h.of_vars ∙ w) (h.each l w)
       ∙ ap (λ n. min n (2 ^ 32 - 1)) (ap (λ (z : List Lit). times_of (take i lines) l + times_in z l) read ∙ sym whole);
 }
 
@@ -83,7 +83,7 @@ pub counted-none : (vars : ℕ) (counts : List ℕ) (lines : List Line) → coun
 counted-none vars counts lines e = record {
   of_vars = refl;
   each = λ l w.
-      cond-true (is_within vars l) (get_or counts (code_of l) 0) (2 ^ 32 - 1) w
+      cond-true (is_lit_within vars l) (get_or counts (code_of l) 0) (2 ^ 32 - 1) w
       ∙ ap (λ (z : List ℕ). get_or z (code_of l) 0) e
       ∙ get_or-replicate (2 * vars) (code_of l) 0 0 (code-below vars l (within-from vars l w));
 }
@@ -97,11 +97,11 @@ positive n l = lt-ltb 0 (min n (2 ^ 32 - 1)) (min-ge_one n l)
     min-ge_one n l = grind (arith, l)
 
 used-by : (vars : ℕ) (uses : UsesView) (lines : List Line) (l : Lit) → AreCounted vars lines uses → 1 ≤ times_of lines l → is_used uses l ≡ true
-used-by vars uses lines l h some = go (is_within uses.vars l) refl
+used-by vars uses lines l h some = go (is_lit_within uses.vars l) refl
   where
-    go : (b : Bool) → is_within uses.vars l ≡ b → is_used uses l ≡ true
-    go true w = ap (nat_lt 0) (h.each l (ap (λ v. is_within v l) (sym h.of_vars) ∙ w)) ∙ positive (times_of lines l) some
-    go false w = ap (nat_lt 0) (cond-false (is_within uses.vars l) (get_or uses.counts (code_of l) 0) (2 ^ 32 - 1) w)
+    go : (b : Bool) → is_lit_within uses.vars l ≡ b → is_used uses l ≡ true
+    go true w = ap (nat_lt 0) (h.each l (ap (λ v. is_lit_within v l) (sym h.of_vars) ∙ w)) ∙ positive (times_of lines l) some
+    go false w = ap (nat_lt 0) (cond-false (is_lit_within uses.vars l) (get_or uses.counts (code_of l) 0) (2 ^ 32 - 1) w)
 
 used-lits : (uses : UsesView) (lits : List Lit) → ((l : Lit) → 1 ≤ times_in lits l → is_used uses l ≡ true) → are_used uses lits ≡ true
 used-lits uses [] h = refl

@@ -3,7 +3,7 @@
 
 ghost use Rattle.std.specs.Prelude.{ℕ, ◌≡◌, ◌+◌, ◌-◌, ◌^◌, IfOk, min, true};
 ghost use Rattle.clause_db.specs.declared.lit.Lit.{Lit};
-ghost use Rattle.rup_check.specs.Known.{is_within};
+ghost use Rattle.rup_check.specs.Known.{is_lit_within};
 ghost use Rattle.cert_types.specs.Uses.{AreCounted, are_used, count_of, one_more, times_in};
 
 use clause_db::lit::Lit;
@@ -49,7 +49,7 @@ impl Uses {
     // Counts one line more.
     fn count_all(&mut self, lits: Literals<'_>)
         ensures vars { self.new.vars ≡ self.old.vars }
-        ensures counted { (l : Lit) (t : ℕ) → is_within self.old.vars l ≡ true → count_of self.old l ≡ min t (2 ^ 32 - 1) → count_of self.new l ≡ min (t + times_in lits.entry l) (2 ^ 32 - 1) }
+        ensures counted { (l : Lit) (t : ℕ) → is_lit_within self.old.vars l ≡ true → count_of self.old l ≡ min t (2 ^ 32 - 1) → count_of self.new l ≡ min (t + times_in lits.entry l) (2 ^ 32 - 1) }
     {
         let mut left = lits;
         while let Some(lit) = left.next() {
@@ -60,7 +60,7 @@ impl Uses {
     // Counts one literal more.
     fn count(&mut self, lit: Lit)
         ensures vars { self.new.vars ≡ self.old.vars }
-        ensures counted { (l : Lit) → is_within self.old.vars l ≡ true → count_of self.new l ≡ one_more self.old lit l }
+        ensures counted { (l : Lit) → is_lit_within self.old.vars l ≡ true → count_of self.new l ≡ one_more self.old lit l }
     {
         if !within(self.vars, lit) {
             return;

@@ -5,29 +5,29 @@ use Rattle.pack_defs.specs.declared.domain.Domain.{Domain}
 use Rattle.pack_defs.specs.declared.pair.Pair.{Pair}
 use Rattle.pack_defs.specs.Book.{BookView, cut_book}
 use Rattle.pack_defs.specs.Examples.{pair, three_stations}
-use Rattle.cnf_encode.specs.Decode.{listed}
+use Rattle.cnf_encode.specs.Decode.{listed_model}
 use Rattle.cnf_encode.specs.Formula.{packing_formula}
 
 -- a station that may use channels 14 and 15
 abbrev pub example_domain : ℕ → Domain
 example_domain s = record { station = s; channels = 14 ∷ 15 ∷ [] }
 
-two_stations_model : Satisfies (listed (true ∷ false ∷ false ∷ true ∷ [])) (packing_formula three_stations (1 ∷ 2 ∷ []))
+two_stations_model : Satisfies (listed_model (true ∷ false ∷ false ∷ true ∷ [])) (packing_formula three_stations (1 ∷ 2 ∷ []))
 unfolding packing_formula three_stations
 two_stations_model = refl
 
-short_model : Satisfies (listed (false ∷ true ∷ true ∷ [])) (packing_formula three_stations (1 ∷ 2 ∷ []))
+short_model : Satisfies (listed_model (false ∷ true ∷ true ∷ [])) (packing_formula three_stations (1 ∷ 2 ∷ []))
 unfolding packing_formula three_stations
 short_model = refl
 
 -- the first station on the first channel and the second on the other, and the other way round, without the last variable
-pub two_stations_hold : (book : BookView) → book ≡ three_stations → Satisfies (listed (true ∷ false ∷ false ∷ true ∷ [])) (packing_formula book (1 ∷ 2 ∷ []))
+pub two_stations_hold : (book : BookView) → book ≡ three_stations → Satisfies (listed_model (true ∷ false ∷ false ∷ true ∷ [])) (packing_formula book (1 ∷ 2 ∷ []))
 two_stations_hold book e =
-    subst (λ b. Satisfies (listed (true ∷ false ∷ false ∷ true ∷ [])) (packing_formula b (1 ∷ 2 ∷ []))) (sym e) two_stations_model
+    subst (λ b. Satisfies (listed_model (true ∷ false ∷ false ∷ true ∷ [])) (packing_formula b (1 ∷ 2 ∷ []))) (sym e) two_stations_model
 
-pub short_model_holds : (book : BookView) → book ≡ three_stations → Satisfies (listed (false ∷ true ∷ true ∷ [])) (packing_formula book (1 ∷ 2 ∷ []))
+pub short_model_holds : (book : BookView) → book ≡ three_stations → Satisfies (listed_model (false ∷ true ∷ true ∷ [])) (packing_formula book (1 ∷ 2 ∷ []))
 short_model_holds book e =
-    subst (λ b. Satisfies (listed (false ∷ true ∷ true ∷ [])) (packing_formula b (1 ∷ 2 ∷ []))) (sym e) short_model
+    subst (λ b. Satisfies (listed_model (false ∷ true ∷ true ∷ [])) (packing_formula b (1 ∷ 2 ∷ []))) (sym e) short_model
 
 -- the book that the tests build is the example's
 pub built-three : (domains : List Domain) (pairs : List Pair) →

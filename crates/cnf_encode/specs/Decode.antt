@@ -7,8 +7,8 @@ use Rattle.pack_defs.specs.Book.{BookView, domain_of}
 use Rattle.cnf_encode.specs.Formula.{variable_of}
 
 -- the model that a list says, variable 1 first; a variable past its end is false
-abbrev pub listed : List Bool → ℕ → Bool
-listed values v = slice_index_or values (v - 1) false
+abbrev pub listed_model : List Bool → ℕ → Bool
+listed_model values v = slice_index_or values (v - 1) false
 
 -- the first channel of the station's domain whose variable is true
 abbrev pub chosen : BookView → List ℕ → (ℕ → Bool) → ℕ → ℕ

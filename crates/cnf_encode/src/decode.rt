@@ -5,7 +5,7 @@ ghost use Rattle.clause_db.specs.Clause.{Satisfies};
 ghost use Rattle.pack_defs.specs.Lists.{is_ascending};
 ghost use Rattle.pack_defs.specs.Packing.{IsPacking};
 ghost use Rattle.cnf_encode.specs.ByStation.{AreOffsets};
-ghost use Rattle.cnf_encode.specs.Decode.{chosen, decoded, listed};
+ghost use Rattle.cnf_encode.specs.Decode.{chosen, decoded, listed_model};
 ghost use Rattle.cnf_encode.specs.Formula.{packing_formula};
 
 use crate::numbering::{channels_of, offsets};
@@ -23,8 +23,8 @@ pub fn decode(
     model: &[bool],
 ) -> Result<ChannelMap, NoMemory>
     requires ascending { IsTrue (is_ascending set.now) }
-    requires model { Satisfies (listed model.now) (packing_formula book.now set.now) }
-    ensures decoded { IfOk result (λ map. map ≡ decoded book.now set.now (listed model.now)) }
+    requires model { Satisfies (listed_model model.now) (packing_formula book.now set.now) }
+    ensures decoded { IfOk result (λ map. map ≡ decoded book.now set.now (listed_model model.now)) }
     ensures packing { IfOk result (λ map. IsPacking book.now set.now map) }
 {
     let offsets = offsets(alloc, book, set)?;
@@ -40,8 +40,8 @@ fn chosen(book: &Book, set: &[u32], offsets: &[u32], i: usize, model: &[bool]) -
     requires ascending { IsTrue (is_ascending set.now) }
     requires offsets { AreOffsets book.now set.now offsets.now }
     requires in_set { i < length set.now }
-    requires model { Satisfies (listed model.now) (packing_formula book.now set.now) }
-    ensures { result ≡ chosen book.now set.now (listed model.now) (slice_index set.now i) }
+    requires model { Satisfies (listed_model model.now) (packing_formula book.now set.now) }
+    ensures { result ≡ chosen book.now set.now (listed_model model.now) (slice_index set.now i) }
 {
     for (j, c) in channels_of(book, set[i]).iter().enumerate() {
         if is_true(model, offsets[i] as usize + j + 1) {
@@ -55,7 +55,7 @@ fn chosen(book: &Book, set: &[u32], offsets: &[u32], i: usize, model: &[bool]) -
 // Whether the variable, from 1, is true.
 fn is_true(model: &[bool], v: usize) -> bool
     requires { 1 ≤ v }
-    ensures { result ≡ listed model.now v }
+    ensures { result ≡ listed_model model.now v }
 {
     v <= model.len() && model[v - 1]
 }

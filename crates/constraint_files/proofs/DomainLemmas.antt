@@ -8,7 +8,7 @@ use Rattle.std.proofs.lemmas.List.FromFn.{filter_of_map_range_with_len_more}
 use Rattle.csv.specs.Records.{field_at}
 use Rattle.constraint_files.specs.Domains.{channels_to_keep, domain_naming, domain_row}
 use Rattle.constraint_files.specs.Numbers.{number, numbers}
-use Rattle.constraint_files.specs.Steps.{◌>>=◌}
+use Rattle.pack_defs.specs.Steps.{◌>>=◌}
 use Rattle.constraint_files.specs.declared.error.RowWhy.TheVariants.{ShortRow, BadKey, BadNumber}
 
 -- a filter goes by what its test says of the range's numbers

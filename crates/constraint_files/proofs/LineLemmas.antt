@@ -2,7 +2,7 @@
 use Rattle.std.proofs.Common.{◌≡◌, ◌<◌, ◌≤◌, ◌+◌, ◌∷◌, [], ℕ, List, Result, Ok, zero, suc, refl, arith, length, take, drop, get_or, eq-eqb, ne_eqb}
 use Rattle.std.proofs.lemmas.List.{drop_all, drop_more}
 use Rattle.constraint_files.specs.Records.{after_lines, after_records, line_records, lines_of, past_line}
-use Rattle.constraint_files.specs.Steps.{◌>>=◌}
+use Rattle.pack_defs.specs.Steps.{◌>>=◌}
 use Rattle.constraint_files.specs.declared.error.RowWhy.{RowWhy}
 
 -- the first line ends at the first 0A

@@ -14,7 +14,7 @@ use Rattle.pack_defs.specs.declared.domain.Domain.{Domain}
 use Rattle.constraint_files.specs.Domains.{add_domain_row, channels_to_keep, domain_naming, domain_row, domains_of, kept_channels, put_domain, channels_of, with_domain}
 use Rattle.constraint_files.specs.Numbers.{is_channel, number, numbers}
 use Rattle.constraint_files.specs.Records.{after_lines, after_records, line_records, lines_of, past_line}
-use Rattle.constraint_files.specs.Steps.{◌>>=◌}
+use Rattle.pack_defs.specs.Steps.{◌>>=◌}
 use Rattle.constraint_files.specs.declared.error.RowWhy.{RowWhy}
 use Rattle.constraint_files.specs.declared.error.RowWhy.TheVariants.{BadKey, BadNumber, ChannelRange, SecondDomain, TooMany}
 

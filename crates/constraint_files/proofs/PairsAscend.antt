@@ -8,7 +8,7 @@ use Rattle.pack_defs.specs.declared.pair.Pair.{Pair}
 use Rattle.constraint_files.specs.declared.interference_row.Row.{Row}
 use Rattle.constraint_files.specs.Domains.{channels_of}
 use Rattle.constraint_files.specs.Records.{lines_of}
-use Rattle.constraint_files.specs.Steps.{◌>>=◌}
+use Rattle.pack_defs.specs.Steps.{◌>>=◌}
 use Rattle.constraint_files.specs.declared.error.RowWhy.{RowWhy}
 use Rattle.constraint_files.specs.declared.error.RowWhy.TheVariants.{TooMany}
 use Rattle.constraint_files.specs.Rows.{PairsView, add_row, if_few, interference_row, pair_of, pairs_of, with_kept, with_other, with_pair}

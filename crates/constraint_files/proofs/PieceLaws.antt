@@ -8,7 +8,7 @@ use Rattle.constraint_files.specs.Pieces.{Fed, begun_line, fed_if, fed_on, finis
 use Rattle.constraint_files.specs.Reads.{Reads}
 use Rattle.constraint_files.specs.Records.{after_lines, after_records, line_records, lines_of, past_line}
 use Rattle.constraint_files.specs.Rows.{ArePairs, PairsView, RowsView, add_row, add_row_over, pairs_fed, pairs_of}
-use Rattle.constraint_files.specs.Steps.{◌>>=◌}
+use Rattle.pack_defs.specs.Steps.{◌>>=◌}
 use Rattle.constraint_files.specs.declared.error.ReadErr.{ReadErr}
 use Rattle.constraint_files.specs.declared.error.ReadErr.TheVariants.{Row, NoMemory}
 use Rattle.constraint_files.specs.declared.error.RowWhy.{RowWhy}

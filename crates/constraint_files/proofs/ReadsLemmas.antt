@@ -3,7 +3,7 @@ use Rattle.std.proofs.Common.{◌≡◌, ◌∙◌, ◌<◌, ◌+◌, ◌∷◌,
 use Rattle.constraint_files.specs.Records.{after_lines, after_records, line_records, lines_of, past_line}
 use Rattle.constraint_files.proofs.LineLemmas.{after-next, line-next}
 use Rattle.constraint_files.specs.Reads.{Changes, Takes}
-use Rattle.constraint_files.specs.Steps.{◌>>=◌}
+use Rattle.pack_defs.specs.Steps.{◌>>=◌}
 use Rattle.constraint_files.specs.declared.error.ReadErr.TheVariants.{Row}
 use Rattle.constraint_files.specs.declared.error.RowErr.{RowErr}
 use Rattle.constraint_files.specs.declared.error.RowErr.TheVariants.{NoMemory, Refused}

@@ -8,7 +8,7 @@ use Rattle.constraint_files.specs.declared.interference_row.Offset.{Offset}
 use Rattle.constraint_files.specs.declared.interference_row.Row.{Row}
 use Rattle.constraint_files.specs.Numbers.{number, numbers}
 use Rattle.constraint_files.specs.Rows.{interference_row, offset_of, row_on}
-use Rattle.constraint_files.specs.Steps.{◌>>=◌}
+use Rattle.pack_defs.specs.Steps.{◌>>=◌}
 
 -- the row of these numbers, if each is there
 abbrev pub row_by : Offset → Option ℕ → Option ℕ → Option ℕ → Option (List ℕ) → Result Row RowWhy

@@ -8,8 +8,8 @@ use Rattle.csv.specs.declared.parser.State.{State}
 use Rattle.csv.specs.declared.parser.State.TheVariants as st
 use Rattle.pack_defs.specs.Lists.{is_empty}
 use Rattle.constraint_files.specs.Records.{after_lines, after_records, kept_fields, lines_of, onto_first, past_line}
-use Rattle.constraint_files.specs.Runs.{IsRefusedBehind, after_raw, after_raws, is_plain, is_special, line_at, raw_records}
-use Rattle.constraint_files.specs.Steps.{◌>>=◌}
+use Rattle.constraint_files.specs.Runs.{IsRefusedBehind, after_raw, after_raws, is_plain, is_special, line_number_at, raw_records}
+use Rattle.pack_defs.specs.Steps.{◌>>=◌}
 use Rattle.constraint_files.specs.declared.error.ReadErr.TheVariants.{Row}
 use Rattle.constraint_files.specs.declared.error.RowWhy.{RowWhy}
 use Rattle.constraint_files.proofs.CsvLemmas.{records-rows, rows, rows-next, rows-of-lines, rows_from}
@@ -83,17 +83,17 @@ split (x ∷ xs) ys (d ∷ done) left r e =
     ]
 
 -- the line of a record, by the first line
-pub line_at-stops : (n before : ℕ) (line : List ℕ) (lines : List (List ℕ)) → before < length (raw_records line) → line_at n before (line ∷ lines) ≡ n
-unfolding line_at
+pub line_at-stops : (n before : ℕ) (line : List ℕ) (lines : List (List ℕ)) → before < length (raw_records line) → line_number_at n before (line ∷ lines) ≡ n
+unfolding line_number_at
 line_at-stops n before line lines h = rw (lt-ltb before (length (raw_records line)) h) refl
 
 pub line_at-next : (n before : ℕ) (line : List ℕ) (lines : List (List ℕ)) → length (raw_records line) ≤ before
-    → line_at n before (line ∷ lines) ≡ line_at (n + 1) (before - length (raw_records line)) lines
-unfolding line_at
+    → line_number_at n before (line ∷ lines) ≡ line_number_at (n + 1) (before - length (raw_records line)) lines
+unfolding line_number_at
 line_at-next n before line lines h = rw (le-ltb before (length (raw_records line)) h) refl
 
-pub line_at-none : (n before : ℕ) → line_at n before (lines_of []) ≡ n
-unfolding line_at lines_of
+pub line_at-none : (n before : ℕ) → line_number_at n before (lines_of []) ≡ n
+unfolding line_number_at lines_of
 line_at-none n before = refl
 
 no-rows : (done left : List (List (List ℕ))) (r : List (List ℕ)) → [] ≡ done ++ (r ∷ left) → ⊥
@@ -103,7 +103,7 @@ no-rows (d ∷ done) left r e = cc
 -- lines of which a record is refused
 lines-stop : {S : Type 0} (add : S → List (List ℕ) → Result S RowWhy) (s m : S) (n : ℕ) (lines : List (List ℕ)) (done left : List (List (List ℕ))) (r : List (List ℕ)) (why : RowWhy)
     → flat_map raw_records lines ≡ done ++ (r ∷ left) → after_raws add s done ≡ Ok m → after_raw add m r ≡ Err why
-    → after_lines add s n lines ≡ Err (Row (line_at n (length done) lines) why)
+    → after_lines add s n lines ≡ Err (Row (line_number_at n (length done) lines) why)
 unfolding after_lines
 lines-stop add s m n [] done left r why all taken is = absurd (no-rows done left r all)
 lines-stop {S = S} add s m n (line ∷ lines) done left r why all taken is = elim (split (raw_records line) (flat_map raw_records lines) done left r all) [
@@ -119,8 +119,8 @@ lines-stop {S = S} add s m n (line ∷ lines) done left r why all taken is = eli
 ]
   where
     go : (rest : List (List (List ℕ))) (o : Result S RowWhy)
-        → ((k : S) → after_raws add k rest ≡ Ok m → after_lines add k (n + 1) lines ≡ Err (Row (line_at (n + 1) (length rest) lines) why))
-        → (o >>= (λ k. after_raws add k rest)) ≡ Ok m → past_line n o (λ k. after_lines add k (n + 1) lines) ≡ Err (Row (line_at (n + 1) (length rest) lines) why)
+        → ((k : S) → after_raws add k rest ≡ Ok m → after_lines add k (n + 1) lines ≡ Err (Row (line_number_at (n + 1) (length rest) lines) why))
+        → (o >>= (λ k. after_raws add k rest)) ≡ Ok m → past_line n o (λ k. after_lines add k (n + 1) lines) ≡ Err (Row (line_number_at (n + 1) (length rest) lines) why)
     go rest (Err w) later h = cc
     go rest (Ok k) later h = later k h
 
@@ -178,7 +178,7 @@ pub plain-added : {S : Type 0} (add : S → List (List ℕ) → Result S RowWhy)
 plain-added add s t n bytes plain e = lines-added add s t n (lines_of bytes) (rw (plain-lines bytes plain) at e)
 
 pub plain-stops : {S : Type 0} (add : S → List (List ℕ) → Result S RowWhy) (s : S) (n before : ℕ) (bytes : List ℕ) (why : RowWhy) → is_plain bytes ≡ true
-    → IsRefusedBehind add s (raw_records bytes) before why → after_lines add s n (lines_of bytes) ≡ Err (Row (line_at n before (lines_of bytes)) why)
+    → IsRefusedBehind add s (raw_records bytes) before why → after_lines add s n (lines_of bytes) ≡ Err (Row (line_number_at n before (lines_of bytes)) why)
 plain-stops add s n before bytes why plain h =
     rw (← h.count) (lines-stop add s h.made n (lines_of bytes) h.done h.left h.refused why (sym (plain-lines bytes plain) ∙ h.all) h.taken h.is)
 

@@ -9,7 +9,7 @@ use Rattle.pack_defs.specs.declared.limits.TheConstants.{MOST_DOMAIN_ROWS}
 use Rattle.constraint_files.specs.Numbers.{number, numbers, is_channel}
 use Rattle.constraint_files.specs.Pieces.{Fed, fed_on}
 use Rattle.constraint_files.specs.Records.{lines_of, after_lines}
-use Rattle.constraint_files.specs.Steps.{◌>>=◌}
+use Rattle.pack_defs.specs.Steps.{◌>>=◌}
 use Rattle.constraint_files.specs.declared.error.ReadErr.{ReadErr}
 use Rattle.constraint_files.specs.declared.error.RowWhy.{RowWhy}
 use Rattle.constraint_files.specs.declared.error.RowWhy.TheVariants.{ShortRow, BadKey, BadNumber, ChannelRange, SecondDomain, TooMany}

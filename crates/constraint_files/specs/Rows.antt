@@ -17,7 +17,7 @@ use Rattle.constraint_files.specs.Domains.{channels_of}
 use Rattle.constraint_files.specs.Numbers.{number, numbers, is_channel}
 use Rattle.constraint_files.specs.Pieces.{Fed, fed_on}
 use Rattle.constraint_files.specs.Records.{lines_of, after_lines}
-use Rattle.constraint_files.specs.Steps.{◌>>=◌}
+use Rattle.pack_defs.specs.Steps.{◌>>=◌}
 
 -- how far the second channel of a row stands above the first, or below it, by the row's key
 abbrev pub offset_of : List ℕ → Option Offset
@@ -39,8 +39,8 @@ row_on offset a b s others =
     else Err ChannelRange
 
 -- the row of these fields
-abbrev pub row_from : Offset → List ℕ → List ℕ → List ℕ → List (List ℕ) → Result Row RowWhy
-row_from offset a b s others = do
+abbrev pub row_of_fields : Offset → List ℕ → List ℕ → List ℕ → List (List ℕ) → Result Row RowWhy
+row_of_fields offset a b s others = do
   channel ← ok_or (number a) BadNumber
   other_channel ← ok_or (number b) BadNumber
   station ← ok_or (number s) BadNumber
@@ -51,7 +51,7 @@ row_from offset a b s others = do
 unfoldable pub interference_row : List (List ℕ) → Result Row RowWhy
 interference_row (key ∷ a ∷ b ∷ s ∷ others) = do
   offset ← ok_or (offset_of key) BadKey
-  row_from offset a b s others
+  row_of_fields offset a b s others
 interference_row _ = Err ShortRow
 
 -- the pair of s on channel a and t on channel b, with the lesser station first

@@ -4,7 +4,7 @@ use Rattle.std.specs.List.{list_all}
 use Rattle.csv.specs.Reading.{default_config, records, strip_bom}
 use Rattle.pack_defs.specs.Lists.{is_empty}
 use Rattle.constraint_files.specs.Records.{kept_fields}
-use Rattle.constraint_files.specs.Steps.{◌>>=◌}
+use Rattle.pack_defs.specs.Steps.{◌>>=◌}
 use Rattle.constraint_files.specs.declared.error.RowWhy.{RowWhy}
 use Rattle.constraint_files.specs.declared.plain_lines.RunErr.{RunErr}
 use Rattle.constraint_files.specs.declared.plain_lines.RunErr.TheVariants.{Refused, NoMemory}
@@ -50,7 +50,7 @@ Runs add state raws (Err (Refused before why)) = IsRefusedBehind add state raws 
 Runs add state raws (Err NoMemory) = ⊤
 
 -- the number of the line in which a record stands that has so many before it, where the first line has this number
-unfoldable pub line_at : ℕ → ℕ → List (List ℕ) → ℕ
-line_at number before [] = number
-line_at number before (line ∷ lines) =
-    if nat_lt before (length (raw_records line)) then number else line_at (number + 1) (before - length (raw_records line)) lines
+unfoldable pub line_number_at : ℕ → ℕ → List (List ℕ) → ℕ
+line_number_at number before [] = number
+line_number_at number before (line ∷ lines) =
+    if nat_lt before (length (raw_records line)) then number else line_number_at (number + 1) (before - length (raw_records line)) lines

@@ -9,7 +9,7 @@ ghost use Rattle.constraint_files.specs.Reads.{Takes};
 
 use crate::error::{RowErr, RowWhy};
 use crate::field::{channel, number_at, numbers_from};
-use crate::record::Record;
+use crate::record::CsvRecord;
 use pack_defs::domain::Domain;
 use pack_defs::items::Items;
 use std::alloc::{AllocError as NoMemory, Global};
@@ -57,7 +57,7 @@ fn domain_naming(alloc: Global, station: u32, named: &[u32]) -> Result<Domain, R
 }
 
 /// The domain that a record gives: `DOMAIN,facility,channel,...`.
-pub(crate) fn domain_row(alloc: Global, fields: &Record) -> Result<Domain, RowErr>
+pub(crate) fn domain_row(alloc: Global, fields: &CsvRecord) -> Result<Domain, RowErr>
     ensures { Takes (domain_row fields.now) result }
 {
     let (Some(key), Some(_)) = (fields.get(0), fields.get(1)) else {

@@ -6,7 +6,7 @@ ghost use Rattle.constraint_files.specs.Reads.{Changes};
 
 use crate::domain_row::domain_row;
 use crate::error::{RowErr, RowWhy};
-use crate::record::Record;
+use crate::record::CsvRecord;
 use crate::table::Table;
 use pack_defs::domain::Domain;
 use pack_defs::items::Items;
@@ -70,7 +70,7 @@ impl DomainTable {
 impl Table for DomainTable {
     ghost add = { add_domain_row };
 
-    fn add_record(&mut self, alloc: Global, fields: &Record) -> Result<(), RowErr> {
+    fn add_record(&mut self, alloc: Global, fields: &CsvRecord) -> Result<(), RowErr> {
         self.put(domain_row(alloc, fields)?)
     }
 }

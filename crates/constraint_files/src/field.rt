@@ -7,7 +7,7 @@ ghost use Rattle.constraint_files.specs.Reads.{Takes};
 ghost use Rattle.constraint_files.specs.declared.error.RowWhy.TheVariants.{BadNumber};
 
 use crate::error::{RowErr, RowWhy};
-use crate::record::Record;
+use crate::record::CsvRecord;
 use pack_defs::items::Items;
 use std::alloc::Global;
 
@@ -35,7 +35,7 @@ pub fn number(field: &[u8]) -> Option<u32>
 }
 
 /// The number of a record's field at this place, if it has one there.
-pub(crate) fn number_at(fields: &Record, i: usize) -> Option<u32>
+pub(crate) fn number_at(fields: &CsvRecord, i: usize) -> Option<u32>
     ensures { result ≡ option_and_then number (field_at fields.now i) }
 {
     number(fields.get(i)?)
@@ -44,7 +44,7 @@ pub(crate) fn number_at(fields: &Record, i: usize) -> Option<u32>
 /// The numbers of a record's fields from this place on.
 pub(crate) fn numbers_from(
     alloc: Global,
-    fields: &Record,
+    fields: &CsvRecord,
     from: usize,
 ) -> Result<Items<u32>, RowErr>
     ensures { Takes (ok_or (numbers (drop from fields.now)) BadNumber) result }

@@ -2,11 +2,11 @@
 
 ghost use Rattle.std.specs.Prelude.{◌≡◌};
 ghost use Rattle.constraint_files.specs.Reads.{Takes};
-ghost use Rattle.constraint_files.specs.Rows.{interference_row, offset_of, row_from, row_on};
+ghost use Rattle.constraint_files.specs.Rows.{interference_row, offset_of, row_of_fields, row_on};
 
 use crate::error::{RowErr, RowWhy};
 use crate::field::{channel, number_at, numbers_from};
-use crate::record::Record;
+use crate::record::CsvRecord;
 use pack_defs::items::Items;
 use std::alloc::Global;
 
@@ -61,7 +61,7 @@ fn row_on(offset: Offset, a: u32, b: u32, station: u32, others: Items<u32>) -> R
 }
 
 /// The row that a record gives: `KEY,a,b,s,t,...`.
-pub(crate) fn interference_row(alloc: Global, fields: &Record) -> Result<Row, RowErr>
+pub(crate) fn interference_row(alloc: Global, fields: &CsvRecord) -> Result<Row, RowErr>
     ensures { Takes (interference_row fields.now) result }
 {
     let (Some(key), Some(_)) = (fields.get(0), fields.get(3)) else {

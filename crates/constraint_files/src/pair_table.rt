@@ -12,7 +12,7 @@ use crate::error::{RowErr, RowWhy};
 use crate::in_order::in_order;
 use crate::interference_row::{Row, interference_row};
 use crate::plain_lines::one_more;
-use crate::record::Record;
+use crate::record::CsvRecord;
 use crate::table::Table;
 use pack_defs::limits::MOST_PAIRS;
 use pack_defs::pair::Pair;
@@ -185,7 +185,7 @@ impl PairTable {
         &mut self,
         alloc: Global,
         domains: &Domains,
-        fields: &Record,
+        fields: &CsvRecord,
     ) -> Result<(), RowErr>
         ensures { Changes (add_row domains.now self.old fields.now) self.new result }
     {
@@ -270,7 +270,7 @@ impl<'a> PairsOver<'a> {
 impl<'a> Table for PairsOver<'a> {
     ghost add = { add_row_over };
 
-    fn add_record(&mut self, alloc: Global, fields: &Record) -> Result<(), RowErr> {
+    fn add_record(&mut self, alloc: Global, fields: &CsvRecord) -> Result<(), RowErr> {
         self.table.add_record(alloc, self.domains, fields)
     }
 }

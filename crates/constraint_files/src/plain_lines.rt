@@ -5,11 +5,11 @@ ghost use Rattle.std.specs.Prelude.{◌≡◌, ◌+◌, IfOk, length};
 ghost use Rattle.csv.specs.Records.{fields_of};
 ghost use Rattle.constraint_files.specs.Reads.{Changes};
 ghost use Rattle.constraint_files.specs.Records.{lines_of};
-ghost use Rattle.constraint_files.specs.Runs.{Runs, after_raw, is_plain, is_special, line_at, raw_records};
+ghost use Rattle.constraint_files.specs.Runs.{Runs, after_raw, is_plain, is_special, line_number_at, raw_records};
 ghost use Rattle.constraint_files.specs.declared.plain_lines.RunErr.TheVariants.{NoMemory as NoRoom};
 
 use crate::error::{RowErr, RowWhy};
-use crate::record::Record;
+use crate::record::CsvRecord;
 use crate::records::{rows_of_line, split_line};
 use crate::table::Table;
 use csv::{ByteRecord, ReaderBuilder};
@@ -63,7 +63,7 @@ pub(crate) fn is_plain(bytes: &[u8]) -> bool
 fn add_row<T: Table>(alloc: Global, table: &mut T, row: ByteRecord) -> Result<(), RowErr>
     ensures { Changes (after_raw T.add table.old (fields_of row)) table.new result }
 {
-    let record = Record::new(row);
+    let record = CsvRecord::new(row);
     if record.len() == 0 {
         return Ok(());
     }
@@ -118,7 +118,7 @@ pub(crate) fn line_at(
     before: u64,
     bytes: &[u8],
 ) -> Result<u64, NoMemory>
-    ensures { IfOk result (λ n. n ≡ line_at number before (lines_of bytes.now)) }
+    ensures { IfOk result (λ n. n ≡ line_number_at number before (lines_of bytes.now)) }
 {
     let mut number = number;
     let mut before = before;

@@ -11,12 +11,12 @@ use std::marker::Model;
 
 /// A record, of which the spaces and tabs round the fields and the empty fields at the end are dropped.
 #[derive(Drop)]
-pub(crate) struct Record {
+pub(crate) struct CsvRecord {
     row: ByteRecord,
     kept: usize,
 }
 
-impl Model for Record {
+impl Model for CsvRecord {
     ghost use Rattle.std.specs.Prelude.{◌≡◌, ◌≤◌, List, ℕ, length, map, take};
     ghost use Rattle.csv.specs.Records.{fields_of};
     ghost use Rattle.constraint_files.specs.Records.{kept_fields, trimmed};
@@ -94,12 +94,12 @@ fn count_kept(row: &ByteRecord) -> usize
     kept
 }
 
-impl Record {
-    pub(crate) fn new(row: ByteRecord) -> Record
+impl CsvRecord {
+    pub(crate) fn new(row: ByteRecord) -> CsvRecord
         ensures { result ≡ kept_fields (fields_of row) }
     {
         let kept = count_kept(&row);
-        Record { row, kept }
+        CsvRecord { row, kept }
     }
 
     /// How many fields it has.

@@ -3,7 +3,7 @@
 ghost use Rattle.constraint_files.specs.Reads.{Changes};
 
 use crate::error::RowErr;
-use crate::record::Record;
+use crate::record::CsvRecord;
 use std::alloc::Global;
 
 /// What the records of a file make.
@@ -15,6 +15,6 @@ pub(crate) trait Table {
     ghost add: { Self → List (List ℕ) → Result Self RowWhy };
 
     /// Adds what a record says. After an error the table is lost.
-    fn add_record(&mut self, alloc: Global, fields: &Record) -> Result<(), RowErr>
+    fn add_record(&mut self, alloc: Global, fields: &CsvRecord) -> Result<(), RowErr>
         ensures { Changes (add self.old fields.now) self.new result };
 }

@@ -4,10 +4,10 @@ use pack_defs::owners::{OwnerLine, Owners};
 use std::alloc::{AllocError as NoMemory, Global};
 
 /// Lines of owners: round, station, whether it stays.
-pub type Lines = &'static [(u32, u32, bool)];
+pub type SaidLines = &'static [(u32, u32, bool)];
 
 /// Owners that say these lines.
-pub fn saying(alloc: Global, lines: Lines) -> Result<Owners, NoMemory> {
+pub fn saying(alloc: Global, lines: SaidLines) -> Result<Owners, NoMemory> {
     let mut owners = Owners::new(alloc);
     for (round, station, stays) in lines {
         owners.add(OwnerLine {
@@ -20,7 +20,7 @@ pub fn saying(alloc: Global, lines: Lines) -> Result<Owners, NoMemory> {
 }
 
 /// Station 2 leaves in round 1 and station 1 in round 2, as they would by values of 70 and 50, and station 3 stays.
-pub const AS_BID: Lines = &[
+pub const AS_BID: SaidLines = &[
     (0, 1, true),
     (1, 1, true),
     (0, 2, true),
@@ -30,7 +30,7 @@ pub const AS_BID: Lines = &[
 ];
 
 /// The same, but that station 2 declines the opening offer.
-pub const SECOND_DECLINES: Lines = &[
+pub const SECOND_DECLINES: SaidLines = &[
     (0, 1, true),
     (1, 1, true),
     (0, 3, true),
@@ -39,7 +39,7 @@ pub const SECOND_DECLINES: Lines = &[
 ];
 
 /// Station 1 leaves in round 1, and says in round 2 that it stays; station 2 leaves in round 2, and station 3 stays.
-pub const FIRST_LEAVES: Lines = &[
+pub const FIRST_LEAVES: SaidLines = &[
     (0, 1, true),
     (2, 1, true),
     (0, 2, true),
@@ -50,7 +50,7 @@ pub const FIRST_LEAVES: Lines = &[
 ];
 
 /// Station 1 stays in each round, and the others leave, station 2 in round 1 and station 3 in round 2.
-pub const FIRST_STAYS: Lines = &[
+pub const FIRST_STAYS: SaidLines = &[
     (0, 1, true),
     (1, 1, true),
     (2, 1, true),
@@ -60,7 +60,7 @@ pub const FIRST_STAYS: Lines = &[
 ];
 
 /// All three stay in each round.
-pub const ALL_STAY: Lines = &[
+pub const ALL_STAY: SaidLines = &[
     (0, 1, true),
     (1, 1, true),
     (2, 1, true),

@@ -21,8 +21,8 @@ use Rattle.cert_types.specs.Valid.{fit_fault}
 use Rattle.cert_types.proofs.ChangeLemmas.{fits-changed, fit-on_domains, fit-violates_none}
 use Rattle.first_looks.specs.declared.mend.Proposal.{Proposal}
 use Rattle.first_looks.specs.declared.ways.Blocker.TheVariants.{No}
-use Rattle.first_looks.specs.declared.ways.Way.{Way}
-use Rattle.first_looks.specs.Free.{AreWays, IsFreeProposal, IsFreeWay, blocks_first, blocks_second, changed, is_free, is_open, stood, way_at}
+use Rattle.first_looks.specs.declared.ways.ChannelWay.{ChannelWay}
+use Rattle.first_looks.specs.Free.{AreWays, IsFreeProposal, IsFreeWay, blocks_first, blocks_second, changed, is_free, is_way_open, stood, way_at}
 
 -- ---- how others stand
 
@@ -45,15 +45,15 @@ pub ruleset moved = (stands-moved, stands-still, stands-all)
 -- ---- what a station meets
 
 -- one pair more on a channel
-pub met-at : (ways : List Way) (k : ℕ) (v d : Way) (blocks : Bool) (c : ℕ) → k < length ways → is_open v ≡ (is_open (get_or ways k d) && not blocks) → is_open (get_or (set ways k v) c d) ≡ (is_open (get_or ways c d) && not ((k == c) && blocks))
+pub met-at : (ways : List ChannelWay) (k : ℕ) (v d : ChannelWay) (blocks : Bool) (c : ℕ) → k < length ways → is_way_open v ≡ (is_way_open (get_or ways k d) && not blocks) → is_way_open (get_or (set ways k v) c d) ≡ (is_way_open (get_or ways c d) && not ((k == c) && blocks))
 met-at ways k v d blocks c l e =
-    (elim (k == c) as (λ b. (k == c) ≡ b → is_open (get_or (set ways k v) c d) ≡ (is_open (get_or ways c d) && not (b && blocks))) [
+    (elim (k == c) as (λ b. (k == c) ≡ b → is_way_open (get_or (set ways k v) c d) ≡ (is_way_open (get_or ways c d) && not (b && blocks))) [
       | true ↦ λ h.
           let same : k ≡ c = eqb-true k c h in
-          subst (λ n. is_open (get_or (set ways k v) n d) ≡ (is_open (get_or ways n d) && not blocks)) same
-          (ap is_open (get_or-set_same ways k v d l) ∙ e)
+          subst (λ n. is_way_open (get_or (set ways k v) n d) ≡ (is_way_open (get_or ways n d) && not blocks)) same
+          (ap is_way_open (get_or-set_same ways k v d l) ∙ e)
       | false ↦ λ h.
-          ap is_open (get_or-set_other ways k c v d (λ z. false≢true (sym h ∙ eq-eqb k c (sym z)))) ∙ sym (and-true (is_open (get_or ways c d)))
+          ap is_way_open (get_or-set_other ways k c v d (λ z. false≢true (sym h ∙ eq-eqb k c (sym z)))) ∙ sym (and-true (is_way_open (get_or ways c d)))
     ]) refl
   where
     and-true : (b : Bool) → (b && true) ≡ b
@@ -70,18 +70,18 @@ open-step t ps i d o n w l h e =
     ap (λ b. b && not (list_any t (drop (i + 1) ps))) e ∙ and-not o (t (get_or ps i d)) (list_any t (drop (i + 1) ps))
     ∙ ap (λ (z : List Pair). o && not (list_any t z)) (sym (drop_more ps i d l)) ∙ h
 
-beyond : (ways : List Way) (c : ℕ) (d : Way) → length ways ≤ c → get_or ways c d ≡ d
+beyond : (ways : List ChannelWay) (c : ℕ) (d : ChannelWay) → length ways ≤ c → get_or ways c d ≡ d
 beyond [] zero d l = refl
 beyond [] (suc c) d l = refl
 beyond (w ∷ ws) zero d l = absurd (omega (arith, l))
 beyond (w ∷ ws) (suc c) d l = beyond ws c d (omega (arith, l))
 
 -- at first nobody stands in the way
-open-all : (way : Way) (n c : ℕ) → is_open way ≡ true → is_open (get_or (replicate n way) c way) ≡ true
+open-all : (way : ChannelWay) (n c : ℕ) → is_way_open way ≡ true → is_way_open (get_or (replicate n way) c way) ≡ true
 open-all way n c open_ =
     elim (cases_lt c n) [
-      | inl l ↦ ap is_open (get_or-replicate n c way way l) ∙ open_
-      | inr m ↦ ap is_open (beyond (replicate n way) c way (omega (arith, m, length-replicate n way))) ∙ open_
+      | inl l ↦ ap is_way_open (get_or-replicate n c way way l) ∙ open_
+      | inr m ↦ ap is_way_open (beyond (replicate n way) c way (omega (arith, m, length-replicate n way))) ∙ open_
     ]
 
 -- what a call has left of a list
@@ -89,7 +89,7 @@ written : {A : Type 0} (n : ℕ) (new old : List A) → length new ≡ n → tak
 written n new old e =
     ap (λ k. take k (new ++ drop (length new) old)) (sym e) ∙ take-append_seam new (drop (length new) old)
 
-pub all-ways : (book : BookView) (entries : List (ℕ × ℕ)) (s n : ℕ) (start before first old middle second older : List Way) → start ≡ replicate 256 (record { blocker = No; pairs = 0 }) → n ≡ 256 → before ≡ start → length first ≡ 256 → length second ≡ 256 → ((c : ℕ) → is_open (way_at first c) ≡ (is_open (way_at before c) && not (list_any (blocks_first entries c) (filter (λ p. p.f == s) book.pairs)))) → middle ≡ take n (first ++ drop (length first) old) → ((c : ℕ) → is_open (way_at second c) ≡ (is_open (way_at middle c) && not (list_any (blocks_second entries c) (filter (λ p. p.g == s) book.pairs)))) → AreWays book entries s (take n (second ++ drop (length second) older))
+pub all-ways : (book : BookView) (entries : List (ℕ × ℕ)) (s n : ℕ) (start before first old middle second older : List ChannelWay) → start ≡ replicate 256 (record { blocker = No; pairs = 0 }) → n ≡ 256 → before ≡ start → length first ≡ 256 → length second ≡ 256 → ((c : ℕ) → is_way_open (way_at first c) ≡ (is_way_open (way_at before c) && not (list_any (blocks_first entries c) (filter (λ p. p.f == s) book.pairs)))) → middle ≡ take n (first ++ drop (length first) old) → ((c : ℕ) → is_way_open (way_at second c) ≡ (is_way_open (way_at middle c) && not (list_any (blocks_second entries c) (filter (λ p. p.g == s) book.pairs)))) → AreWays book entries s (take n (second ++ drop (length second) older))
 all-ways book entries s n start before first old middle second older new size same few many f is g =
     subst (AreWays book entries s) (sym (written n second older (many ∙ sym size)))
     (record {
@@ -97,8 +97,8 @@ all-ways book entries s n start before first old middle second older new size sa
       free = λ c.
           let a = list_any (blocks_first entries c) (filter (λ p. p.f == s) book.pairs) in
           let b = list_any (blocks_second entries c) (filter (λ p. p.g == s) book.pairs) in
-          let fresh : is_open (way_at before c) ≡ true = ap (λ (z : List Way). is_open (way_at z c)) (same ∙ new) ∙ open-all (record { blocker = No; pairs = 0 }) 256 c refl in
-          let kept : is_open (way_at middle c) ≡ is_open (way_at first c) = ap (λ (z : List Way). is_open (way_at z c)) (is ∙ written n first old (few ∙ sym size)) in
+          let fresh : is_way_open (way_at before c) ≡ true = ap (λ (z : List ChannelWay). is_way_open (way_at z c)) (same ∙ new) ∙ open-all (record { blocker = No; pairs = 0 }) 256 c refl in
+          let kept : is_way_open (way_at middle c) ≡ is_way_open (way_at first c) = ap (λ (z : List ChannelWay). is_way_open (way_at z c)) (is ∙ written n first old (few ∙ sym size)) in
           g c ∙ ap (λ o. o && not b) (kept ∙ f c ∙ ap (λ o. o && not a) fresh);
     })
 
@@ -132,9 +132,9 @@ some-of t (x ∷ xs) c h e =
     ]
 
 -- where a channel of the domain is free, one is found
-pub found-free : (book : BookView) (entries : List (ℕ × ℕ)) (s c : ℕ) (ways : List Way) (domain : List ℕ) (none : Bool) → AreWays book entries s ways → domain ≡ domain_of book s → none ≡ list_any (λ z. is_open (way_at ways z)) domain → is_in (domain_of book s) c ≡ true → is_free book entries s c ≡ true → none ≡ true
+pub found-free : (book : BookView) (entries : List (ℕ × ℕ)) (s c : ℕ) (ways : List ChannelWay) (domain : List ℕ) (none : Bool) → AreWays book entries s ways → domain ≡ domain_of book s → none ≡ list_any (λ z. is_way_open (way_at ways z)) domain → is_in (domain_of book s) c ≡ true → is_free book entries s c ≡ true → none ≡ true
 found-free book entries s c ways domain none are is n h f =
-    n ∙ some-of (λ z. is_open (way_at ways z)) domain c (ap (λ (z : List ℕ). is_in z c) is ∙ h) (are.free c ∙ f)
+    n ∙ some-of (λ z. is_way_open (way_at ways z)) domain c (ap (λ (z : List ℕ). is_in z c) is ∙ h) (are.free c ∙ f)
 
 -- ---- a channel alone as a fit
 

@@ -8,7 +8,7 @@ use Rattle.pack_defs.specs.Lists.{has_entry, is_in}
 use Rattle.first_looks.specs.declared.mend.Proposal.{Proposal}
 use Rattle.first_looks.specs.declared.ways.Blocker.{Blocker}
 use Rattle.first_looks.specs.declared.ways.Blocker.TheVariants.{No, One, Many}
-use Rattle.first_looks.specs.declared.ways.Way.{Way}
+use Rattle.first_looks.specs.declared.ways.ChannelWay.{ChannelWay}
 
 -- how others stand: as the map says, one of them moved
 abbrev pub stood : List (ℕ × ℕ) → Option (ℕ × ℕ) → List (ℕ × ℕ)
@@ -34,17 +34,17 @@ is_no No = true
 is_no (One t) = false
 is_no Many = false
 
-abbrev pub is_open : Way → Bool
-is_open way = is_no way.blocker
+abbrev pub is_way_open : ChannelWay → Bool
+is_way_open way = is_no way.blocker
 
 -- what is met on a channel
-abbrev pub way_at : List Way → ℕ → Way
+abbrev pub way_at : List ChannelWay → ℕ → ChannelWay
 way_at ways c = slice_index_or ways c (record { blocker = No; pairs = 0 })
 
 -- what a station meets on each of the 256 channels that a number has
-pub record AreWays (book : BookView) (entries : List (ℕ × ℕ)) (s : ℕ) (ways : List Way) : Type 0 where
+pub record AreWays (book : BookView) (entries : List (ℕ × ℕ)) (s : ℕ) (ways : List ChannelWay) : Type 0 where
   pub size : length ways ≡ 256
-  pub free : (c : ℕ) → is_open (way_at ways c) ≡ is_free book entries s c
+  pub free : (c : ℕ) → is_way_open (way_at ways c) ≡ is_free book entries s c
 
 -- the channel moves the station alone, and is a free one of its domain
 pub record IsFreeWay (book : BookView) (entries : List (ℕ × ℕ)) (s : ℕ) (proposal : Proposal) : Type 0 where

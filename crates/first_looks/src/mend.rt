@@ -5,7 +5,7 @@ ghost use Rattle.pack_defs.specs.Book.{domain_of};
 ghost use Rattle.pack_defs.specs.Lists.{is_in};
 ghost use Rattle.first_looks.specs.Free.{IsFreeProposal, changed, is_free};
 
-use crate::ways::{Blocker, Stands, Way, free_channel, ways_of};
+use crate::ways::{Blocker, ChannelWay, Stands, free_channel, ways_of};
 use pack_defs::book::Book;
 use pack_defs::channel_map::ChannelMap;
 use std::alloc::{AllocError as NoMemory, Global};
@@ -64,7 +64,7 @@ fn repair(
     book: &Book,
     map: &ChannelMap,
     s: u32,
-    ways: &[Way],
+    ways: &[ChannelWay],
 ) -> Result<Option<Proposal>, NoMemory> {
     for c in book.domain(s) {
         let Some(t) = alone_in_the_way(ways, *c) else {
@@ -81,7 +81,7 @@ fn repair(
 }
 
 // The station that alone stands in the way on a channel.
-fn alone_in_the_way(ways: &[Way], c: u8) -> Option<u32> {
+fn alone_in_the_way(ways: &[ChannelWay], c: u8) -> Option<u32> {
     match ways.get(c as usize)?.blocker {
         Blocker::One(t) => Some(t),
         _ => None,

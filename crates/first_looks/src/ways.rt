@@ -4,7 +4,7 @@ ghost use Rattle.std.specs.Prelude.{ℕ, ◌≡◌, ◌==◌, ◌&&◌, ◌||◌
 ghost use Rattle.std.specs.List.{list_any};
 ghost use Rattle.std.specs.Option.{is_some};
 ghost use Rattle.pack_defs.specs.Lists.{has_entry, is_in};
-ghost use Rattle.first_looks.specs.Free.{AreWays, blocks_first, blocks_second, is_no, is_open, stood, way_at};
+ghost use Rattle.first_looks.specs.Free.{AreWays, blocks_first, blocks_second, is_no, is_way_open, stood, way_at};
 
 use pack_defs::book::Book;
 use pack_defs::channel_map::ChannelMap;
@@ -20,7 +20,7 @@ pub(crate) enum Blocker {
 
 /// What a station meets on a channel.
 #[derive(Clone, Copy, Debug)]
-pub(crate) struct Way {
+pub(crate) struct ChannelWay {
     pub(crate) blocker: Blocker,
     // So many pairs of the station are on the channel: the more, the more its neighbours want it.
     pub(crate) pairs: u32,
@@ -60,10 +60,10 @@ pub(crate) fn ways_of(
     book: &Book,
     stands: Stands,
     s: u32,
-) -> Result<Vec<Way>, NoMemory>
+) -> Result<Vec<ChannelWay>, NoMemory>
     ensures { IfOk result (λ ways. AreWays book.now (stood stands.entry.map.now stands.entry.moved) s ways.items) }
 {
-    let open = Way {
+    let open = ChannelWay {
         blocker: Blocker::No,
         pairs: 0,
     };
@@ -74,10 +74,10 @@ pub(crate) fn ways_of(
 }
 
 // Notes the pairs whose first station this is.
-fn meet_first(ways: &mut [Way], book: &Book, stands: Stands, s: u32)
+fn meet_first(ways: &mut [ChannelWay], book: &Book, stands: Stands, s: u32)
     requires { length ways.old ≡ 256 }
     ensures size { length ways.new ≡ 256 }
-    ensures way { (c : ℕ) → is_open (way_at ways.new c) ≡ (is_open (way_at ways.old c) && not (list_any (blocks_first (stood stands.entry.map.now stands.entry.moved) c) (filter (λ p. p.f == s) book.now.pairs))) }
+    ensures way { (c : ℕ) → is_way_open (way_at ways.new c) ≡ (is_way_open (way_at ways.old c) && not (list_any (blocks_first (stood stands.entry.map.now stands.entry.moved) c) (filter (λ p. p.f == s) book.now.pairs))) }
 {
     for p in book.pairs_from(s) {
         meet(ways, p.a, p.g, stands.is_on(p.g, p.b));
@@ -85,10 +85,10 @@ fn meet_first(ways: &mut [Way], book: &Book, stands: Stands, s: u32)
 }
 
 // Notes the pairs whose second station this is.
-fn meet_second(ways: &mut [Way], book: &Book, stands: Stands, s: u32)
+fn meet_second(ways: &mut [ChannelWay], book: &Book, stands: Stands, s: u32)
     requires { length ways.old ≡ 256 }
     ensures size { length ways.new ≡ 256 }
-    ensures way { (c : ℕ) → is_open (way_at ways.new c) ≡ (is_open (way_at ways.old c) && not (list_any (blocks_second (stood stands.entry.map.now stands.entry.moved) c) (filter (λ p. p.g == s) book.now.pairs))) }
+    ensures way { (c : ℕ) → is_way_open (way_at ways.new c) ≡ (is_way_open (way_at ways.old c) && not (list_any (blocks_second (stood stands.entry.map.now stands.entry.moved) c) (filter (λ p. p.g == s) book.now.pairs))) }
 {
     for p in book.pairs_to(s) {
         meet(ways, p.b, p.f, stands.is_on(p.f, p.a));
@@ -96,27 +96,27 @@ fn meet_second(ways: &mut [Way], book: &Book, stands: Stands, s: u32)
 }
 
 // Notes a pair on a channel, whose other station stands in the way or not.
-fn meet(ways: &mut [Way], channel: u8, other: u32, blocks: bool)
+fn meet(ways: &mut [ChannelWay], channel: u8, other: u32, blocks: bool)
     requires { length ways.old ≡ 256 }
     ensures size { length ways.new ≡ 256 }
-    ensures way { (c : ℕ) → is_open (way_at ways.new c) ≡ (is_open (way_at ways.old c) && not ((channel == c) && blocks)) }
+    ensures way { (c : ℕ) → is_way_open (way_at ways.new c) ≡ (is_way_open (way_at ways.old c) && not ((channel == c) && blocks)) }
 {
     let at = channel as usize;
     ways[at] = met(ways[at], other, blocks);
 }
 
 // What a station meets with one pair more, whose other station stands in the way or not.
-fn met(way: Way, other: u32, blocks: bool) -> Way
-    ensures { is_open result ≡ (is_open way && not blocks) }
+fn met(way: ChannelWay, other: u32, blocks: bool) -> ChannelWay
+    ensures { is_way_open result ≡ (is_way_open way && not blocks) }
 {
     let pairs = way.pairs.saturating_add(1);
     if !blocks {
-        return Way {
+        return ChannelWay {
             blocker: way.blocker,
             pairs,
         };
     }
-    Way {
+    ChannelWay {
         blocker: joined(way.blocker, other),
         pairs,
     }
@@ -135,10 +135,10 @@ fn joined(blocker: Blocker, other: u32) -> Blocker
 
 /// The channel of a domain on which nobody stands in the way, and of these the one that the fewest pairs are on, the lowest
 /// where several are.
-pub(crate) fn free_channel(domain: &[u8], ways: &[Way]) -> Option<u8>
+pub(crate) fn free_channel(domain: &[u8], ways: &[ChannelWay]) -> Option<u8>
     requires { length ways.now ≡ 256 }
-    ensures some { is_some result ≡ list_any (λ c. is_open (way_at ways.now c)) domain.now }
-    ensures free { IfSome result (λ c. (is_in domain.now c ≡ true) × (is_open (way_at ways.now c) ≡ true)) }
+    ensures some { is_some result ≡ list_any (λ c. is_way_open (way_at ways.now c)) domain.now }
+    ensures free { IfSome result (λ c. (is_in domain.now c ≡ true) × (is_way_open (way_at ways.now c) ≡ true)) }
 {
     let mut best = None;
     for c in domain {
@@ -148,10 +148,10 @@ pub(crate) fn free_channel(domain: &[u8], ways: &[Way]) -> Option<u8>
 }
 
 // The channel that is wanted less: the best one so far or the next one, if nobody stands in the way there.
-fn better(ways: &[Way], best: Option<u8>, next: u8) -> Option<u8>
+fn better(ways: &[ChannelWay], best: Option<u8>, next: u8) -> Option<u8>
     requires { length ways.now ≡ 256 }
-    ensures some { is_some result ≡ (is_some best || is_open (way_at ways.now next)) }
-    ensures which { (result ≡ best) ⊎ ((result ≡ Some next) × (is_open (way_at ways.now next) ≡ true)) }
+    ensures some { is_some result ≡ (is_some best || is_way_open (way_at ways.now next)) }
+    ensures which { (result ≡ best) ⊎ ((result ≡ Some next) × (is_way_open (way_at ways.now next) ≡ true)) }
 {
     let way = ways[next as usize];
     if !is_no(way.blocker) {

@@ -4,7 +4,7 @@ use crate::cells::{read, short, write};
 use crate::hint::Hint;
 use crate::literal::Literal;
 use crate::policy::LINE_DECAY;
-use crate::trail::{Trail, Value};
+use crate::trail::{KeptTrail, Value};
 use std::alloc::{AllocError as NoMemory, Global};
 use std::mem::replace;
 
@@ -16,7 +16,7 @@ const MOST: f64 = 1e100;
 
 /// A clause that watches a literal, and another literal of it: where that is true, the clause needs no look.
 #[derive(Clone, Copy)]
-pub(crate) struct Watch {
+pub(crate) struct KeptWatch {
     pub(crate) at: u32,
     pub(crate) blocker: Literal,
 }
@@ -34,7 +34,7 @@ pub(crate) struct ClauseHead {
 
 /// What a look at a watching clause came to.
 #[derive(Clone, Copy)]
-pub(crate) enum Look {
+pub(crate) enum KeptLook {
     /// It watches another literal now.
     Moved,
     /// It is true.
@@ -47,24 +47,24 @@ pub(crate) enum Look {
 
 /// Clauses, one behind the other in one list.
 #[derive(Drop)]
-pub(crate) struct Clauses {
+pub(crate) struct KeptClauses {
     words: Vec<u32>,
     heads: Vec<ClauseHead>,
     // So many of them are lines, the others those of stations.
     lines: usize,
     // Of each literal the clauses that watch it.
-    watches: Vec<Vec<Watch>>,
+    watches: Vec<Vec<KeptWatch>>,
     step: f64,
 }
 
-impl Clauses {
+impl KeptClauses {
     /// No clause over so many variables.
-    pub(crate) fn new(alloc: Global, vars: u32) -> Result<Clauses, NoMemory> {
+    pub(crate) fn new(alloc: Global, vars: u32) -> Result<KeptClauses, NoMemory> {
         let mut watches = Vec::new(alloc);
         for _ in 0..vars.saturating_mul(2) {
             watches.push(Vec::new(alloc))?;
         }
-        Ok(Clauses {
+        Ok(KeptClauses {
             words: Vec::new(alloc),
             heads: Vec::new(alloc),
             lines: 0,
@@ -142,8 +142,8 @@ impl Clauses {
         }
         if literals.len() >= 2 {
             let (one, other) = (literals[0], literals[1]);
-            self.watch(one, Watch { at, blocker: other })?;
-            self.watch(other, Watch { at, blocker: one })?;
+            self.watch(one, KeptWatch { at, blocker: other })?;
+            self.watch(other, KeptWatch { at, blocker: one })?;
         }
         Ok(at)
     }
@@ -154,7 +154,7 @@ impl Clauses {
     }
 
     /// Counts uses on as another list of clauses does.
-    pub(crate) fn count_on_from(&mut self, other: &Clauses) {
+    pub(crate) fn count_on_from(&mut self, other: &KeptClauses) {
         self.step = other.step;
     }
 
@@ -179,7 +179,7 @@ impl Clauses {
     }
 
     /// The clauses that watch a literal, which has none then.
-    pub(crate) fn take_watches(&mut self, alloc: Global, literal: Literal) -> Vec<Watch> {
+    pub(crate) fn take_watches(&mut self, alloc: Global, literal: Literal) -> Vec<KeptWatch> {
         let code = literal.code as usize;
         if code < self.watches.len() {
             replace(&mut self.watches[code], Vec::new(alloc))
@@ -189,7 +189,7 @@ impl Clauses {
     }
 
     /// Puts back what `take_watches` took.
-    pub(crate) fn put_watches(&mut self, literal: Literal, watches: Vec<Watch>) {
+    pub(crate) fn put_watches(&mut self, literal: Literal, watches: Vec<KeptWatch>) {
         let code = literal.code as usize;
         if code < self.watches.len() {
             self.watches[code] = watches;
@@ -199,14 +199,14 @@ impl Clauses {
     /// Lets a clause that watches a false literal watch one that isn't, if it has one.
     pub(crate) fn look(
         &mut self,
-        trail: &Trail,
-        watch: Watch,
+        trail: &KeptTrail,
+        watch: KeptWatch,
         falsified: Literal,
-    ) -> Result<Look, NoMemory> {
+    ) -> Result<KeptLook, NoMemory> {
         let begin = watch.at.saturating_add(PREFIX) as usize;
         let end = begin + read(&self.words, watch.at, 0) as usize;
         if end > self.words.len() || end - begin < 2 {
-            return Ok(Look::Moved);
+            return Ok(KeptLook::Moved);
         }
         if self.words[begin] == falsified.code {
             self.words.swap(begin, begin + 1);
@@ -216,7 +216,7 @@ impl Clauses {
         };
         let value = trail.value(first);
         if value == Value::True {
-            return Ok(Look::Holds(first));
+            return Ok(KeptLook::Holds(first));
         }
         for place in begin + 2..end {
             let other = Literal {
@@ -226,22 +226,22 @@ impl Clauses {
                 self.words.swap(begin + 1, place);
                 self.watch(
                     other,
-                    Watch {
+                    KeptWatch {
                         at: watch.at,
                         blocker: first,
                     },
                 )?;
-                return Ok(Look::Moved);
+                return Ok(KeptLook::Moved);
             }
         }
         if value == Value::False {
-            return Ok(Look::False(first));
+            return Ok(KeptLook::False(first));
         }
-        Ok(Look::Forces(first))
+        Ok(KeptLook::Forces(first))
     }
 
     // One clause more watches a literal.
-    fn watch(&mut self, literal: Literal, watch: Watch) -> Result<(), NoMemory> {
+    fn watch(&mut self, literal: Literal, watch: KeptWatch) -> Result<(), NoMemory> {
         let code = literal.code as usize;
         if code < self.watches.len() {
             self.watches[code].push(watch)?;

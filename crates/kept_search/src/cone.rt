@@ -4,7 +4,7 @@ use crate::cells::{filled, read, short, write};
 use crate::engine::Engine;
 use crate::grid::Grid;
 use crate::hint::Hint;
-use crate::lines::Lines;
+use crate::lines::KeptLines;
 use std::alloc::{AllocError as NoMemory, Global};
 
 /// The lines that a last one needs, ascending, with it; and the stations whose clauses or channels they name, ascending. It is
@@ -52,7 +52,7 @@ impl Cone {
     pub(crate) fn gather(
         &mut self,
         alloc: Global,
-        lines: &Lines,
+        lines: &KeptLines,
         grid: &Grid,
         last: u32,
     ) -> Result<(), NoMemory> {

@@ -1,17 +1,17 @@
 //! The searcher itself: what it knows of the stations, and the steps that its parts are made of.
 
-use crate::clauses::Clauses;
+use crate::clauses::KeptClauses;
 use crate::cone::Cone;
 use crate::grid::Grid;
 use crate::hint::{Hint, Reason};
-use crate::lines::Lines;
+use crate::lines::KeptLines;
 use crate::literal::Literal;
-use crate::marks::Marks;
+use crate::marks::AnalysisMarks;
 use crate::play::{NOBODY, Play};
 use crate::policy::{LINES_BETWEEN, Policy};
 use crate::restarts::Restarts;
 use crate::ties::Ties;
-use crate::trail::Trail;
+use crate::trail::KeptTrail;
 use std::alloc::{AllocError as NoMemory, Global};
 
 /// A conflict-driven search over the stations of a book. Variables are the channels of each station, and behind them one for
@@ -20,12 +20,12 @@ use std::alloc::{AllocError as NoMemory, Global};
 #[derive(Drop)]
 pub(crate) struct Engine {
     pub(crate) grid: Grid,
-    pub(crate) trail: Trail,
-    pub(crate) clauses: Clauses,
-    pub(crate) lines: Lines,
+    pub(crate) trail: KeptTrail,
+    pub(crate) clauses: KeptClauses,
+    pub(crate) lines: KeptLines,
     pub(crate) cone: Cone,
     pub(crate) play: Play,
-    pub(crate) marks: Marks,
+    pub(crate) marks: AnalysisMarks,
     pub(crate) policy: Policy,
     pub(crate) restarts: Restarts,
     pub(crate) is_due: bool,
@@ -47,12 +47,12 @@ impl Engine {
     pub(crate) fn new(alloc: Global, grid: Grid, policy: Policy) -> Result<Engine, NoMemory> {
         let vars = grid.vars().saturating_add(grid.stations());
         Ok(Engine {
-            trail: Trail::new(alloc, vars)?,
-            clauses: Clauses::new(alloc, vars)?,
-            lines: Lines::new(alloc, vars)?,
+            trail: KeptTrail::new(alloc, vars)?,
+            clauses: KeptClauses::new(alloc, vars)?,
+            lines: KeptLines::new(alloc, vars)?,
             cone: Cone::new(alloc),
             play: Play::new(alloc, grid.stations(), vars)?,
-            marks: Marks::new(alloc, vars)?,
+            marks: AnalysisMarks::new(alloc, vars)?,
             restarts: Restarts::new(policy.restart_unit),
             policy,
             is_due: false,

@@ -16,7 +16,7 @@ const LET_GO: u32 = u32::MAX;
 /// Lines by number, from 0, one behind the other in one list: of each how many words it takes, how many literals it has, these,
 /// and its hints. Of a fact, a literal that is true at level 0, the number of its line is kept.
 #[derive(Drop)]
-pub(crate) struct Lines {
+pub(crate) struct KeptLines {
     words: Vec<u32>,
     // Of each line where it begins.
     begins: Vec<u32>,
@@ -27,10 +27,10 @@ pub(crate) struct Lines {
     swept: usize,
 }
 
-impl Lines {
+impl KeptLines {
     /// No line over so many variables.
-    pub(crate) fn new(alloc: Global, vars: u32) -> Result<Lines, NoMemory> {
-        Ok(Lines {
+    pub(crate) fn new(alloc: Global, vars: u32) -> Result<KeptLines, NoMemory> {
+        Ok(KeptLines {
             words: Vec::new(alloc),
             begins: Vec::new(alloc),
             facts: filled(alloc, vars, 0)?,

@@ -26,7 +26,7 @@ struct Antecedent {
 
 /// A mark for each variable, and lists that each analysis uses anew.
 #[derive(Drop)]
-pub(crate) struct Marks {
+pub(crate) struct AnalysisMarks {
     marks: Vec<Mark>,
     marked: Vec<u32>,
     // Of each level the latest count in which it was counted.
@@ -37,10 +37,10 @@ pub(crate) struct Marks {
     antecedents: Vec<Antecedent>,
 }
 
-impl Marks {
+impl AnalysisMarks {
     /// No mark on any of so many variables.
-    pub(crate) fn new(alloc: Global, vars: u32) -> Result<Marks, NoMemory> {
-        Ok(Marks {
+    pub(crate) fn new(alloc: Global, vars: u32) -> Result<AnalysisMarks, NoMemory> {
+        Ok(AnalysisMarks {
             marks: filled(alloc, vars, Mark::Unmet)?,
             marked: Vec::new(alloc),
             counted: filled(alloc, vars.saturating_add(1), 0)?,

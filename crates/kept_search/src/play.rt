@@ -1,7 +1,7 @@
 //! Where the stations stand, which of them a query stirs, and which variable is decided next.
 
 use crate::cells::{filled, read, write};
-use crate::order::Order;
+use crate::order::ActivityOrder;
 use crate::policy::VARIABLE_DECAY;
 use std::alloc::{AllocError as NoMemory, Global};
 
@@ -13,7 +13,7 @@ pub(crate) const NOBODY: u32 = u32::MAX;
 
 /// How a station stands.
 #[derive(Clone, Copy)]
-pub(crate) struct Standing {
+pub(crate) struct StationState {
     /// It is on air, or tested.
     pub(crate) in_set: bool,
     pub(crate) on_air: bool,
@@ -25,7 +25,7 @@ pub(crate) struct Standing {
     pub(crate) channel: u32,
 }
 
-const OFF_AIR: Standing = Standing {
+const OFF_AIR: StationState = StationState {
     in_set: false,
     on_air: false,
     has_clause: false,
@@ -36,10 +36,10 @@ const OFF_AIR: Standing = Standing {
 /// The stations, and what guides the search among those in play.
 #[derive(Drop)]
 pub(crate) struct Play {
-    standings: Vec<Standing>,
+    standings: Vec<StationState>,
     // Of each variable the value that it had last, and with which it is tried first.
     phases: Vec<bool>,
-    pub(crate) order: Order,
+    pub(crate) order: ActivityOrder,
     played: Vec<u32>,
 }
 
@@ -49,18 +49,18 @@ impl Play {
         Ok(Play {
             standings: filled(alloc, stations, OFF_AIR)?,
             phases: filled(alloc, vars, false)?,
-            order: Order::new(alloc, vars, VARIABLE_DECAY)?,
+            order: ActivityOrder::new(alloc, vars, VARIABLE_DECAY)?,
             played: Vec::new(alloc),
         })
     }
 
     /// How a station stands.
-    pub(crate) fn standing(&self, station: u32) -> Standing {
+    pub(crate) fn standing(&self, station: u32) -> StationState {
         read(&self.standings, station, OFF_AIR)
     }
 
     /// Notes how a station stands.
-    pub(crate) fn set(&mut self, station: u32, standing: Standing) {
+    pub(crate) fn set(&mut self, station: u32, standing: StationState) {
         write(&mut self.standings, station, standing);
     }
 

@@ -1,6 +1,6 @@
 //! What follows from the literals that are true, until nothing more does or a clause is false.
 
-use crate::clauses::{Look, Watch};
+use crate::clauses::{KeptLook, KeptWatch};
 use crate::engine::Engine;
 use crate::hint::Reason;
 use crate::literal::Literal;
@@ -76,7 +76,7 @@ impl Engine {
     // Of these watches those are left which still watch the literal. After a false clause nothing more is looked at.
     fn visit(
         &mut self,
-        watches: &mut Vec<Watch>,
+        watches: &mut Vec<KeptWatch>,
         falsified: Literal,
     ) -> Result<Option<Reason>, NoMemory> {
         let mut kept: usize = 0;
@@ -86,13 +86,13 @@ impl Engine {
             if conflict.is_none() && self.trail.value(watch.blocker) != Value::True {
                 let at = watch.at;
                 match self.clauses.look(&self.trail, watch, falsified)? {
-                    Look::Moved => continue,
-                    Look::Holds(other) => watch.blocker = other,
-                    Look::Forces(first) => {
+                    KeptLook::Moved => continue,
+                    KeptLook::Holds(other) => watch.blocker = other,
+                    KeptLook::Forces(first) => {
                         watch.blocker = first;
                         self.assign(first, Reason::Clause { at })?;
                     }
-                    Look::False(first) => {
+                    KeptLook::False(first) => {
                         watch.blocker = first;
                         conflict = Some(Reason::Clause { at });
                     }

@@ -7,7 +7,7 @@ ghost use Rattle.pack_defs.specs.ChannelMap.{IsAscending};
 use crate::engine::Engine;
 use crate::play::{NOBODY, NOWHERE};
 use crate::policy::{Policy, USUAL};
-use crate::turn::Turn;
+use crate::turn::SearchTurn;
 use pack_defs::channel_map::ChannelMap;
 use std::alloc::{AllocError as NoMemory, Global};
 
@@ -81,24 +81,24 @@ impl Engine {
         let mut learnt: u32 = 0;
         for _ in 0..u64::MAX {
             match self.turn(alloc)? {
-                Turn::Going => {}
-                Turn::Learnt => {
+                SearchTurn::Going => {}
+                SearchTurn::Learnt => {
                     learnt = learnt.saturating_add(1);
                     if learnt >= conflicts {
                         break;
                     }
                 }
-                Turn::Fits => {
+                SearchTurn::Fits => {
                     if self.settle()? {
                         return Ok(Found::Next);
                     }
                     return Ok(Found::Fits);
                 }
-                Turn::Refuted { line } => {
+                SearchTurn::Refuted { line } => {
                     self.end()?;
                     return Ok(Found::Refuted { line });
                 }
-                Turn::Lost => return Ok(Found::Lost),
+                SearchTurn::Lost => return Ok(Found::Lost),
             }
         }
         Ok(Found::Open)

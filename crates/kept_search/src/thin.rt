@@ -1,7 +1,7 @@
 //! Half of the lines that are little used are dropped now and then, and the rest moved together.
 
 use crate::cells::{filled, write};
-use crate::clauses::{ClauseHead, Clauses};
+use crate::clauses::{ClauseHead, KeptClauses};
 use crate::engine::Engine;
 use crate::hint::Hint;
 use crate::literal::Literal;
@@ -19,7 +19,7 @@ impl Engine {
             return Ok(());
         }
         let bound = self.middle_use(alloc)?;
-        let fresh = Clauses::new(alloc, self.trail.vars())?;
+        let fresh = KeptClauses::new(alloc, self.trail.vars())?;
         let old = replace(&mut self.clauses, fresh);
         for head in old.heads() {
             if !is_dropped(&old, *head, bound) {
@@ -50,7 +50,7 @@ impl Engine {
 
     // Stores a clause again, unless it is true for good. Of its literals those are left out which say that a station on air is
     // not in the set.
-    fn move_clause(&mut self, old: &Clauses, head: ClauseHead) -> Result<(), NoMemory> {
+    fn move_clause(&mut self, old: &KeptClauses, head: ClauseHead) -> Result<(), NoMemory> {
         self.line.clear();
         for code in old.codes(head.at) {
             let literal = Literal { code: *code };
@@ -99,10 +99,10 @@ impl Engine {
 }
 
 // Whether a clause is a line of more than two literals and of more than a few levels.
-fn may_drop(clauses: &Clauses, head: ClauseHead) -> bool {
+fn may_drop(clauses: &KeptClauses, head: ClauseHead) -> bool {
     matches!(head.name, Hint::Line(_)) && head.glue > GLUE_KEPT && clauses.size(head.at) > 2
 }
 
-fn is_dropped(clauses: &Clauses, head: ClauseHead, bound: f64) -> bool {
+fn is_dropped(clauses: &KeptClauses, head: ClauseHead, bound: f64) -> bool {
     may_drop(clauses, head) && head.used < bound
 }

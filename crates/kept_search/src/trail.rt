@@ -16,7 +16,7 @@ pub(crate) enum Value {
 /// The literals that are true, in the order in which they became so. Each decision begins a level; at level 0 is what holds
 /// without any.
 #[derive(Drop)]
-pub(crate) struct Trail {
+pub(crate) struct KeptTrail {
     // Of each literal.
     values: Vec<Value>,
     // Of each variable.
@@ -30,10 +30,10 @@ pub(crate) struct Trail {
     head: u32,
 }
 
-impl Trail {
+impl KeptTrail {
     /// Nothing is known of so many variables.
-    pub(crate) fn new(alloc: Global, vars: u32) -> Result<Trail, NoMemory> {
-        Ok(Trail {
+    pub(crate) fn new(alloc: Global, vars: u32) -> Result<KeptTrail, NoMemory> {
+        Ok(KeptTrail {
             values: filled(alloc, vars.saturating_mul(2), Value::Open)?,
             levels: filled(alloc, vars, 0)?,
             places: filled(alloc, vars, 0)?,

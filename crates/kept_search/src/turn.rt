@@ -10,7 +10,7 @@ use std::alloc::{AllocError as NoMemory, Global};
 
 /// What a turn came to.
 #[derive(Clone, Copy, Debug, PartialEq, Eq)]
-pub(crate) enum Turn {
+pub(crate) enum SearchTurn {
     Going,
     /// A line more.
     Learnt,
@@ -24,9 +24,9 @@ pub(crate) enum Turn {
 
 impl Engine {
     /// Goes on until a line is learnt or the search ends, by one step.
-    pub(crate) fn turn(&mut self, alloc: Global) -> Result<Turn, NoMemory> {
+    pub(crate) fn turn(&mut self, alloc: Global) -> Result<SearchTurn, NoMemory> {
         if self.is_lost {
-            return Ok(Turn::Lost);
+            return Ok(SearchTurn::Lost);
         }
         if let Some(conflict) = self.propagate(alloc)? {
             return self.learn_from(conflict);
@@ -35,25 +35,25 @@ impl Engine {
             self.is_due = false;
             self.go_back(0)?;
             self.thin_out(alloc)?;
-            return Ok(Turn::Going);
+            return Ok(SearchTurn::Going);
         }
         if self.trail.level() == 0 {
             return self.suppose();
         }
         match self.pick() {
-            None => Ok(Turn::Fits),
+            None => Ok(SearchTurn::Fits),
             Some(literal) => {
                 self.trail.begin_level()?;
                 self.assign(literal, Reason::Chosen)?;
-                Ok(Turn::Going)
+                Ok(SearchTurn::Going)
             }
         }
     }
 
     // A conflict becomes a line, and the line's first literal becomes true.
-    fn learn_from(&mut self, conflict: Reason) -> Result<Turn, NoMemory> {
+    fn learn_from(&mut self, conflict: Reason) -> Result<SearchTurn, NoMemory> {
         if self.trail.level() == 0 {
-            return Ok(Turn::Lost);
+            return Ok(SearchTurn::Lost);
         }
         let level = self.analyse(conflict)?;
         let glue = self.glue();
@@ -73,28 +73,28 @@ impl Engine {
         if self.restarts.is_due() {
             self.is_due = true;
         }
-        Ok(Turn::Learnt)
+        Ok(SearchTurn::Learnt)
     }
 
     // The first decision is that the tested station is in the set. Where none is tested, those on air fit.
-    fn suppose(&mut self) -> Result<Turn, NoMemory> {
+    fn suppose(&mut self) -> Result<SearchTurn, NoMemory> {
         if self.tested == NOBODY {
-            return Ok(Turn::Fits);
+            return Ok(SearchTurn::Fits);
         }
         let selector = self.selector(self.tested);
         match self.trail.value(Literal::of(selector)) {
             Value::False => match self.lines.fact(selector) {
-                Some(line) => Ok(Turn::Refuted { line }),
-                None => Ok(Turn::Lost),
+                Some(line) => Ok(SearchTurn::Refuted { line }),
+                None => Ok(SearchTurn::Lost),
             },
             Value::True => {
                 self.trail.begin_level()?;
-                Ok(Turn::Going)
+                Ok(SearchTurn::Going)
             }
             Value::Open => {
                 self.trail.begin_level()?;
                 self.assign(Literal::of(selector), Reason::Chosen)?;
-                Ok(Turn::Going)
+                Ok(SearchTurn::Going)
             }
         }
     }

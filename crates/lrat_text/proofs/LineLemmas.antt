@@ -2,7 +2,7 @@
 use Rattle.std.proofs.Common.{◌≡◌, ◌<◌, ◌∙◌, ◌∷◌, ◌++◌, [], ℕ, List, Bool, true, false, refl, ap, arith, filter, not, ne_eqb, append_assoc}
 use Rattle.std.specs.List.{AllByRecursion}
 use Rattle.pack_defs.specs.Lists.{is_empty}
-use Rattle.lrat_text.specs.Lines.{whole_lines, is_whole, pieces, is_space, is_blank, fields_of, words_of, without_return, joined, line_of}
+use Rattle.lrat_text.specs.Lines.{ended_lines, is_whole, pieces, is_space, is_space_or_tab, fields_of, words_of, without_return, with_spaces, line_of}
 
 -- a word has no byte up to the space; a line has none up to the carriage return
 abbrev pub IsWord : List ℕ → Type 0
@@ -26,18 +26,18 @@ word-is-plain : (xs : List ℕ) → IsWord xs → IsPlainLine xs
 word-is-plain [] h = tt
 word-is-plain (c ∷ xs) h = (omega (arith, h.0), word-is-plain xs h.1)
 
-pub joined-plain : (fields : List (List ℕ)) → AreFields fields → IsPlainLine (joined fields)
-unfolding joined
+pub joined-plain : (fields : List (List ℕ)) → AreFields fields → IsPlainLine (with_spaces fields)
+unfolding with_spaces
 joined-plain [] h = tt
 joined-plain (f ∷ []) h = word-is-plain f h.0.0
 joined-plain (f ∷ g ∷ fields) h =
-    words-append f (32 ∷ joined (g ∷ fields)) (word-is-plain f h.0.0) (omega arith, joined-plain (g ∷ fields) h.1)
+    words-append f (32 ∷ with_spaces (g ∷ fields)) (word-is-plain f h.0.0) (omega arith, joined-plain (g ∷ fields) h.1)
 
 -- ---- lines
 
 -- the first line of a text
-pub whole-line : (line rest : List ℕ) → IsPlainLine line → whole_lines (line ++ 10 ∷ rest) ≡ line ∷ whole_lines rest
-unfolding whole_lines
+pub whole-line : (line rest : List ℕ) → IsPlainLine line → ended_lines (line ++ 10 ∷ rest) ≡ line ∷ ended_lines rest
+unfolding ended_lines
 whole-line [] rest h = refl
 whole-line (c ∷ line) rest h =
     rw (ne_eqb c 10 (λ e. absurd (omega (arith, h.0, e))), whole-line line rest h.1) refl
@@ -52,13 +52,13 @@ is-whole-line (c ∷ d ∷ line) rest = is-whole-line (d ∷ line) rest
 
 -- a line of fields before a text
 pub fields-line : (fields : List (List ℕ)) (rest : List ℕ) → AreFields fields
-    → whole_lines (line_of fields ++ rest) ≡ joined fields ∷ whole_lines rest
+    → ended_lines (line_of fields ++ rest) ≡ with_spaces fields ∷ ended_lines rest
 fields-line fields rest h =
-    ap whole_lines (append_assoc (joined fields) (10 ∷ []) rest) ∙ whole-line (joined fields) rest (joined-plain fields h)
+    ap ended_lines (append_assoc (with_spaces fields) (10 ∷ []) rest) ∙ whole-line (with_spaces fields) rest (joined-plain fields h)
 
 pub is-whole-fields : (fields : List (List ℕ)) (rest : List ℕ) → is_whole (line_of fields ++ rest) ≡ is_whole rest
 is-whole-fields fields rest =
-    ap is_whole (append_assoc (joined fields) (10 ∷ []) rest) ∙ is-whole-line (joined fields) rest
+    ap is_whole (append_assoc (with_spaces fields) (10 ∷ []) rest) ∙ is-whole-line (with_spaces fields) rest
 
 pub no-return : (line : List ℕ) → IsPlainLine line → without_return line ≡ line
 unfolding without_return
@@ -76,7 +76,7 @@ pub record Parts (p : ℕ → Bool) : Type 0 where
 pub space-parts : Parts is_space
 space-parts = record { none = λ c h. ne_eqb c 32 (λ e. absurd (omega (arith, h, e))); space = refl }
 
-pub blank-parts : Parts is_blank
+pub blank-parts : Parts is_space_or_tab
 blank-parts = record {
   none = λ c h. rw (ne_eqb c 32 (λ e. absurd (omega (arith, h, e))), ne_eqb c 9 (λ e. absurd (omega (arith, h, e)))) refl;
   space = refl;
@@ -93,23 +93,23 @@ first-piece p parts [] rest h = rw parts.space refl
 first-piece p parts (c ∷ word) rest h = rw (parts.none c h.0, first-piece p parts word rest h.1) refl
 
 -- the pieces of joined fields are the fields
-pub joined-pieces : (p : ℕ → Bool) → Parts p → (field : List ℕ) (fields : List (List ℕ)) → AreFields (field ∷ fields) → pieces p (joined (field ∷ fields)) ≡ field ∷ fields
-unfolding joined
+pub joined-pieces : (p : ℕ → Bool) → Parts p → (field : List ℕ) (fields : List (List ℕ)) → AreFields (field ∷ fields) → pieces p (with_spaces (field ∷ fields)) ≡ field ∷ fields
+unfolding with_spaces
 joined-pieces p parts field [] h = last-piece p parts field h.0.0
 joined-pieces p parts field (g ∷ fields) h =
-    first-piece p parts field (joined (g ∷ fields)) h.0.0 ∙ ap (λ (r : List (List ℕ)). field ∷ r) (joined-pieces p parts g fields h.1)
+    first-piece p parts field (with_spaces (g ∷ fields)) h.0.0 ∙ ap (λ (r : List (List ℕ)). field ∷ r) (joined-pieces p parts g fields h.1)
 
 all-kept : (fields : List (List ℕ)) → AreFields fields → filter (λ word. not (is_empty word)) fields ≡ fields
 all-kept [] h = refl
 all-kept (f ∷ fields) h = rw (h.0.1) (ap (λ (r : List (List ℕ)). f ∷ r) (all-kept fields h.1))
 
-pub fields-again : (field : List ℕ) (fields : List (List ℕ)) → AreFields (field ∷ fields) → fields_of (joined (field ∷ fields)) ≡ field ∷ fields
+pub fields-again : (field : List ℕ) (fields : List (List ℕ)) → AreFields (field ∷ fields) → fields_of (with_spaces (field ∷ fields)) ≡ field ∷ fields
 fields-again field fields h = joined-pieces is_space space-parts field fields h
 
-pub words-again : (field : List ℕ) (fields : List (List ℕ)) → AreFields (field ∷ fields) → words_of (without_return (joined (field ∷ fields))) ≡ field ∷ fields
+pub words-again : (field : List ℕ) (fields : List (List ℕ)) → AreFields (field ∷ fields) → words_of (without_return (with_spaces (field ∷ fields))) ≡ field ∷ fields
 words-again field fields h =
-    ap words_of (no-return (joined (field ∷ fields)) (joined-plain (field ∷ fields) h))
-    ∙ ap (filter (λ word. not (is_empty word))) (joined-pieces is_blank blank-parts field fields h)
+    ap words_of (no-return (with_spaces (field ∷ fields)) (joined-plain (field ∷ fields) h))
+    ∙ ap (filter (λ word. not (is_empty word))) (joined-pieces is_space_or_tab blank-parts field fields h)
     ∙ all-kept (field ∷ fields) h
 
 pub fields-append : (xs ys : List (List ℕ)) → AreFields xs → AreFields ys → AreFields (xs ++ ys)

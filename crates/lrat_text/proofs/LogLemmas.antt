@@ -9,7 +9,7 @@ use Rattle.pack_defs.specs.Lists.{is_empty}
 use Rattle.clause_db.specs.declared.lit.Lit.{Lit}
 use Rattle.rup_check.specs.declared.line.Line.{Line}
 use Rattle.lrat_text.specs.LogText.{greatest, lit_text, zero_field, log_fields, IsLitSpelled, IsBefore}
-use Rattle.lrat_text.specs.LogReading.{lits_at, place_in, hint_place, hints_at, is_next, with_line, behind_d, after_words}
+use Rattle.lrat_text.specs.LogReading.{log_lits_at, place_in, hint_place, log_hints_at, is_next, with_line, behind_d, after_words}
 use Rattle.lrat_text.proofs.LineLemmas.{AreFields, fields-append}
 use Rattle.lrat_text.proofs.NumberLemmas.{all-digits, decimal-field, decimal-not-empty, number-again, zero-again, lit-again, lit-field}
 
@@ -37,8 +37,8 @@ line-fields number line le lits hints = (
 -- ---- literals and hints
 
 pub lits-again : (n : ℕ) (lits : List Lit) (rest : List (List ℕ)) → AllByRecursion IsLitSpelled lits
-    → lits_at n (map lit_text lits ++ zero_field ∷ rest) ≡ Ok (lits, rest)
-unfolding lits_at
+    → log_lits_at n (map lit_text lits ++ zero_field ∷ rest) ≡ Ok (lits, rest)
+unfolding log_lits_at
 lits-again n [] rest h = rw zero-again refl
 lits-again n (l ∷ lits) rest h = rw (lit-again l h.0, lits-again n lits rest h.1) refl
 
@@ -68,8 +68,8 @@ hint-again clauses k h before = elim (cases_lt clauses h) [
 ]
 
 pub hints-again : (n clauses k : ℕ) (hints : List ℕ) → clauses + 1 + k ≤ greatest → AllByRecursion (IsBefore (clauses + 1 + k)) hints
-    → hints_at n clauses (run (clauses + 1) k) (map decimal hints ++ zero_field ∷ []) ≡ Ok hints
-unfolding hints_at
+    → log_hints_at n clauses (run (clauses + 1) k) (map decimal hints ++ zero_field ∷ []) ≡ Ok hints
+unfolding log_hints_at
 hints-again n clauses k [] le h = rw zero-again refl
 hints-again n clauses k (m ∷ hints) le h =
     rw (number-again m h.0.0 (omega (arith, h.0.1)), hint-again clauses k m h.0, hints-again n clauses k hints le h.1) refl

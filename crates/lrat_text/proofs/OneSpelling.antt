@@ -16,11 +16,11 @@ use Rattle.lrat_text.specs.declared.error.LratErr.{LratErr}
 use Rattle.lrat_text.specs.declared.error.LratErr.TheVariants.{Truncated, BadLine, RatStep}
 use Rattle.lrat_text.specs.declared.field.Field.{Field}
 use Rattle.lrat_text.specs.declared.field.Field.TheVariants.{End, Number}
-use Rattle.lrat_text.specs.Steps.{◌>>=◌}
-use Rattle.lrat_text.specs.Lines.{whole_lines, is_whole, onto_first, joined, words_of, without_return, line_of}
+use Rattle.pack_defs.specs.Steps.{◌>>=◌}
+use Rattle.lrat_text.specs.Lines.{ended_lines, is_whole, onto_first_line, with_spaces, words_of, without_return, line_of}
 use Rattle.lrat_text.specs.LogText.{greatest, lit_text, zero_field, log_fields, log_text}
-use Rattle.lrat_text.specs.LogReading.{LogRead, natural, signed_of, field_of, lits_at, lits_or, place_in, hint_place, place_or, hints_at, hints_or, with_line, after_words, after_lines, log_of, log_read, nothing_read}
-use Rattle.lrat_text.specs.OneSpelling.{has_no_nought, is_shortest, IsNumbered, ArePlain}
+use Rattle.lrat_text.specs.LogReading.{LogRead, natural, signed_of, field_of, log_lits_at, log_lits_or, place_in, hint_place, place_or, log_hints_at, log_hints_or, with_line, after_words, after_log_lines, log_of, log_read, nothing_read}
+use Rattle.lrat_text.specs.OneSpelling.{has_no_nought, is_shortest, IsNumberedLine, ArePlain}
 use Rattle.lrat_text.proofs.LogLemmas.{run, run-more, is-next, not-letter}
 use Rattle.lrat_text.proofs.NumberLemmas.{digits-signed}
 
@@ -29,18 +29,18 @@ use Rattle.lrat_text.proofs.NumberLemmas.{digits-signed}
 abbrev pub ended : List (List ℕ) → List ℕ
 ended lines = flat_map (λ line. line ++ 10 ∷ []) lines
 
-onto-ended : (c d : ℕ) (rest : List ℕ) (lines : List (List ℕ)) → ended lines ≡ d ∷ rest → ended (onto_first c lines) ≡ c ∷ d ∷ rest
+onto-ended : (c d : ℕ) (rest : List ℕ) (lines : List (List ℕ)) → ended lines ≡ d ∷ rest → ended (onto_first_line c lines) ≡ c ∷ d ∷ rest
 onto-ended c d rest [] e = absurd cc
 onto-ended c d rest (line ∷ lines) e = ap (λ (r : List ℕ). c ∷ r) e
 
 -- a text of whole lines is these, with their ends
-pub whole-text : (text : List ℕ) → is_whole text ≡ true → ended (whole_lines text) ≡ text
-unfolding is_whole whole_lines
+pub whole-text : (text : List ℕ) → is_whole text ≡ true → ended (ended_lines text) ≡ text
+unfolding is_whole ended_lines
 whole-text [] h = refl
 whole-text (c ∷ []) h = rw h (ap (λ (x : ℕ). x ∷ []) (sym (eqb-true c 10 h)))
 whole-text (c ∷ d ∷ rest) h = elim (cases_eq c 10) [
   | inl e ↦ rw (eq-eqb c 10 e, e) (ap (λ (r : List ℕ). 10 ∷ r) (whole-text (d ∷ rest) h))
-  | inr ne ↦ rw (ne_eqb c 10 ne) (onto-ended c d rest (whole_lines (d ∷ rest)) (whole-text (d ∷ rest) h))
+  | inr ne ↦ rw (ne_eqb c 10 ne) (onto-ended c d rest (ended_lines (d ∷ rest)) (whole-text (d ∷ rest) h))
 ]
 
 -- ---- words
@@ -146,15 +146,15 @@ ok-same x y e = cc
 abbrev more-lits : Lit → Result (List Lit × List (List ℕ)) LratErr → Result (List Lit × List (List ℕ)) LratErr
 more-lits l read = read >>= λ x. Ok (l ∷ x.0, x.1)
 
-pub lits-said : (n : ℕ) (words : List (List ℕ)) (lits : List Lit) (rest : List (List ℕ)) → lits_at n words ≡ Ok (lits, rest) → list_all is_shortest words ≡ true → AreLits words lits rest
-unfolding lits_at
+pub lits-said : (n : ℕ) (words : List (List ℕ)) (lits : List Lit) (rest : List (List ℕ)) → log_lits_at n words ≡ Ok (lits, rest) → list_all is_shortest words ≡ true → AreLits words lits rest
+unfolding log_lits_at
 lits-said n [] lits rest e h = absurd (err-ok _ _ e)
 lits-said n (word ∷ words) lits rest e h = go (field_of word) (written word parts.0) (λ ls r q. lits-said n words ls r q parts.1) e
   where
     parts : (is_shortest word ≡ true) × (list_all is_shortest words ≡ true)
     parts = and_parts _ _ h
 
-    more : (l : Lit) → word ≡ lit_text l → ((ls : List Lit) (r : List (List ℕ)) → lits_at n words ≡ Ok (ls, r) → AreLits words ls r) → (r : Result (List Lit × List (List ℕ)) LratErr) → lits_at n words ≡ r → more-lits l r ≡ Ok (lits, rest) → AreLits (word ∷ words) lits rest
+    more : (l : Lit) → word ≡ lit_text l → ((ls : List Lit) (r : List (List ℕ)) → log_lits_at n words ≡ Ok (ls, r) → AreLits words ls r) → (r : Result (List Lit × List (List ℕ)) LratErr) → log_lits_at n words ≡ r → more-lits l r ≡ Ok (lits, rest) → AreLits (word ∷ words) lits rest
     more l w rec (Err why) q e = absurd (err-ok _ _ e)
     more l w rec (Ok x) q e =
         let both = ok-same (l ∷ x.0, x.1) (lits, rest) e in
@@ -166,7 +166,7 @@ lits-said n (word ∷ words) lits rest e h = go (field_of word) (written word pa
           shortest = rw (← behind) tail.shortest;
         }
 
-    go : (o : Option Field) → IsWrittenAs word o → ((ls : List Lit) (r : List (List ℕ)) → lits_at n words ≡ Ok (ls, r) → AreLits words ls r) → lits_or n o words (lits_at n words) ≡ Ok (lits, rest) → AreLits (word ∷ words) lits rest
+    go : (o : Option Field) → IsWrittenAs word o → ((ls : List Lit) (r : List (List ℕ)) → log_lits_at n words ≡ Ok (ls, r) → AreLits words ls r) → log_lits_or n o words (log_lits_at n words) ≡ Ok (lits, rest) → AreLits (word ∷ words) lits rest
     go None w rec e = absurd (err-ok _ _ e)
     go (Some End) w rec e =
         let both = ok-same ([], words) (lits, rest) e in
@@ -176,7 +176,7 @@ lits-said n (word ∷ words) lits rest e h = go (field_of word) (written word pa
           are = rw (← none) (ap (λ (v : List ℕ). v ∷ words) w ∙ ap (λ (b : List (List ℕ)). zero_field ∷ b) behind);
           shortest = rw (← behind) parts.1;
         }
-    go (Some (Number l)) w rec e = more l w rec (lits_at n words) refl e
+    go (Some (Number l)) w rec e = more l w rec (log_lits_at n words) refl e
 
 -- where the lines are numbered on from the clauses, a hint's place is its number
 place-said : (next k h p : ℕ) → place_in next (run next k) h ≡ Some p → p ≡ h
@@ -203,16 +203,16 @@ pub empty-is : (xs : List (List ℕ)) → is_empty xs ≡ true → xs ≡ []
 empty-is [] e = refl
 empty-is (x ∷ xs) e = absurd cc
 
-pub hints-said : (n clauses k : ℕ) (words : List (List ℕ)) (hints : List ℕ) → hints_at n clauses (run (clauses + 1) k) words ≡ Ok hints → list_all is_shortest words ≡ true
+pub hints-said : (n clauses k : ℕ) (words : List (List ℕ)) (hints : List ℕ) → log_hints_at n clauses (run (clauses + 1) k) words ≡ Ok hints → list_all is_shortest words ≡ true
     → words ≡ map decimal hints ++ zero_field ∷ []
-unfolding hints_at
+unfolding log_hints_at
 hints-said n clauses k [] hints e h = absurd (err-ok _ _ e)
 hints-said n clauses k (word ∷ words) hints e h = go (field_of word) (written word parts.0) (λ hs q. hints-said n clauses k words hs q parts.1) e
   where
     parts : (is_shortest word ≡ true) × (list_all is_shortest words ≡ true)
     parts = and_parts _ _ h
 
-    more : (v place : ℕ) → word ≡ decimal v → place ≡ v → ((hs : List ℕ) → hints_at n clauses (run (clauses + 1) k) words ≡ Ok hs → words ≡ map decimal hs ++ zero_field ∷ []) → (r : Result (List ℕ) LratErr) → hints_at n clauses (run (clauses + 1) k) words ≡ r → more-hints place r ≡ Ok hints
+    more : (v place : ℕ) → word ≡ decimal v → place ≡ v → ((hs : List ℕ) → log_hints_at n clauses (run (clauses + 1) k) words ≡ Ok hs → words ≡ map decimal hs ++ zero_field ∷ []) → (r : Result (List ℕ) LratErr) → log_hints_at n clauses (run (clauses + 1) k) words ≡ r → more-hints place r ≡ Ok hints
         → word ∷ words ≡ map decimal hints ++ zero_field ∷ []
     more v place w p rec (Err why) q e = absurd (err-ok _ _ e)
     more v place w p rec (Ok x) q e =
@@ -220,13 +220,13 @@ hints-said n clauses k (word ∷ words) hints e h = go (field_of word) (written 
         let tail = rec x q in
         rw (← these) (ap (λ (u : List ℕ). u ∷ words) (w ∙ ap decimal (sym p)) ∙ ap (λ (r : List (List ℕ)). decimal place ∷ r) tail)
 
-    named : (l : Lit) → word ≡ decimal l.var → ((hs : List ℕ) → hints_at n clauses (run (clauses + 1) k) words ≡ Ok hs → words ≡ map decimal hs ++ zero_field ∷ []) → (o : Option ℕ) → hint_place clauses (run (clauses + 1) k) l.var ≡ o
-        → (place_or n o >>= λ place. more-hints place (hints_at n clauses (run (clauses + 1) k) words)) ≡ Ok hints → word ∷ words ≡ map decimal hints ++ zero_field ∷ []
+    named : (l : Lit) → word ≡ decimal l.var → ((hs : List ℕ) → log_hints_at n clauses (run (clauses + 1) k) words ≡ Ok hs → words ≡ map decimal hs ++ zero_field ∷ []) → (o : Option ℕ) → hint_place clauses (run (clauses + 1) k) l.var ≡ o
+        → (place_or n o >>= λ place. more-hints place (log_hints_at n clauses (run (clauses + 1) k) words)) ≡ Ok hints → word ∷ words ≡ map decimal hints ++ zero_field ∷ []
     named l w rec None q e = absurd (err-ok _ _ e)
-    named l w rec (Some place) q e = more l.var place w (hint-said clauses k l.var place q) rec (hints_at n clauses (run (clauses + 1) k) words) refl e
+    named l w rec (Some place) q e = more l.var place w (hint-said clauses k l.var place q) rec (log_hints_at n clauses (run (clauses + 1) k) words) refl e
 
-    signed : (l : Lit) (b : Bool) → l.positive ≡ b → word ≡ lit_text l → ((hs : List ℕ) → hints_at n clauses (run (clauses + 1) k) words ≡ Ok hs → words ≡ map decimal hs ++ zero_field ∷ [])
-        → ((if b then place_or n (hint_place clauses (run (clauses + 1) k) l.var) else Err (RatStep n)) >>= λ place. more-hints place (hints_at n clauses (run (clauses + 1) k) words)) ≡ Ok hints
+    signed : (l : Lit) (b : Bool) → l.positive ≡ b → word ≡ lit_text l → ((hs : List ℕ) → log_hints_at n clauses (run (clauses + 1) k) words ≡ Ok hs → words ≡ map decimal hs ++ zero_field ∷ [])
+        → ((if b then place_or n (hint_place clauses (run (clauses + 1) k) l.var) else Err (RatStep n)) >>= λ place. more-hints place (log_hints_at n clauses (run (clauses + 1) k) words)) ≡ Ok hints
         → word ∷ words ≡ map decimal hints ++ zero_field ∷ []
     signed l false p w rec e = absurd (err-ok _ _ e)
     signed l true p w rec e = named l (w ∙ positive-text l p) rec (hint_place clauses (run (clauses + 1) k) l.var) refl e
@@ -237,7 +237,7 @@ hints-said n clauses k (word ∷ words) hints e h = go (field_of word) (written 
         let none : [] ≡ hints = cc in
         rw (← none, empty-is words p) (ap (λ (v : List ℕ). v ∷ []) w)
 
-    go : (o : Option Field) → IsWrittenAs word o → ((hs : List ℕ) → hints_at n clauses (run (clauses + 1) k) words ≡ Ok hs → words ≡ map decimal hs ++ zero_field ∷ []) → hints_or n clauses (run (clauses + 1) k) o words (hints_at n clauses (run (clauses + 1) k) words) ≡ Ok hints
+    go : (o : Option Field) → IsWrittenAs word o → ((hs : List ℕ) → log_hints_at n clauses (run (clauses + 1) k) words ≡ Ok hs → words ≡ map decimal hs ++ zero_field ∷ []) → log_hints_or n clauses (run (clauses + 1) k) o words (log_hints_at n clauses (run (clauses + 1) k) words) ≡ Ok hints
         → word ∷ words ≡ map decimal hints ++ zero_field ∷ []
     go None w rec e = absurd (err-ok _ _ e)
     go (Some End) w rec e = last (is_empty words) refl w e
@@ -268,10 +268,10 @@ digits-short (c ∷ rest) h =
 
 pub line-said : (n clauses k : ℕ) (before : List Line) (words : List (List ℕ)) (next : LogRead)
     → after_words n clauses (record { numbers = run (clauses + 1) k; lines = before }) words ≡ Ok next
-    → list_all is_shortest words ≡ true → IsNumbered (clauses + 1 + k) words → IsLineSaid clauses k before words next
+    → list_all is_shortest words ≡ true → IsNumberedLine (clauses + 1 + k) words → IsLineSaid clauses k before words next
 unfolding after_words with_line
 line-said n clauses k before [] next e h numbered = absurd numbered
-line-said n clauses k before (word ∷ words) next e h numbered = lits (lits_at n words) refl step
+line-said n clauses k before (word ∷ words) next e h numbered = lits (log_lits_at n words) refl step
   where
     parts : (is_shortest word ≡ true) × (list_all is_shortest words ≡ true)
     parts = and_parts _ _ h
@@ -281,11 +281,11 @@ line-said n clauses k before (word ∷ words) next e h numbered = lits (lits_at 
         let is = natural-is greatest word (clauses + 1 + k) numbered.0 in
         word-of-natural word (clauses + 1 + k) numbered.0 (sym (digits-short word is.digits) ∙ parts.0)
 
-    step : (lits_at n words >>= λ lits. hints_at n clauses (run (clauses + 1) k) lits.1 >>= λ hints. Ok (record { numbers = run (clauses + 1) k ++ (clauses + 1 + k) ∷ []; lines = before ++ record { lits = lits.0; hints = hints } ∷ [] })) ≡ Ok next
+    step : (log_lits_at n words >>= λ lits. log_hints_at n clauses (run (clauses + 1) k) lits.1 >>= λ hints. Ok (record { numbers = run (clauses + 1) k ++ (clauses + 1 + k) ∷ []; lines = before ++ record { lits = lits.0; hints = hints } ∷ [] })) ≡ Ok next
     step =
         rw (no-comment word (clauses + 1 + k) numbered.0, numbered.1, number-said word (clauses + 1 + k) (omega arith) numbered.0, is-next clauses k) at e
 
-    hints : (x : List Lit × List (List ℕ)) → AreLits words x.0 x.1 → (r : Result (List ℕ) LratErr) → hints_at n clauses (run (clauses + 1) k) x.1 ≡ r
+    hints : (x : List Lit × List (List ℕ)) → AreLits words x.0 x.1 → (r : Result (List ℕ) LratErr) → log_hints_at n clauses (run (clauses + 1) k) x.1 ≡ r
         → (r >>= λ hints. Ok (record { numbers = run (clauses + 1) k ++ (clauses + 1 + k) ∷ []; lines = before ++ record { lits = x.0; hints = hints } ∷ [] })) ≡ Ok next → IsLineSaid clauses k before (word ∷ words) next
     hints x are (Err why) q e = absurd (err-ok _ _ e)
     hints x are (Ok hs) q e = record {
@@ -296,10 +296,10 @@ line-said n clauses k before (word ∷ words) next e h numbered = lits (lits_at 
       words_are = ap (λ (v : List ℕ). v ∷ words) first ∙ ap (λ (r : List (List ℕ)). decimal (clauses + 1 + k) ∷ r) (are.are ∙ ap (λ (r : List (List ℕ)). map lit_text x.0 ++ zero_field ∷ r) (hints-said n clauses k x.1 hs q are.shortest));
     }
 
-    lits : (r : Result (List Lit × List (List ℕ)) LratErr) → lits_at n words ≡ r
-        → (r >>= λ lits. hints_at n clauses (run (clauses + 1) k) lits.1 >>= λ hints. Ok (record { numbers = run (clauses + 1) k ++ (clauses + 1 + k) ∷ []; lines = before ++ record { lits = lits.0; hints = hints } ∷ [] })) ≡ Ok next → IsLineSaid clauses k before (word ∷ words) next
+    lits : (r : Result (List Lit × List (List ℕ)) LratErr) → log_lits_at n words ≡ r
+        → (r >>= λ lits. log_hints_at n clauses (run (clauses + 1) k) lits.1 >>= λ hints. Ok (record { numbers = run (clauses + 1) k ++ (clauses + 1 + k) ∷ []; lines = before ++ record { lits = lits.0; hints = hints } ∷ [] })) ≡ Ok next → IsLineSaid clauses k before (word ∷ words) next
     lits (Err why) q e = absurd (err-ok _ _ e)
-    lits (Ok x) q e = hints x (lits-said n words x.0 x.1 q parts.1) (hints_at n clauses (run (clauses + 1) k) x.1) refl e
+    lits (Ok x) q e = hints x (lits-said n words x.0 x.1 q parts.1) (log_hints_at n clauses (run (clauses + 1) k) x.1) refl e
 
 -- ---- lines
 
@@ -310,9 +310,9 @@ pub record AreLinesSaid (number : ℕ) (before : List Line) (lines : List (List 
   pub text : ended lines ≡ log_text number more
 
 pub lines-said : (n clauses k : ℕ) (before : List Line) (lines : List (List ℕ)) (state : LogRead)
-    → after_lines n clauses (record { numbers = run (clauses + 1) k; lines = before }) lines ≡ Ok state
+    → after_log_lines n clauses (record { numbers = run (clauses + 1) k; lines = before }) lines ≡ Ok state
     → ArePlain (clauses + 1 + k) lines → AreLinesSaid (clauses + 1 + k) before lines state
-unfolding after_lines log_text
+unfolding after_log_lines log_text
 lines-said n clauses k before [] state e plain = record {
   more = [];
   lines_are = let same : record { numbers = run (clauses + 1) k; lines = before } ≡ state = cc in sym (ap (λ s. s.lines) same) ∙ sym (append-nil before);
@@ -323,10 +323,10 @@ lines-said n clauses k before (line ∷ lines) state e plain = go (after_words n
     next-number : clauses + 1 + k + 1 ≡ clauses + 1 + suc k
     next-number = omega arith
 
-    more : (next : LogRead) → IsLineSaid clauses k before (words_of (without_return line)) next → ((before : List Line) → after_lines (n + 1) clauses (record { numbers = run (clauses + 1) (suc k); lines = before }) lines ≡ Ok state → AreLinesSaid (clauses + 1 + suc k) before lines state) → after_lines (n + 1) clauses next lines ≡ Ok state → AreLinesSaid (clauses + 1 + k) before (line ∷ lines) state
+    more : (next : LogRead) → IsLineSaid clauses k before (words_of (without_return line)) next → ((before : List Line) → after_log_lines (n + 1) clauses (record { numbers = run (clauses + 1) (suc k); lines = before }) lines ≡ Ok state → AreLinesSaid (clauses + 1 + suc k) before lines state) → after_log_lines (n + 1) clauses next lines ≡ Ok state → AreLinesSaid (clauses + 1 + k) before (line ∷ lines) state
     more next said rec e =
         let rest = rec (before ++ said.line ∷ []) (rw said.next_is at e) in
-        let first : line ≡ joined (log_fields (clauses + 1 + k) said.line) = plain.0.spaced ∙ ap joined said.words_are in
+        let first : line ≡ with_spaces (log_fields (clauses + 1 + k) said.line) = plain.0.spaced ∙ ap with_spaces said.words_are in
         record {
           more = said.line ∷ rest.more;
           lines_are = rest.lines_are ∙ append_assoc before (said.line ∷ []) rest.more;
@@ -335,26 +335,26 @@ lines-said n clauses k before (line ∷ lines) state e plain = go (after_words n
               ∙ ap (λ (t : List ℕ). line_of (log_fields (clauses + 1 + k) said.line) ++ t) (rest.text ∙ ap (λ (m : ℕ). log_text m rest.more) (sym next-number));
         }
 
-    go : (r : Result LogRead LratErr) → after_words n clauses (record { numbers = run (clauses + 1) k; lines = before }) (words_of (without_return line)) ≡ r → ((before : List Line) → after_lines (n + 1) clauses (record { numbers = run (clauses + 1) (suc k); lines = before }) lines ≡ Ok state → AreLinesSaid (clauses + 1 + suc k) before lines state)
-        → (r >>= λ next. after_lines (n + 1) clauses next lines) ≡ Ok state → AreLinesSaid (clauses + 1 + k) before (line ∷ lines) state
+    go : (r : Result LogRead LratErr) → after_words n clauses (record { numbers = run (clauses + 1) k; lines = before }) (words_of (without_return line)) ≡ r → ((before : List Line) → after_log_lines (n + 1) clauses (record { numbers = run (clauses + 1) (suc k); lines = before }) lines ≡ Ok state → AreLinesSaid (clauses + 1 + suc k) before lines state)
+        → (r >>= λ next. after_log_lines (n + 1) clauses next lines) ≡ Ok state → AreLinesSaid (clauses + 1 + k) before (line ∷ lines) state
     go (Err why) q rec e = absurd (err-ok _ _ e)
     go (Ok next) q rec e = more next (line-said n clauses k before (words_of (without_return line)) next q plain.0.shortest plain.0.numbered) rec e
 
 -- a plain text is that of the log that was read
-pub plain-said : (clauses : ℕ) (text : List ℕ) (log : Log) → ArePlain (clauses + 1) (whole_lines text) → log_of text clauses ≡ Ok log → text ≡ log_text (clauses + 1) log.lines
+pub plain-said : (clauses : ℕ) (text : List ℕ) (log : Log) → ArePlain (clauses + 1) (ended_lines text) → log_of text clauses ≡ Ok log → text ≡ log_text (clauses + 1) log.lines
 unfolding log_of
 plain-said clauses text log plain e = whole (is_whole text) refl e
   where
     first : clauses + 1 ≡ clauses + 1 + 0
     first = omega arith
 
-    said : is_whole text ≡ true → (r : Result LogRead LratErr) → after_lines 1 clauses nothing_read (whole_lines text) ≡ r → (r >>= log_read) ≡ Ok log → text ≡ log_text (clauses + 1) log.lines
+    said : is_whole text ≡ true → (r : Result LogRead LratErr) → after_log_lines 1 clauses nothing_read (ended_lines text) ≡ r → (r >>= log_read) ≡ Ok log → text ≡ log_text (clauses + 1) log.lines
     said w (Err why) q e = absurd (err-ok _ _ e)
     said w (Ok state) q e =
-        let are = lines-said 1 clauses 0 [] (whole_lines text) state q (subst (λ m. ArePlain m (whole_lines text)) first plain) in
+        let are = lines-said 1 clauses 0 [] (ended_lines text) state q (subst (λ m. ArePlain m (ended_lines text)) first plain) in
         let lines : state.lines ≡ log.lines = ap (λ (l : Log). l.lines) (let same : record { lines = state.lines } ≡ log = cc in same) in
         sym (whole-text text w) ∙ are.text ∙ ap (λ (m : ℕ). log_text m are.more) (sym first) ∙ ap (λ (ls : List Line). log_text (clauses + 1) ls) (sym are.lines_are ∙ lines)
 
-    whole : (b : Bool) → is_whole text ≡ b → (if b then (after_lines 1 clauses nothing_read (whole_lines text) >>= log_read) else Err Truncated) ≡ Ok log → text ≡ log_text (clauses + 1) log.lines
+    whole : (b : Bool) → is_whole text ≡ b → (if b then (after_log_lines 1 clauses nothing_read (ended_lines text) >>= log_read) else Err Truncated) ≡ Ok log → text ≡ log_text (clauses + 1) log.lines
     whole false w e = absurd (err-ok _ _ e)
-    whole true w e = said w (after_lines 1 clauses nothing_read (whole_lines text)) refl e
+    whole true w e = said w (after_log_lines 1 clauses nothing_read (ended_lines text)) refl e

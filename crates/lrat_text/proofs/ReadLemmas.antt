@@ -9,11 +9,12 @@ use Rattle.pack_defs.specs.Lists.{is_ascending, is_empty, is_in}
 use Rattle.pack_defs.proofs.Words.{ascending-rest}
 use Rattle.lrat_text.specs.declared.error.LratErr.TheVariants.{Truncated, BadLine, RatStep, NoMemory}
 use Rattle.lrat_text.specs.declared.field.Field.TheVariants.{End, Number}
-use Rattle.lrat_text.specs.LogReading.{LogRead, after_words, after_lines, log_of, log_read, nothing_read, field_of, lits_at, hint_at, hints_at, hints_or, is_next, place_in, deleted_at, deleted_or}
+use Rattle.lrat_text.specs.LogReading.{LogRead, after_words, after_log_lines, log_of, log_read, nothing_read, field_of, log_lits_at, hint_at, log_hints_at, log_hints_or, is_next, place_in, deleted_at, deleted_or}
 use Rattle.clause_db.specs.declared.lit.Lit.{Lit}
 use Rattle.lrat_text.specs.declared.error.LratErr.{LratErr}
-use Rattle.lrat_text.specs.Steps.{◌>>=◌, Fails}
-use Rattle.lrat_text.specs.Lines.{is_whole, whole_lines, words_of, without_return}
+use Rattle.pack_defs.specs.Steps.{◌>>=◌}
+use Rattle.lrat_text.specs.Steps.{LogFails}
+use Rattle.lrat_text.specs.Lines.{is_whole, ended_lines, words_of, without_return}
 
 abbrev pub with_front : List Lit → Result (List Lit × List (List ℕ)) LratErr → Result (List Lit × List (List ℕ)) LratErr
 with_front front read = read >>= λ x. Ok (front ++ x.0, x.1)
@@ -22,7 +23,7 @@ abbrev pub with_hints : List ℕ → Result (List ℕ) LratErr → Result (List 
 with_hints front read = read >>= λ x. Ok (front ++ x)
 
 -- what stops a step stops what stands on it
-pub fails-on : {A B : Type 0} (f : A → Result B LratErr) (e : LratErr) (read : Result A LratErr) (whole : Result B LratErr) → whole ≡ (read >>= f) → Fails e read → Fails e whole
+pub fails-on : {A B : Type 0} (f : A → Result B LratErr) (e : LratErr) (read : Result A LratErr) (whole : Result B LratErr) → whole ≡ (read >>= f) → LogFails e read → LogFails e whole
 fails-on f Truncated read whole w h = rw (w, h) refl
 fails-on f (BadLine n) read whole w h = rw (w, h) refl
 fails-on f (RatStep n) read whole w h = rw (w, h) refl
@@ -31,26 +32,26 @@ fails-on f NoMemory read whole w h = tt
 -- ---- literals
 
 pub lits-more : (front : List Lit) (n : ℕ) (word : List ℕ) (words more : List (List ℕ)) (l : Lit) (total : Result (List Lit × List (List ℕ)) LratErr) → words ≡ word ∷ more → field_of word ≡ Some (Number l)
-    → with_front front (lits_at n words) ≡ total → with_front (front ++ l ∷ []) (lits_at n more) ≡ total
-unfolding lits_at
-lits-more front n word words more l total e f so = go (lits_at n more) ∙ (sym (rw (e, f) refl) ∙ so)
+    → with_front front (log_lits_at n words) ≡ total → with_front (front ++ l ∷ []) (log_lits_at n more) ≡ total
+unfolding log_lits_at
+lits-more front n word words more l total e f so = go (log_lits_at n more) ∙ (sym (rw (e, f) refl) ∙ so)
   where
     go : (r : Result (List Lit × List (List ℕ)) LratErr) → with_front (front ++ l ∷ []) r ≡ with_front front (r >>= λ x. Ok (l ∷ x.0, x.1))
     go (Ok x) = ap (λ (ls : List Lit). Ok (ls, x.1)) (append_assoc front (l ∷ []) x.0)
     go (Err why) = refl
 
 pub lits-end : (front : List Lit) (n : ℕ) (word : List ℕ) (words more : List (List ℕ)) (total : Result (List Lit × List (List ℕ)) LratErr) → words ≡ word ∷ more → field_of word ≡ Some End
-    → with_front front (lits_at n words) ≡ total → total ≡ Ok (front, more)
-unfolding lits_at
+    → with_front front (log_lits_at n words) ≡ total → total ≡ Ok (front, more)
+unfolding log_lits_at
 lits-end front n word words more total e f so = sym so ∙ (rw (e, f) (ap (λ (ls : List Lit). Ok (ls, more)) (append-nil front)))
 
 pub lits-bad : (front : List Lit) (n : ℕ) (word : List ℕ) (words more : List (List ℕ)) (total : Result (List Lit × List (List ℕ)) LratErr) → words ≡ word ∷ more → field_of word ≡ None
-    → with_front front (lits_at n words) ≡ total → total ≡ Err (BadLine n)
-unfolding lits_at
+    → with_front front (log_lits_at n words) ≡ total → total ≡ Err (BadLine n)
+unfolding log_lits_at
 lits-bad front n word words more total e f so = sym so ∙ rw (e, f) refl
 
-pub lits-none : (front : List Lit) (n : ℕ) (words : List (List ℕ)) (total : Result (List Lit × List (List ℕ)) LratErr) → words ≡ [] → with_front front (lits_at n words) ≡ total → total ≡ Err (BadLine n)
-unfolding lits_at
+pub lits-none : (front : List Lit) (n : ℕ) (words : List (List ℕ)) (total : Result (List Lit × List (List ℕ)) LratErr) → words ≡ [] → with_front front (log_lits_at n words) ≡ total → total ≡ Err (BadLine n)
+unfolding log_lits_at
 lits-none front n words total e so = sym so ∙ rw e refl
 
 -- ---- the place of a line's number
@@ -97,47 +98,47 @@ nowhere next (m ∷ ms) h e = let parts = or_parts (m == h) (is_in ms h) e in rw
 -- ---- hints
 
 hint-step : (n clauses : ℕ) (numbers : List ℕ) (word : List ℕ) (words more : List (List ℕ)) → words ≡ word ∷ more
-    → hints_at n clauses numbers words ≡ hints_or n clauses numbers (field_of word) more (hints_at n clauses numbers more)
-unfolding hints_at
+    → log_hints_at n clauses numbers words ≡ log_hints_or n clauses numbers (field_of word) more (log_hints_at n clauses numbers more)
+unfolding log_hints_at
 hint-step n clauses numbers word words more e = rw e refl
 
 pub hints-more : (front : List ℕ) (n clauses : ℕ) (numbers : List ℕ) (word : List ℕ) (words more : List (List ℕ)) (hint : Lit) (place : ℕ) (total : Result (List ℕ) LratErr) → words ≡ word ∷ more → field_of word ≡ Some (Number hint)
-    → hint_at n clauses numbers hint ≡ Ok place → with_hints front (hints_at n clauses numbers words) ≡ total → with_hints (front ++ place ∷ []) (hints_at n clauses numbers more) ≡ total
+    → hint_at n clauses numbers hint ≡ Ok place → with_hints front (log_hints_at n clauses numbers words) ≡ total → with_hints (front ++ place ∷ []) (log_hints_at n clauses numbers more) ≡ total
 hints-more front n clauses numbers word words more hint place total e f h so =
-    let step : hints_at n clauses numbers words ≡ (hints_at n clauses numbers more >>= λ hints. Ok (place ∷ hints)) = hint-step n clauses numbers word words more e ∙ rw (f, h) refl in
-    go (hints_at n clauses numbers more) ∙ (sym (ap (with_hints front) step) ∙ so)
+    let step : log_hints_at n clauses numbers words ≡ (log_hints_at n clauses numbers more >>= λ hints. Ok (place ∷ hints)) = hint-step n clauses numbers word words more e ∙ rw (f, h) refl in
+    go (log_hints_at n clauses numbers more) ∙ (sym (ap (with_hints front) step) ∙ so)
   where
     go : (r : Result (List ℕ) LratErr) → with_hints (front ++ place ∷ []) r ≡ with_hints front (r >>= λ hints. Ok (place ∷ hints))
     go (Ok x) = ap (λ (hs : List ℕ). Ok hs) (append_assoc front (place ∷ []) x)
     go (Err why) = refl
 
 pub hints-stop : (front : List ℕ) (n clauses : ℕ) (numbers : List ℕ) (word : List ℕ) (words more : List (List ℕ)) (hint : Lit) (why : LratErr) (total : Result (List ℕ) LratErr) → words ≡ word ∷ more → field_of word ≡ Some (Number hint)
-    → Fails why (hint_at n clauses numbers hint) → with_hints front (hints_at n clauses numbers words) ≡ total → Fails why total
+    → LogFails why (hint_at n clauses numbers hint) → with_hints front (log_hints_at n clauses numbers words) ≡ total → LogFails why total
 hints-stop front n clauses numbers word words more hint why total e f h so =
-    let step : hints_at n clauses numbers words ≡ (hint_at n clauses numbers hint >>= λ place. hints_at n clauses numbers more >>= λ hints. Ok (place ∷ hints)) = hint-step n clauses numbers word words more e ∙ rw f refl in
-    let here = fails-on (λ place. hints_at n clauses numbers more >>= λ hints. Ok (place ∷ hints)) why (hint_at n clauses numbers hint) (hints_at n clauses numbers words) step h in
-    fails-on (λ x. Ok (front ++ x)) why (hints_at n clauses numbers words) total (sym so) here
+    let step : log_hints_at n clauses numbers words ≡ (hint_at n clauses numbers hint >>= λ place. log_hints_at n clauses numbers more >>= λ hints. Ok (place ∷ hints)) = hint-step n clauses numbers word words more e ∙ rw f refl in
+    let here = fails-on (λ place. log_hints_at n clauses numbers more >>= λ hints. Ok (place ∷ hints)) why (hint_at n clauses numbers hint) (log_hints_at n clauses numbers words) step h in
+    fails-on (λ x. Ok (front ++ x)) why (log_hints_at n clauses numbers words) total (sym so) here
 
 pub hints-end : (front : List ℕ) (n clauses : ℕ) (numbers : List ℕ) (word : List ℕ) (words more : List (List ℕ)) (total : Result (List ℕ) LratErr) → words ≡ word ∷ more → field_of word ≡ Some End
-    → is_empty more ≡ true → with_hints front (hints_at n clauses numbers words) ≡ total → total ≡ Ok front
+    → is_empty more ≡ true → with_hints front (log_hints_at n clauses numbers words) ≡ total → total ≡ Ok front
 hints-end front n clauses numbers word words more total e f p so =
-    let step : hints_at n clauses numbers words ≡ Ok [] = hint-step n clauses numbers word words more e ∙ rw (f, p) refl in
+    let step : log_hints_at n clauses numbers words ≡ Ok [] = hint-step n clauses numbers word words more e ∙ rw (f, p) refl in
     sym so ∙ (ap (with_hints front) step ∙ ap (λ (hs : List ℕ). Ok hs) (append-nil front))
 
 pub hints-behind : (front : List ℕ) (n clauses : ℕ) (numbers : List ℕ) (word : List ℕ) (words more : List (List ℕ)) (total : Result (List ℕ) LratErr) → words ≡ word ∷ more → field_of word ≡ Some End
-    → is_empty more ≡ false → with_hints front (hints_at n clauses numbers words) ≡ total → total ≡ Err (BadLine n)
+    → is_empty more ≡ false → with_hints front (log_hints_at n clauses numbers words) ≡ total → total ≡ Err (BadLine n)
 hints-behind front n clauses numbers word words more total e f p so =
-    let step : hints_at n clauses numbers words ≡ Err (BadLine n) = hint-step n clauses numbers word words more e ∙ rw (f, p) refl in
+    let step : log_hints_at n clauses numbers words ≡ Err (BadLine n) = hint-step n clauses numbers word words more e ∙ rw (f, p) refl in
     sym so ∙ ap (with_hints front) step
 
 pub hints-bad : (front : List ℕ) (n clauses : ℕ) (numbers : List ℕ) (word : List ℕ) (words more : List (List ℕ)) (total : Result (List ℕ) LratErr) → words ≡ word ∷ more → field_of word ≡ None
-    → with_hints front (hints_at n clauses numbers words) ≡ total → total ≡ Err (BadLine n)
+    → with_hints front (log_hints_at n clauses numbers words) ≡ total → total ≡ Err (BadLine n)
 hints-bad front n clauses numbers word words more total e f so =
-    let step : hints_at n clauses numbers words ≡ Err (BadLine n) = hint-step n clauses numbers word words more e ∙ rw f refl in
+    let step : log_hints_at n clauses numbers words ≡ Err (BadLine n) = hint-step n clauses numbers word words more e ∙ rw f refl in
     sym so ∙ ap (with_hints front) step
 
-pub hints-none : (front : List ℕ) (n clauses : ℕ) (numbers : List ℕ) (words : List (List ℕ)) (total : Result (List ℕ) LratErr) → words ≡ [] → with_hints front (hints_at n clauses numbers words) ≡ total → total ≡ Err (BadLine n)
-unfolding hints_at
+pub hints-none : (front : List ℕ) (n clauses : ℕ) (numbers : List ℕ) (words : List (List ℕ)) (total : Result (List ℕ) LratErr) → words ≡ [] → with_hints front (log_hints_at n clauses numbers words) ≡ total → total ≡ Err (BadLine n)
+unfolding log_hints_at
 hints-none front n clauses numbers words total e so = sym so ∙ rw e refl
 
 -- ---- deletions
@@ -212,35 +213,35 @@ unfolding log_of
 log-cut text clauses h = rw h refl
 
 -- a text of whole lines
-pub log-whole : (text : List ℕ) (clauses : ℕ) → is_whole text ≡ true → log_of text clauses ≡ (after_lines 1 clauses nothing_read (whole_lines text) >>= log_read)
+pub log-whole : (text : List ℕ) (clauses : ℕ) → is_whole text ≡ true → log_of text clauses ≡ (after_log_lines 1 clauses nothing_read (ended_lines text) >>= log_read)
 unfolding log_of
 log-whole text clauses h = rw h refl
 
 -- a line, and those behind it
 pub lines-step : (n clauses : ℕ) (state : LogRead) (line : List ℕ) (lines more : List (List ℕ)) → lines ≡ line ∷ more
-    → after_lines n clauses state lines ≡ (after_words n clauses state (words_of (without_return line)) >>= λ next. after_lines (n + 1) clauses next more)
-unfolding after_lines
+    → after_log_lines n clauses state lines ≡ (after_words n clauses state (words_of (without_return line)) >>= λ next. after_log_lines (n + 1) clauses next more)
+unfolding after_log_lines
 lines-step n clauses state line lines more e = rw e refl
 
-pub lines-none : (n clauses : ℕ) (state : LogRead) (lines : List (List ℕ)) → lines ≡ [] → after_lines n clauses state lines ≡ Ok state
-unfolding after_lines
+pub lines-none : (n clauses : ℕ) (state : LogRead) (lines : List (List ℕ)) → lines ≡ [] → after_log_lines n clauses state lines ≡ Ok state
+unfolding after_log_lines
 lines-none n clauses state lines e = rw e refl
 
 -- the whole, from a state that leads there: at its end, and where its next line stops it
 pub log-end : (text : List ℕ) (clauses n : ℕ) (state : LogRead) (lines : List (List ℕ)) → is_whole text ≡ true → lines ≡ []
-    → after_lines n clauses state lines ≡ after_lines 1 clauses nothing_read (whole_lines text) → log_of text clauses ≡ log_read state
+    → after_log_lines n clauses state lines ≡ after_log_lines 1 clauses nothing_read (ended_lines text) → log_of text clauses ≡ log_read state
 log-end text clauses n state lines w e h = log-whole text clauses w ∙ ap (λ r. r >>= log_read) (sym h ∙ lines-none n clauses state lines e)
 
 pub log-stops : (text : List ℕ) (clauses n : ℕ) (state : LogRead) (line : List ℕ) (lines more : List (List ℕ)) (e : LratErr) → is_whole text ≡ true → lines ≡ line ∷ more
-    → after_lines n clauses state lines ≡ after_lines 1 clauses nothing_read (whole_lines text)
-    → Fails e (after_words n clauses state (words_of (without_return line))) → Fails e (log_of text clauses)
+    → after_log_lines n clauses state lines ≡ after_log_lines 1 clauses nothing_read (ended_lines text)
+    → LogFails e (after_words n clauses state (words_of (without_return line))) → LogFails e (log_of text clauses)
 log-stops text clauses n state line lines more e w step h fails =
-    let here = fails-on (λ next. after_lines (n + 1) clauses next more) e (after_words n clauses state (words_of (without_return line))) (after_lines n clauses state lines) (lines-step n clauses state line lines more step) fails in
-    fails-on log_read e (after_lines n clauses state lines) (log_of text clauses) (log-whole text clauses w ∙ ap (λ r. r >>= log_read) (sym h)) here
+    let here = fails-on (λ next. after_log_lines (n + 1) clauses next more) e (after_words n clauses state (words_of (without_return line))) (after_log_lines n clauses state lines) (lines-step n clauses state line lines more step) fails in
+    fails-on log_read e (after_log_lines n clauses state lines) (log_of text clauses) (log-whole text clauses w ∙ ap (λ r. r >>= log_read) (sym h)) here
 
 pub log-goes-on : (text : List ℕ) (clauses n : ℕ) (state next : LogRead) (line : List ℕ) (lines more : List (List ℕ)) → lines ≡ line ∷ more
-    → after_lines n clauses state lines ≡ after_lines 1 clauses nothing_read (whole_lines text)
+    → after_log_lines n clauses state lines ≡ after_log_lines 1 clauses nothing_read (ended_lines text)
     → after_words n clauses state (words_of (without_return line)) ≡ Ok next
-    → after_lines (n + 1) clauses next more ≡ after_lines 1 clauses nothing_read (whole_lines text)
+    → after_log_lines (n + 1) clauses next more ≡ after_log_lines 1 clauses nothing_read (ended_lines text)
 log-goes-on text clauses n state next line lines more step h read =
-    sym (lines-step n clauses state line lines more step ∙ ap (λ r. r >>= λ next. after_lines (n + 1) clauses next more) read) ∙ h
+    sym (lines-step n clauses state line lines more step ∙ ap (λ r. r >>= λ next. after_log_lines (n + 1) clauses next more) read) ∙ h

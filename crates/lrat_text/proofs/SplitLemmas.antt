@@ -3,20 +3,20 @@ use Rattle.std.proofs.Common.{◌≡◌, ◌<◌, ◌+◌, ◌-◌, ◌∙◌, �
 use Rattle.std.specs.List.{slice_get}
 use Rattle.std.proofs.lemmas.List.{drop_more}
 use Rattle.pack_defs.specs.Lists.{is_empty}
-use Rattle.lrat_text.specs.Lines.{whole_lines, is_whole, pieces, is_blank, is_space, fields_of, words_of, without_return}
+use Rattle.lrat_text.specs.Lines.{ended_lines, is_whole, pieces, is_space_or_tab, is_space, fields_of, words_of, without_return}
 
 -- the first line ends at the first 0A
 pub first-line : (bytes : List ℕ) (i : ℕ) → i < length bytes → get_or bytes i 0 ≡ 10 → ((k : ℕ) → k < i → get_or bytes k 0 ≡ 10 → ⊥)
-    → whole_lines bytes ≡ take i bytes ∷ whole_lines (drop (suc i) bytes)
-unfolding whole_lines
+    → ended_lines bytes ≡ take i bytes ∷ ended_lines (drop (suc i) bytes)
+unfolding ended_lines
 first-line [] i h e none = absurd (omega arith)
 first-line (c ∷ rest) zero h e none = rw (eq-eqb c 10 e) refl
 first-line (c ∷ rest) (suc i) h e none =
     rw (ne_eqb c 10 (none 0 (omega arith)), first-line rest i (omega arith) e (λ k l. none (suc k) (omega arith))) refl
 
 -- bytes without 0A have no whole line
-pub no-line : (bytes : List ℕ) → ((k : ℕ) → k < length bytes → get_or bytes k 0 ≡ 10 → ⊥) → whole_lines bytes ≡ []
-unfolding whole_lines
+pub no-line : (bytes : List ℕ) → ((k : ℕ) → k < length bytes → get_or bytes k 0 ≡ 10 → ⊥) → ended_lines bytes ≡ []
+unfolding ended_lines
 no-line [] none = refl
 no-line (c ∷ rest) none = rw (ne_eqb c 10 (none 0 (omega arith)), no-line rest (λ k l. none (suc k) (omega arith))) refl
 
@@ -97,18 +97,18 @@ part-alone (c ∷ rest) zero none = refl
 part-alone (c ∷ rest) (suc i) none = rw (none 0 (omega arith), part-alone rest i (λ k l. none (suc k) (omega arith))) refl
 
 -- the first word of a line that begins with one
-pub word-at : (bytes : List ℕ) (i : ℕ) → i < length bytes → 0 < i → is_blank (get_or bytes i 0) ≡ true → ((k : ℕ) → k < i → is_blank (get_or bytes k 0) ≡ false)
+pub word-at : (bytes : List ℕ) (i : ℕ) → i < length bytes → 0 < i → is_space_or_tab (get_or bytes i 0) ≡ true → ((k : ℕ) → k < i → is_space_or_tab (get_or bytes k 0) ≡ false)
     → words_of bytes ≡ take i bytes ∷ words_of (drop (suc i) bytes)
 word-at [] i h some e none = absurd (omega arith)
 word-at (c ∷ rest) zero h some e none = absurd (omega arith)
-word-at (c ∷ rest) (suc i) h some e none = ap (filter (λ word. not (is_empty word))) (piece-at is_blank (c ∷ rest) (suc i) h e none)
+word-at (c ∷ rest) (suc i) h some e none = ap (filter (λ word. not (is_empty word))) (piece-at is_space_or_tab (c ∷ rest) (suc i) h e none)
 
-pub one-word : (bytes : List ℕ) → 0 < length bytes → ((k : ℕ) → k < length bytes → is_blank (get_or bytes k 0) ≡ false) → words_of bytes ≡ bytes ∷ []
+pub one-word : (bytes : List ℕ) → 0 < length bytes → ((k : ℕ) → k < length bytes → is_space_or_tab (get_or bytes k 0) ≡ false) → words_of bytes ≡ bytes ∷ []
 one-word [] some none = absurd (omega arith)
-one-word (c ∷ rest) some none = ap (filter (λ word. not (is_empty word))) (one-piece is_blank (c ∷ rest) none)
+one-word (c ∷ rest) some none = ap (filter (λ word. not (is_empty word))) (one-piece is_space_or_tab (c ∷ rest) none)
 
 -- blanks before words are nothing
-pub past-blank : (bytes : List ℕ) (i : ℕ) → i < length bytes → is_blank (get_or bytes i 0) ≡ true → words_of (drop (i + 1) bytes) ≡ words_of (drop i bytes)
+pub past-blank : (bytes : List ℕ) (i : ℕ) → i < length bytes → is_space_or_tab (get_or bytes i 0) ≡ true → words_of (drop (i + 1) bytes) ≡ words_of (drop i bytes)
 unfolding pieces
 past-blank bytes i h e = rw (drop_more bytes i 0 h, e) refl
 

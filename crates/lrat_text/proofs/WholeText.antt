@@ -12,11 +12,11 @@ use Rattle.lrat_text.specs.declared.error.LratErr.{LratErr}
 use Rattle.lrat_text.specs.declared.error.LratErr.TheVariants.{Truncated, BadLine, RatStep}
 use Rattle.lrat_text.specs.declared.field.Field.{Field}
 use Rattle.lrat_text.specs.declared.field.Field.TheVariants.{End, Number}
-use Rattle.lrat_text.specs.Steps.{◌>>=◌}
-use Rattle.lrat_text.specs.Lines.{whole_lines, is_whole, words_of, without_return}
+use Rattle.pack_defs.specs.Steps.{◌>>=◌}
+use Rattle.lrat_text.specs.Lines.{ended_lines, is_whole, words_of, without_return}
 use Rattle.lrat_text.specs.LogText.{greatest}
-use Rattle.lrat_text.specs.LogReading.{LogRead, natural, field_of, lits_at, lits_or, place_in, place_or, hint_place, hint_at, hints_at, hints_or, is_next, number_or, with_line, deleted_at, deletion, behind_d, by_second, after_words, after_lines, log_of, log_read, nothing_read}
-use Rattle.lrat_text.specs.WholeText.{is_passed_over, kept_lines, literal_field, number_field, end_field, line_says, lines_say, number_at, IsWholeText}
+use Rattle.lrat_text.specs.LogReading.{LogRead, natural, field_of, log_lits_at, log_lits_or, place_in, place_or, hint_place, hint_at, log_hints_at, log_hints_or, is_next, number_or, with_line, deleted_at, deletion, behind_d, by_second, after_words, after_log_lines, log_of, log_read, nothing_read}
+use Rattle.lrat_text.specs.WholeText.{is_passed_over, kept_lines, literal_field, number_field, end_field, line_says, lines_say, number_in_text, IsWholeText}
 use Rattle.lrat_text.proofs.OneSpelling.{err-ok, ok-same, none-some, empty-is}
 use Rattle.lrat_text.proofs.ReadLemmas.{next-rises}
 
@@ -28,13 +28,13 @@ more-lits l read = read >>= λ x. Ok (l ∷ x.0, x.1)
 abbrev pub AreLits : List (List ℕ) → List Lit → List (List ℕ) → Type 0
 AreLits words lits rest = map field_of words ≡ map literal_field lits ++ end_field ∷ map field_of rest
 
-pub lits-whole : (n : ℕ) (words : List (List ℕ)) (lits : List Lit) (rest : List (List ℕ)) → lits_at n words ≡ Ok (lits, rest) → AreLits words lits rest
-unfolding lits_at
+pub lits-whole : (n : ℕ) (words : List (List ℕ)) (lits : List Lit) (rest : List (List ℕ)) → log_lits_at n words ≡ Ok (lits, rest) → AreLits words lits rest
+unfolding log_lits_at
 lits-whole n [] lits rest e = absurd (err-ok _ _ e)
 lits-whole n (word ∷ words) lits rest e = go (field_of word) refl (λ ls r q. lits-whole n words ls r q) e
   where
-    more : (l : Lit) → field_of word ≡ Some (Number l) → ((ls : List Lit) (r : List (List ℕ)) → lits_at n words ≡ Ok (ls, r) → AreLits words ls r)
-        → (r : Result (List Lit × List (List ℕ)) LratErr) → lits_at n words ≡ r → more-lits l r ≡ Ok (lits, rest) → AreLits (word ∷ words) lits rest
+    more : (l : Lit) → field_of word ≡ Some (Number l) → ((ls : List Lit) (r : List (List ℕ)) → log_lits_at n words ≡ Ok (ls, r) → AreLits words ls r)
+        → (r : Result (List Lit × List (List ℕ)) LratErr) → log_lits_at n words ≡ r → more-lits l r ≡ Ok (lits, rest) → AreLits (word ∷ words) lits rest
     more l f rec (Err why) q e = absurd (err-ok _ _ e)
     more l f rec (Ok x) q e =
         let both = ok-same (l ∷ x.0, x.1) (lits, rest) e in
@@ -43,13 +43,13 @@ lits-whole n (word ∷ words) lits rest e = go (field_of word) refl (λ ls r q. 
         ∙ ap (λ (t : List (Option Field)). literal_field l ∷ t) tail
         ∙ ap (λ b. map literal_field b.0 ++ end_field ∷ map field_of b.1) both
 
-    go : (o : Option Field) → field_of word ≡ o → ((ls : List Lit) (r : List (List ℕ)) → lits_at n words ≡ Ok (ls, r) → AreLits words ls r)
-        → lits_or n o words (lits_at n words) ≡ Ok (lits, rest) → AreLits (word ∷ words) lits rest
+    go : (o : Option Field) → field_of word ≡ o → ((ls : List Lit) (r : List (List ℕ)) → log_lits_at n words ≡ Ok (ls, r) → AreLits words ls r)
+        → log_lits_or n o words (log_lits_at n words) ≡ Ok (lits, rest) → AreLits (word ∷ words) lits rest
     go None f rec e = absurd (err-ok _ _ e)
     go (Some End) f rec e =
         let both = ok-same ([], words) (lits, rest) e in
         ap (λ (o : Option Field). o ∷ map field_of words) f ∙ ap (λ b. map literal_field b.0 ++ end_field ∷ map field_of b.1) both
-    go (Some (Number l)) f rec e = more l f rec (lits_at n words) refl e
+    go (Some (Number l)) f rec e = more l f rec (log_lits_at n words) refl e
 
 -- ---- hints
 
@@ -68,7 +68,7 @@ placed-at next (m ∷ ms) h p e = elim (cases_eq m h) [
 ]
 
 -- a hint's place has the number that the hint says
-pub hint-named : (clauses : ℕ) (ns tail : List ℕ) (h p : ℕ) → hint_place clauses ns h ≡ Some p → number_at clauses (ns ++ tail) p ≡ h
+pub hint-named : (clauses : ℕ) (ns tail : List ℕ) (h p : ℕ) → hint_place clauses ns h ≡ Some p → number_in_text clauses (ns ++ tail) p ≡ h
 unfolding hint_place
 hint-named clauses ns tail h p e = elim (cases_lt clauses h) [
   | inl above ↦
@@ -93,49 +93,49 @@ abbrev pub AreHints : (ℕ → ℕ) → List (List ℕ) → List ℕ → Type 0
 AreHints named words hints = map field_of words ≡ map (λ place. number_field (named place)) hints ++ end_field ∷ []
 
 -- a hint that was read has its place, and says that place's number
-pub hint-whole : (n clauses : ℕ) (ns tail : List ℕ) (l : Lit) (place : ℕ) → hint_at n clauses ns l ≡ Ok place → literal_field l ≡ number_field (number_at clauses (ns ++ tail) place)
+pub hint-whole : (n clauses : ℕ) (ns tail : List ℕ) (l : Lit) (place : ℕ) → hint_at n clauses ns l ≡ Ok place → literal_field l ≡ number_field (number_in_text clauses (ns ++ tail) place)
 hint-whole n clauses ns tail l place e = signed l.positive refl e
   where
-    named : l.positive ≡ true → (o : Option ℕ) → hint_place clauses ns l.var ≡ o → place_or n o ≡ Ok place → literal_field l ≡ number_field (number_at clauses (ns ++ tail) place)
+    named : l.positive ≡ true → (o : Option ℕ) → hint_place clauses ns l.var ≡ o → place_or n o ≡ Ok place → literal_field l ≡ number_field (number_in_text clauses (ns ++ tail) place)
     named p None q e = absurd (err-ok _ _ e)
     named p (Some at) q e =
         let same = ok-same at place e in
-        positive-is l (number_at clauses (ns ++ tail) at) p (sym (hint-named clauses ns tail l.var at q)) ∙ ap (λ (k : ℕ). number_field (number_at clauses (ns ++ tail) k)) same
+        positive-is l (number_in_text clauses (ns ++ tail) at) p (sym (hint-named clauses ns tail l.var at q)) ∙ ap (λ (k : ℕ). number_field (number_in_text clauses (ns ++ tail) k)) same
 
-    signed : (b : Bool) → l.positive ≡ b → (if b then place_or n (hint_place clauses ns l.var) else Err (RatStep n)) ≡ Ok place → literal_field l ≡ number_field (number_at clauses (ns ++ tail) place)
+    signed : (b : Bool) → l.positive ≡ b → (if b then place_or n (hint_place clauses ns l.var) else Err (RatStep n)) ≡ Ok place → literal_field l ≡ number_field (number_in_text clauses (ns ++ tail) place)
     signed false p e = absurd (err-ok _ _ e)
     signed true p e = named p (hint_place clauses ns l.var) refl e
 
-pub hints-whole : (n clauses : ℕ) (ns tail : List ℕ) (words : List (List ℕ)) (hints : List ℕ) → hints_at n clauses ns words ≡ Ok hints → AreHints (number_at clauses (ns ++ tail)) words hints
-unfolding hints_at
+pub hints-whole : (n clauses : ℕ) (ns tail : List ℕ) (words : List (List ℕ)) (hints : List ℕ) → log_hints_at n clauses ns words ≡ Ok hints → AreHints (number_in_text clauses (ns ++ tail)) words hints
+unfolding log_hints_at
 hints-whole n clauses ns tail [] hints e = absurd (err-ok _ _ e)
 hints-whole n clauses ns tail (word ∷ words) hints e = go (field_of word) refl (λ hs q. hints-whole n clauses ns tail words hs q) e
   where
     more : (l : Lit) (place : ℕ) → field_of word ≡ Some (Number l) → hint_at n clauses ns l ≡ Ok place
-        → ((hs : List ℕ) → hints_at n clauses ns words ≡ Ok hs → AreHints (number_at clauses (ns ++ tail)) words hs)
-        → (r : Result (List ℕ) LratErr) → hints_at n clauses ns words ≡ r → more-hints place r ≡ Ok hints → AreHints (number_at clauses (ns ++ tail)) (word ∷ words) hints
+        → ((hs : List ℕ) → log_hints_at n clauses ns words ≡ Ok hs → AreHints (number_in_text clauses (ns ++ tail)) words hs)
+        → (r : Result (List ℕ) LratErr) → log_hints_at n clauses ns words ≡ r → more-hints place r ≡ Ok hints → AreHints (number_in_text clauses (ns ++ tail)) (word ∷ words) hints
     more l place f at rec (Err why) q e = absurd (err-ok _ _ e)
     more l place f at rec (Ok x) q e =
         let same = ok-same (place ∷ x) hints e in
         ap (λ (o : Option Field). o ∷ map field_of words) (f ∙ hint-whole n clauses ns tail l place at)
-        ∙ ap (λ (t : List (Option Field)). number_field (number_at clauses (ns ++ tail) place) ∷ t) (rec x q)
-        ∙ ap (λ (hs : List ℕ). map (λ k. number_field (number_at clauses (ns ++ tail) k)) hs ++ end_field ∷ []) same
+        ∙ ap (λ (t : List (Option Field)). number_field (number_in_text clauses (ns ++ tail) place) ∷ t) (rec x q)
+        ∙ ap (λ (hs : List ℕ). map (λ k. number_field (number_in_text clauses (ns ++ tail) k)) hs ++ end_field ∷ []) same
 
-    placed : (l : Lit) → field_of word ≡ Some (Number l) → ((hs : List ℕ) → hints_at n clauses ns words ≡ Ok hs → AreHints (number_at clauses (ns ++ tail)) words hs)
-        → (r : Result ℕ LratErr) → hint_at n clauses ns l ≡ r → (r >>= λ place. more-hints place (hints_at n clauses ns words)) ≡ Ok hints → AreHints (number_at clauses (ns ++ tail)) (word ∷ words) hints
+    placed : (l : Lit) → field_of word ≡ Some (Number l) → ((hs : List ℕ) → log_hints_at n clauses ns words ≡ Ok hs → AreHints (number_in_text clauses (ns ++ tail)) words hs)
+        → (r : Result ℕ LratErr) → hint_at n clauses ns l ≡ r → (r >>= λ place. more-hints place (log_hints_at n clauses ns words)) ≡ Ok hints → AreHints (number_in_text clauses (ns ++ tail)) (word ∷ words) hints
     placed l f rec (Err why) q e = absurd (err-ok _ _ e)
-    placed l f rec (Ok place) q e = more l place f q rec (hints_at n clauses ns words) refl e
+    placed l f rec (Ok place) q e = more l place f q rec (log_hints_at n clauses ns words) refl e
 
-    last : (b : Bool) → is_empty words ≡ b → field_of word ≡ end_field → (if b then Ok [] else Err (BadLine n)) ≡ Ok hints → AreHints (number_at clauses (ns ++ tail)) (word ∷ words) hints
+    last : (b : Bool) → is_empty words ≡ b → field_of word ≡ end_field → (if b then Ok [] else Err (BadLine n)) ≡ Ok hints → AreHints (number_in_text clauses (ns ++ tail)) (word ∷ words) hints
     last false p f e = absurd (err-ok _ _ e)
     last true p f e =
         let same = ok-same [] hints e in
         ap (λ (o : Option Field). o ∷ map field_of words) f
         ∙ ap (λ (ws : List (List ℕ)). end_field ∷ map field_of ws) (empty-is words p)
-        ∙ ap (λ (hs : List ℕ). map (λ k. number_field (number_at clauses (ns ++ tail) k)) hs ++ end_field ∷ []) same
+        ∙ ap (λ (hs : List ℕ). map (λ k. number_field (number_in_text clauses (ns ++ tail) k)) hs ++ end_field ∷ []) same
 
-    go : (o : Option Field) → field_of word ≡ o → ((hs : List ℕ) → hints_at n clauses ns words ≡ Ok hs → AreHints (number_at clauses (ns ++ tail)) words hs)
-        → hints_or n clauses ns o words (hints_at n clauses ns words) ≡ Ok hints → AreHints (number_at clauses (ns ++ tail)) (word ∷ words) hints
+    go : (o : Option Field) → field_of word ≡ o → ((hs : List ℕ) → log_hints_at n clauses ns words ≡ Ok hs → AreHints (number_in_text clauses (ns ++ tail)) words hs)
+        → log_hints_or n clauses ns o words (log_hints_at n clauses ns words) ≡ Ok hints → AreHints (number_in_text clauses (ns ++ tail)) (word ∷ words) hints
     go None f rec e = absurd (err-ok _ _ e)
     go (Some End) f rec e = last (is_empty words) refl f e
     go (Some (Number l)) f rec e = placed l f rec (hint_at n clauses ns l) refl e
@@ -154,7 +154,7 @@ pub record IsKept (clauses : ℕ) (ns : List ℕ) (before : List Line) (words : 
   pub line : Line
   pub same : next ≡ record { numbers = ns ++ number ∷ []; lines = before ++ line ∷ [] }
   pub rising : is_ascending (clauses ∷ ns ++ number ∷ []) ≡ true
-  pub says : (tail : List ℕ) → map field_of words ≡ line_says (number_at clauses (ns ++ tail)) number line
+  pub says : (tail : List ℕ) → map field_of words ≡ line_says (number_in_text clauses (ns ++ tail)) number line
 
 -- the number of a line is what its first word says, and the next one
 pub record IsNumber (clauses : ℕ) (ns : List ℕ) (word : List ℕ) (number : ℕ) : Type 0 where
@@ -183,7 +183,7 @@ pub with-line-whole : (n clauses : ℕ) (ns : List ℕ) (before : List Line) (wo
 unfolding with_line
 with-line-whole n clauses ns before word words next e up kept = number (number_or n clauses ns (field_of word)) refl e
   where
-    hints : (k : ℕ) → IsNumber clauses ns word k → (x : List Lit × List (List ℕ)) → AreLits words x.0 x.1 → (r : Result (List ℕ) LratErr) → hints_at n clauses ns x.1 ≡ r
+    hints : (k : ℕ) → IsNumber clauses ns word k → (x : List Lit × List (List ℕ)) → AreLits words x.0 x.1 → (r : Result (List ℕ) LratErr) → log_hints_at n clauses ns x.1 ≡ r
         → (r >>= λ hs. Ok (record { numbers = ns ++ k ∷ []; lines = before ++ record { lits = x.0; hints = hs } ∷ [] })) ≡ Ok next → IsKept clauses ns before (word ∷ words) next
     hints k is x are (Err why) q e = absurd (err-ok _ _ e)
     hints k is x are (Ok hs) q e = record {
@@ -197,15 +197,15 @@ with-line-whole n clauses ns before word words next e up kept = number (number_o
           ∙ ap (λ (t : List (Option Field)). number_field k ∷ t) (are ∙ ap (λ (t : List (Option Field)). map literal_field x.0 ++ end_field ∷ t) (hints-whole n clauses ns tail x.1 hs q));
     }
 
-    lits : (k : ℕ) → IsNumber clauses ns word k → (r : Result (List Lit × List (List ℕ)) LratErr) → lits_at n words ≡ r
-        → (r >>= λ x. hints_at n clauses ns x.1 >>= λ hs. Ok (record { numbers = ns ++ k ∷ []; lines = before ++ record { lits = x.0; hints = hs } ∷ [] })) ≡ Ok next → IsKept clauses ns before (word ∷ words) next
+    lits : (k : ℕ) → IsNumber clauses ns word k → (r : Result (List Lit × List (List ℕ)) LratErr) → log_lits_at n words ≡ r
+        → (r >>= λ x. log_hints_at n clauses ns x.1 >>= λ hs. Ok (record { numbers = ns ++ k ∷ []; lines = before ++ record { lits = x.0; hints = hs } ∷ [] })) ≡ Ok next → IsKept clauses ns before (word ∷ words) next
     lits k is (Err why) q e = absurd (err-ok _ _ e)
-    lits k is (Ok x) q e = hints k is x (lits-whole n words x.0 x.1 q) (hints_at n clauses ns x.1) refl e
+    lits k is (Ok x) q e = hints k is x (lits-whole n words x.0 x.1 q) (log_hints_at n clauses ns x.1) refl e
 
     number : (r : Result ℕ LratErr) → number_or n clauses ns (field_of word) ≡ r
-        → (r >>= λ k. lits_at n words >>= λ x. hints_at n clauses ns x.1 >>= λ hs. Ok (record { numbers = ns ++ k ∷ []; lines = before ++ record { lits = x.0; hints = hs } ∷ [] })) ≡ Ok next → IsKept clauses ns before (word ∷ words) next
+        → (r >>= λ k. log_lits_at n words >>= λ x. log_hints_at n clauses ns x.1 >>= λ hs. Ok (record { numbers = ns ++ k ∷ []; lines = before ++ record { lits = x.0; hints = hs } ∷ [] })) ≡ Ok next → IsKept clauses ns before (word ∷ words) next
     number (Err why) q e = absurd (err-ok _ _ e)
-    number (Ok k) q e = lits k (number-whole n clauses ns word k q) (lits_at n words) refl e
+    number (Ok k) q e = lits k (number-whole n clauses ns word k q) (log_lits_at n words) refl e
 
 -- a deletion leaves what was read
 deletion-whole : (n : ℕ) (state : LogRead) (word : List ℕ) (words : List (List ℕ)) (next : LogRead) → deletion n state word words ≡ Ok next → next ≡ state
@@ -246,7 +246,7 @@ pub record AreWhole (clauses : ℕ) (ns : List ℕ) (before : List Line) (lines 
   pub many : length numbers ≡ length more
   pub same : state ≡ record { numbers = ns ++ numbers; lines = before ++ more }
   pub rising : is_ascending (clauses ∷ ns ++ numbers) ≡ true
-  pub says : map (map field_of) (kept_lines lines) ≡ lines_say (number_at clauses (ns ++ numbers)) numbers more
+  pub says : map (map field_of) (kept_lines lines) ≡ lines_say (number_in_text clauses (ns ++ numbers)) numbers more
 
 over-lines : (line : List ℕ) (lines : List (List ℕ)) → is_passed_over (words_of (without_return line)) ≡ true → kept_lines (line ∷ lines) ≡ kept_lines lines
 unfolding kept_lines
@@ -271,13 +271,13 @@ join-kept clauses ns before line lines next state kept rest =
       says =
           ap (map (map field_of)) (kept-line line lines kept.kept)
           ∙ ap (λ (f : List (Option Field)). f ∷ map (map field_of) (kept_lines lines)) (kept.says (kept.number ∷ rest.numbers))
-          ∙ ap (λ (t : List (List (Option Field))). line_says (number_at clauses (ns ++ kept.number ∷ rest.numbers)) kept.number kept.line ∷ t)
-          (rest.says ∙ ap (λ (all : List ℕ). lines_say (number_at clauses all) rest.numbers rest.more) numbers);
+          ∙ ap (λ (t : List (List (Option Field))). line_says (number_in_text clauses (ns ++ kept.number ∷ rest.numbers)) kept.number kept.line ∷ t)
+          (rest.says ∙ ap (λ (all : List ℕ). lines_say (number_in_text clauses all) rest.numbers rest.more) numbers);
     }
 
 pub lines-whole : (n clauses : ℕ) (ns : List ℕ) (before : List Line) (lines : List (List ℕ)) (state : LogRead)
-    → after_lines n clauses (record { numbers = ns; lines = before }) lines ≡ Ok state → is_ascending (clauses ∷ ns) ≡ true → AreWhole clauses ns before lines state
-unfolding after_lines kept_lines
+    → after_log_lines n clauses (record { numbers = ns; lines = before }) lines ≡ Ok state → is_ascending (clauses ∷ ns) ≡ true → AreWhole clauses ns before lines state
+unfolding after_log_lines kept_lines
 lines-whole n clauses ns before [] state e up = record {
   numbers = [];
   more = [];
@@ -290,8 +290,8 @@ lines-whole n clauses ns before (line ∷ lines) state e up =
     go (after_words n clauses (record { numbers = ns; lines = before }) (words_of (without_return line))) refl (λ ms bs q u. lines-whole (n + 1) clauses ms bs lines state q u) e
   where
     one : (next : LogRead) → IsPassed ns before (words_of (without_return line)) next ⊎ IsKept clauses ns before (words_of (without_return line)) next
-        → ((ms : List ℕ) (bs : List Line) → after_lines (n + 1) clauses (record { numbers = ms; lines = bs }) lines ≡ Ok state → is_ascending (clauses ∷ ms) ≡ true → AreWhole clauses ms bs lines state)
-        → after_lines (n + 1) clauses next lines ≡ Ok state → AreWhole clauses ns before (line ∷ lines) state
+        → ((ms : List ℕ) (bs : List Line) → after_log_lines (n + 1) clauses (record { numbers = ms; lines = bs }) lines ≡ Ok state → is_ascending (clauses ∷ ms) ≡ true → AreWhole clauses ms bs lines state)
+        → after_log_lines (n + 1) clauses next lines ≡ Ok state → AreWhole clauses ns before (line ∷ lines) state
     one next (inl passed) rec e =
         let rest = rec ns before (rw passed.same at e) up in
         record {
@@ -307,8 +307,8 @@ lines-whole n clauses ns before (line ∷ lines) state e up =
         join-kept clauses ns before line lines next state kept rest
 
     go : (r : Result LogRead LratErr) → after_words n clauses (record { numbers = ns; lines = before }) (words_of (without_return line)) ≡ r
-        → ((ms : List ℕ) (bs : List Line) → after_lines (n + 1) clauses (record { numbers = ms; lines = bs }) lines ≡ Ok state → is_ascending (clauses ∷ ms) ≡ true → AreWhole clauses ms bs lines state)
-        → (r >>= λ next. after_lines (n + 1) clauses next lines) ≡ Ok state → AreWhole clauses ns before (line ∷ lines) state
+        → ((ms : List ℕ) (bs : List Line) → after_log_lines (n + 1) clauses (record { numbers = ms; lines = bs }) lines ≡ Ok state → is_ascending (clauses ∷ ms) ≡ true → AreWhole clauses ms bs lines state)
+        → (r >>= λ next. after_log_lines (n + 1) clauses next lines) ≡ Ok state → AreWhole clauses ns before (line ∷ lines) state
     go (Err why) q rec e = absurd (err-ok _ _ e)
     go (Ok next) q rec e = one next (line-whole n clauses ns before (words_of (without_return line)) next q up) rec e
 
@@ -317,18 +317,18 @@ pub text-whole : (clauses : ℕ) (text : List ℕ) (log : Log) → log_of text c
 unfolding log_of
 text-whole clauses text log e = whole (is_whole text) e
   where
-    said : (r : Result LogRead LratErr) → after_lines 1 clauses nothing_read (whole_lines text) ≡ r → (r >>= log_read) ≡ Ok log → IsWholeText clauses text log
+    said : (r : Result LogRead LratErr) → after_log_lines 1 clauses nothing_read (ended_lines text) ≡ r → (r >>= log_read) ≡ Ok log → IsWholeText clauses text log
     said (Err why) q e = absurd (err-ok _ _ e)
     said (Ok state) q e =
-        let are = lines-whole 1 clauses [] [] (whole_lines text) state q refl in
+        let are = lines-whole 1 clauses [] [] (ended_lines text) state q refl in
         let lines : are.more ≡ log.lines = sym (ap (λ s. s.lines) are.same) ∙ ap (λ (l : Log). l.lines) (ok-same (record { lines = state.lines }) log e) in
         record {
           numbers = are.numbers;
           many = are.many ∙ ap (λ (ls : List Line). length ls) lines;
           rising = are.rising;
-          said = are.says ∙ ap (λ (ls : List Line). lines_say (number_at clauses are.numbers) are.numbers ls) lines;
+          said = are.says ∙ ap (λ (ls : List Line). lines_say (number_in_text clauses are.numbers) are.numbers ls) lines;
         }
 
-    whole : (b : Bool) → (if b then (after_lines 1 clauses nothing_read (whole_lines text) >>= log_read) else Err Truncated) ≡ Ok log → IsWholeText clauses text log
+    whole : (b : Bool) → (if b then (after_log_lines 1 clauses nothing_read (ended_lines text) >>= log_read) else Err Truncated) ≡ Ok log → IsWholeText clauses text log
     whole false e = absurd (err-ok _ _ e)
-    whole true e = said (after_lines 1 clauses nothing_read (whole_lines text)) refl e
+    whole true e = said (after_log_lines 1 clauses nothing_read (ended_lines text)) refl e

@@ -13,8 +13,8 @@ use Rattle.lrat_text.specs.declared.error.LratErr.TheVariants.{Truncated, BadLin
 use Rattle.lrat_text.specs.declared.field.Field.{Field}
 use Rattle.lrat_text.specs.declared.field.Field.TheVariants.{End, Number}
 use Rattle.lrat_text.specs.LogText.{greatest}
-use Rattle.lrat_text.specs.Lines.{whole_lines, is_whole, words_of, without_return}
-use Rattle.lrat_text.specs.Steps.{◌>>=◌}
+use Rattle.lrat_text.specs.Lines.{ended_lines, is_whole, words_of, without_return}
+use Rattle.pack_defs.specs.Steps.{◌>>=◌}
 
 -- the number of one or more digits, leading zeros allowed, at most this
 unfoldable pub natural : ℕ → List ℕ → Option ℕ
@@ -24,12 +24,12 @@ natural most word =
     else None
 
 -- what this number says, with this sign: 0 ends a list, and has no sign
-abbrev pub signed : Bool → ℕ → Option Field
-signed positive n = if n == 0 then (if positive then Some End else None) else Some (Number (record { var = n; positive = positive }))
+abbrev pub signed_field : Bool → ℕ → Option Field
+signed_field positive n = if n == 0 then (if positive then Some End else None) else Some (Number (record { var = n; positive = positive }))
 
 abbrev pub signed_of : Bool → Option ℕ → Option Field
 signed_of positive None = None
-signed_of positive (Some n) = signed positive n
+signed_of positive (Some n) = signed_field positive n
 
 -- what a word says as a number, which may have a minus sign
 unfoldable pub field_of : List ℕ → Option Field
@@ -37,14 +37,14 @@ field_of [] = None
 field_of (c ∷ rest) = if c == 45 then signed_of false (natural greatest rest) else signed_of true (natural greatest (c ∷ rest))
 
 -- the literals before a 0, and the words behind it; the rest of the words says this
-abbrev pub lits_or : ℕ → Option Field → List (List ℕ) → Result (List Lit × List (List ℕ)) LratErr → Result (List Lit × List (List ℕ)) LratErr
-lits_or n None words rest = Err (BadLine n)
-lits_or n (Some End) words rest = Ok ([], words)
-lits_or n (Some (Number l)) words rest = rest >>= λ x. Ok (l ∷ x.0, x.1)
+abbrev pub log_lits_or : ℕ → Option Field → List (List ℕ) → Result (List Lit × List (List ℕ)) LratErr → Result (List Lit × List (List ℕ)) LratErr
+log_lits_or n None words rest = Err (BadLine n)
+log_lits_or n (Some End) words rest = Ok ([], words)
+log_lits_or n (Some (Number l)) words rest = rest >>= λ x. Ok (l ∷ x.0, x.1)
 
-unfoldable pub lits_at : ℕ → List (List ℕ) → Result (List Lit × List (List ℕ)) LratErr
-lits_at n [] = Err (BadLine n)
-lits_at n (word ∷ words) = lits_or n (field_of word) words (lits_at n words)
+unfoldable pub log_lits_at : ℕ → List (List ℕ) → Result (List Lit × List (List ℕ)) LratErr
+log_lits_at n [] = Err (BadLine n)
+log_lits_at n (word ∷ words) = log_lits_or n (field_of word) words (log_lits_at n words)
 
 -- the place of a line's number among those of the lines so far, of which the first has this place
 abbrev pub place_in : ℕ → List ℕ → ℕ → Option ℕ
@@ -60,8 +60,8 @@ place_or n None = Err (BadLine n)
 place_or n (Some place) = Ok place
 
 -- the numbers of the lines so far rise, from above the clauses
-abbrev pub AreNumbers : ℕ → List ℕ → Type 0
-AreNumbers clauses numbers = IsTrue (is_ascending (clauses ∷ numbers))
+abbrev pub AreLineNumbers : ℕ → List ℕ → Type 0
+AreLineNumbers clauses numbers = IsTrue (is_ascending (clauses ∷ numbers))
 
 -- what a hint says: the place of what it names. A negative one is a RAT step.
 abbrev pub hint_at : ℕ → ℕ → List ℕ → Lit → Result ℕ LratErr
@@ -69,16 +69,16 @@ hint_at n clauses numbers hint =
     if hint.positive then place_or n (hint_place clauses numbers hint.var) else Err (RatStep n)
 
 -- the hints before a 0, which is the last word; the rest of the words says this
-abbrev pub hints_or : ℕ → ℕ → List ℕ → Option Field → List (List ℕ) → Result (List ℕ) LratErr → Result (List ℕ) LratErr
-hints_or n clauses numbers None words rest = Err (BadLine n)
-hints_or n clauses numbers (Some End) words rest = if is_empty words then Ok [] else Err (BadLine n)
-hints_or n clauses numbers (Some (Number hint)) words rest =
+abbrev pub log_hints_or : ℕ → ℕ → List ℕ → Option Field → List (List ℕ) → Result (List ℕ) LratErr → Result (List ℕ) LratErr
+log_hints_or n clauses numbers None words rest = Err (BadLine n)
+log_hints_or n clauses numbers (Some End) words rest = if is_empty words then Ok [] else Err (BadLine n)
+log_hints_or n clauses numbers (Some (Number hint)) words rest =
     hint_at n clauses numbers hint >>= λ place. rest >>= λ hints. Ok (place ∷ hints)
 
-unfoldable pub hints_at : ℕ → ℕ → List ℕ → List (List ℕ) → Result (List ℕ) LratErr
-hints_at n clauses numbers [] = Err (BadLine n)
-hints_at n clauses numbers (word ∷ words) =
-    hints_or n clauses numbers (field_of word) words (hints_at n clauses numbers words)
+unfoldable pub log_hints_at : ℕ → ℕ → List ℕ → List (List ℕ) → Result (List ℕ) LratErr
+log_hints_at n clauses numbers [] = Err (BadLine n)
+log_hints_at n clauses numbers (word ∷ words) =
+    log_hints_or n clauses numbers (field_of word) words (log_hints_at n clauses numbers words)
 
 -- what was read so far: the numbers of the lines, and the lines
 pub record LogRead : Type 0 where
@@ -99,8 +99,8 @@ number_or n clauses numbers (Some (Number l)) =
 unfoldable pub with_line : ℕ → ℕ → LogRead → List ℕ → List (List ℕ) → Result LogRead LratErr
 with_line n clauses state word words = do
   number ← number_or n clauses state.numbers (field_of word)
-  lits ← lits_at n words
-  hints ← hints_at n clauses state.numbers lits.1
+  lits ← log_lits_at n words
+  hints ← log_hints_at n clauses state.numbers lits.1
   Ok (record { numbers = state.numbers ++ number ∷ []; lines = state.lines ++ record { lits = lits.0; hints = hints } ∷ [] })
 
 -- what was read so far, and this line of the log, if it has a number
@@ -140,10 +140,10 @@ after_words n clauses state (word ∷ words) =
     if bytes_eq word (codes "c") then Ok state else by_second n clauses state word words (behind_d words)
 
 -- what was read after these lines, of which the first is the n-th of the text
-unfoldable pub after_lines : ℕ → ℕ → LogRead → List (List ℕ) → Result LogRead LratErr
-after_lines n clauses state [] = Ok state
-after_lines n clauses state (line ∷ lines) =
-    after_words n clauses state (words_of (without_return line)) >>= λ next. after_lines (n + 1) clauses next lines
+unfoldable pub after_log_lines : ℕ → ℕ → LogRead → List (List ℕ) → Result LogRead LratErr
+after_log_lines n clauses state [] = Ok state
+after_log_lines n clauses state (line ∷ lines) =
+    after_words n clauses state (words_of (without_return line)) >>= λ next. after_log_lines (n + 1) clauses next lines
 
 abbrev pub nothing_read : LogRead
 nothing_read = record { numbers = []; lines = [] }
@@ -156,5 +156,5 @@ log_read state = Ok (record { lines = state.lines })
 -- first line at fault, and in it the first word.
 unfoldable pub log_of : List ℕ → ℕ → Result Log LratErr
 log_of text clauses =
-    if is_whole text then (after_lines 1 clauses nothing_read (whole_lines text) >>= log_read)
+    if is_whole text then (after_log_lines 1 clauses nothing_read (ended_lines text) >>= log_read)
     else Err Truncated

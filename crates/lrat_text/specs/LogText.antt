@@ -29,12 +29,12 @@ abbrev pub clause_fields : List Lit → List (List ℕ)
 clause_fields clause = map lit_text clause ++ zero_field ∷ []
 
 -- the first line of a formula: how many variables and clauses it has
-abbrev pub header_line : Clauses → List ℕ
-header_line clauses = line_of (codes "p" ∷ codes "cnf" ∷ decimal clauses.vars ∷ decimal (length clauses.list) ∷ [])
+abbrev pub formula_header : Clauses → List ℕ
+formula_header clauses = line_of (codes "p" ∷ codes "cnf" ∷ decimal clauses.vars ∷ decimal (length clauses.list) ∷ [])
 
 -- a formula: its first line, and each clause on a line
 unfoldable pub dimacs_text : Clauses → List ℕ
-dimacs_text clauses = header_line clauses ++ flat_map (λ clause. line_of (clause_fields clause)) clauses.list
+dimacs_text clauses = formula_header clauses ++ flat_map (λ clause. line_of (clause_fields clause)) clauses.list
 
 -- fields, each behind a space
 abbrev pub spaced : List (List ℕ) → List ℕ

@@ -2,7 +2,7 @@
 use Rattle.std.specs.Prelude.{ℕ, Bool, true, not, ◌≡◌, ◌+◌, ◌==◌, ◌||◌, if◌then◌else◌, List, [], ◌∷◌, Some, None}
 use Rattle.std.specs.List.{list_all}
 use Rattle.pack_defs.specs.Lists.{is_empty}
-use Rattle.lrat_text.specs.Lines.{joined, without_return, words_of}
+use Rattle.lrat_text.specs.Lines.{with_spaces, without_return, words_of}
 use Rattle.lrat_text.specs.LogText.{greatest}
 use Rattle.lrat_text.specs.LogReading.{behind_d, natural}
 
@@ -17,16 +17,16 @@ is_shortest [] = true
 is_shortest (c ∷ rest) = if c == 45 then has_no_nought rest else has_no_nought (c ∷ rest)
 
 -- the first word says this number, and the second is no `d`: so the line is no comment and no deletion
-abbrev pub IsNumbered : ℕ → List (List ℕ) → Type 0
-IsNumbered number [] = ⊥
-IsNumbered number (word ∷ words) = (natural greatest word ≡ Some number) × (behind_d words ≡ None)
+abbrev pub IsNumberedLine : ℕ → List (List ℕ) → Type 0
+IsNumberedLine number [] = ⊥
+IsNumberedLine number (word ∷ words) = (natural greatest word ≡ Some number) × (behind_d words ≡ None)
 
 -- A line that is nothing but its words, with one space between two of them, none with leading zeros, and the first of
 -- which says this number.
 pub record IsPlain (number : ℕ) (line : List ℕ) : Type 0 where
-  pub spaced : line ≡ joined (words_of (without_return line))
+  pub spaced : line ≡ with_spaces (words_of (without_return line))
   pub shortest : list_all is_shortest (words_of (without_return line)) ≡ true
-  pub numbered : IsNumbered number (words_of (without_return line))
+  pub numbered : IsNumberedLine number (words_of (without_return line))
 
 -- such lines, numbered on from here
 abbrev pub ArePlain : ℕ → List (List ℕ) → Type 0

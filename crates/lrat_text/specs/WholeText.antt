@@ -7,7 +7,7 @@ use Rattle.rup_check.specs.declared.line.Line.{Line}
 use Rattle.rup_check.specs.declared.line.Log.{Log}
 use Rattle.lrat_text.specs.declared.field.Field.{Field}
 use Rattle.lrat_text.specs.declared.field.Field.TheVariants.{End, Number}
-use Rattle.lrat_text.specs.Lines.{whole_lines, without_return, words_of}
+use Rattle.lrat_text.specs.Lines.{ended_lines, without_return, words_of}
 use Rattle.lrat_text.specs.LogReading.{behind_d, field_of}
 
 -- a line without a word, a comment or a deletion
@@ -40,8 +40,8 @@ lines_say named (number ∷ numbers) [] = []
 lines_say named (number ∷ numbers) (line ∷ lines) = line_says named number line ∷ lines_say named numbers lines
 
 -- the number of what stands at a place: of a clause its place, of a line the number that it has in the text
-abbrev pub number_at : ℕ → List ℕ → ℕ → ℕ
-number_at clauses numbers place = if nat_le place clauses then place else get_or numbers (place - clauses - 1) 0
+abbrev pub number_in_text : ℕ → List ℕ → ℕ → ℕ
+number_in_text clauses numbers place = if nat_le place clauses then place else get_or numbers (place - clauses - 1) 0
 
 -- The log's lines have numbers that rise from above the clauses, and with these they say what the lines of the text
 -- say that aren't passed over: no word is left out, and none is added.
@@ -49,4 +49,4 @@ pub record IsWholeText (clauses : ℕ) (text : List ℕ) (log : Log) : Type 0 wh
   pub numbers : List ℕ
   pub many : length numbers ≡ length log.lines
   pub rising : is_ascending (clauses ∷ numbers) ≡ true
-  pub said : map (map field_of) (kept_lines (whole_lines text)) ≡ lines_say (number_at clauses numbers) numbers log.lines
+  pub said : map (map field_of) (kept_lines (ended_lines text)) ≡ lines_say (number_in_text clauses numbers) numbers log.lines

@@ -1,7 +1,7 @@
 //! The numbers in fields, read digit by digit where they lie.
 
 ghost use Rattle.std.specs.Prelude.{◌≡◌};
-ghost use Rattle.lrat_text.specs.LogReading.{field_of, natural, signed};
+ghost use Rattle.lrat_text.specs.LogReading.{field_of, natural, signed_field};
 
 use clause_db::lit::Lit;
 
@@ -43,7 +43,7 @@ pub fn natural(most: u64, field: &[u8]) -> Option<u64>
 
 // What a number says with this sign.
 fn signed(positive: bool, n: u64) -> Option<Field>
-    ensures { result ≡ signed positive n }
+    ensures { result ≡ signed_field positive n }
 {
     if n == 0 {
         if positive {

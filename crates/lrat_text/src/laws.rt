@@ -8,7 +8,7 @@ ghost use Rattle.rup_check.specs.declared.line.Log.{Log};
 ghost use Rattle.rup_check.specs.Follows.{Follows};
 ghost use Rattle.lrat_text.specs.declared.error.LratErr.TheVariants.{BadLine, RatStep, Truncated};
 ghost use Rattle.lrat_text.specs.Examples.{two_lines, two_lines_text};
-ghost use Rattle.lrat_text.specs.Lines.{whole_lines};
+ghost use Rattle.lrat_text.specs.Lines.{ended_lines};
 ghost use Rattle.lrat_text.specs.OneSpelling.{ArePlain};
 ghost use Rattle.lrat_text.specs.LogText.{AreSpelled, greatest, log_text};
 ghost use Rattle.lrat_text.specs.LogReading.{log_of};
@@ -38,7 +38,7 @@ pub fn a_log_is_the_whole_text()
 /// Two plain texts that say the same log are the same bytes, those that are written of it: of a text whose lines are
 /// numbered on from the clauses and are nothing but their words, no byte is passed over.
 pub fn a_plain_text_is_what_is_written()
-    ensures { (clauses : ℕ) (text : List ℕ) (log : Log) → ArePlain (clauses + 1) (whole_lines text) → log_of text clauses ≡ Ok log → text ≡ log_text (clauses + 1) log.lines }
+    ensures { (clauses : ℕ) (text : List ℕ) (log : Log) → ArePlain (clauses + 1) (ended_lines text) → log_of text clauses ≡ Ok log → text ≡ log_text (clauses + 1) log.lines }
 {}
 
 /// A log that follows can be written, where its numbers don't grow too great for a text.

@@ -2,7 +2,7 @@
 
 ghost use Rattle.std.specs.Prelude.{◌≡◌, ◌<◌, ◌∷◌, [], IfSome, MatchOption, false, length, slice_index_or};
 ghost use Rattle.std.specs.Option.{option_map_or};
-ghost use Rattle.lrat_text.specs.Lines.{fields_of, is_blank, is_whole, whole_lines, without_return, words_of};
+ghost use Rattle.lrat_text.specs.Lines.{fields_of, is_space_or_tab, is_whole, ended_lines, without_return, words_of};
 
 /// The byte that ends a line.
 const LINE_FEED: u8 = 10;
@@ -12,7 +12,7 @@ const RETURN: u8 = 13;
 
 /// The first whole line of a text, without its end, and the text behind it. None where no line is whole.
 pub fn split_line(text: &[u8]) -> Option<(&[u8], &[u8])>
-    ensures lines { MatchOption result (whole_lines text.now ≡ []) (λ x. whole_lines text.now ≡ x.0.now ∷ whole_lines x.1.now) }
+    ensures lines { MatchOption result (ended_lines text.now ≡ []) (λ x. ended_lines text.now ≡ x.0.now ∷ ended_lines x.1.now) }
     ensures shorter { IfSome result (λ x. length x.1.now < length text.now) }
 {
     for (i, byte) in text.iter().enumerate() {
@@ -66,7 +66,7 @@ pub fn split_field(line: &[u8]) -> (&[u8], Option<&[u8]>)
 
 // Whether a byte stands between words.
 fn is_blank(byte: u8) -> bool
-    ensures { result ≡ is_blank byte }
+    ensures { result ≡ is_space_or_tab byte }
 {
     byte == b' ' || byte == b'\t'
 }
@@ -74,7 +74,7 @@ fn is_blank(byte: u8) -> bool
 // The word at the start of a line that begins with one, and what stands behind it.
 fn split_word(line: &[u8]) -> (&[u8], &[u8])
     requires some { 0 < length line.now }
-    requires word { is_blank (slice_index_or line.now 0 0) ≡ false }
+    requires word { is_space_or_tab (slice_index_or line.now 0 0) ≡ false }
     ensures words { words_of line.now ≡ result.0.now ∷ words_of result.1.now }
     ensures shorter { length result.1.now < length line.now }
 {

@@ -7,8 +7,8 @@ ghost use Rattle.std.specs.List.{slice_get};
 ghost use Rattle.rup_check.specs.declared.line.Line.{Line};
 ghost use Rattle.pack_defs.specs.Lists.{is_empty};
 ghost use Rattle.lrat_text.specs.Lines.{without_return, words_of};
-ghost use Rattle.lrat_text.specs.LogReading.{AreNumbers, LogRead, after_words, behind_d, deleted_at, deletion, field_of, hint_at, hint_place, hints_at, is_next, lits_at, log_of, number_or, read_more, with_line};
-ghost use Rattle.lrat_text.specs.Steps.{Gives};
+ghost use Rattle.lrat_text.specs.LogReading.{AreLineNumbers, LogRead, after_words, behind_d, deleted_at, deletion, field_of, hint_at, hint_place, log_hints_at, is_next, log_lits_at, log_of, number_or, read_more, with_line};
+ghost use Rattle.lrat_text.specs.Steps.{LogGives};
 
 use crate::error::LratErr;
 use crate::field::{Field, GREATEST, field_of, natural};
@@ -31,7 +31,7 @@ fn is_bare(words: &[u8]) -> bool
 
 // The literals before a 0, into a list that is emptied first, and what stands behind it, on the n-th line.
 pub(crate) fn lits_of<'a>(n: u64, words: &'a [u8], lits: &mut Vec<Lit>) -> Result<&'a [u8], LratErr>
-    ensures { Gives (λ rest. (lits.new.items, words_of rest.now)) (lits_at n (words_of words.now)) result }
+    ensures { LogGives (λ rest. (lits.new.items, words_of rest.now)) (log_lits_at n (words_of words.now)) result }
 {
     lits.clear();
     let mut rest = words;
@@ -48,7 +48,7 @@ pub(crate) fn lits_of<'a>(n: u64, words: &'a [u8], lits: &mut Vec<Lit>) -> Resul
 
 // Whether the words behind a deletion's `d` are numbers and a 0 at the end, on the n-th line.
 pub(crate) fn deleted(n: u64, words: &[u8]) -> Result<(), LratErr>
-    ensures { Gives (λ u. u) (deleted_at n (words_of words.now)) result }
+    ensures { LogGives (λ u. u) (deleted_at n (words_of words.now)) result }
 {
     let mut rest = words;
     while let Some((word, after)) = next_word(rest) {
@@ -83,7 +83,7 @@ fn stands_at(numbers: &[u64], place: u64, number: u64) -> bool
 
 // What a hint names: a clause by its number, or a line so far by its place behind the clauses.
 pub(crate) fn hint_place(clauses: u64, numbers: &[u64], h: u64) -> Option<u64>
-    requires { AreNumbers clauses numbers.now }
+    requires { AreLineNumbers clauses numbers.now }
     ensures { result ≡ hint_place clauses numbers.now h }
 {
     if h <= clauses {
@@ -101,8 +101,8 @@ pub(crate) fn hint_place(clauses: u64, numbers: &[u64], h: u64) -> Option<u64>
 
 // What a hint says on the n-th line: the place of what it names.
 fn hint_at(n: u64, clauses: u64, numbers: &[u64], hint: Lit) -> Result<u64, LratErr>
-    requires { AreNumbers clauses numbers.now }
-    ensures { Gives (λ place. place) (hint_at n clauses numbers.now hint) result }
+    requires { AreLineNumbers clauses numbers.now }
+    ensures { LogGives (λ place. place) (hint_at n clauses numbers.now hint) result }
 {
     if !hint.positive {
         return Err(LratErr::RatStep { n });
@@ -122,8 +122,8 @@ pub(crate) fn hints_of(
     words: &[u8],
     hints: &mut Vec<u64>,
 ) -> Result<(), LratErr>
-    requires { AreNumbers clauses numbers.now }
-    ensures { Gives (λ _. hints.new.items) (hints_at n clauses numbers.now (words_of words.now)) result }
+    requires { AreLineNumbers clauses numbers.now }
+    ensures { LogGives (λ _. hints.new.items) (log_hints_at n clauses numbers.now (words_of words.now)) result }
 {
     hints.clear();
     let mut rest = words;
@@ -155,7 +155,7 @@ struct Scratch {
 
 // Whether a number is above the clauses and above those of all lines so far.
 fn is_next(clauses: u64, numbers: &[u64], number: u64) -> bool
-    requires { AreNumbers clauses numbers.now }
+    requires { AreLineNumbers clauses numbers.now }
     ensures { result ≡ is_next clauses numbers.now number }
 {
     if number <= clauses {
@@ -169,9 +169,9 @@ fn is_next(clauses: u64, numbers: &[u64], number: u64) -> bool
 
 // The number that a word gives a line of the log, on the n-th line of the text.
 fn number_of(n: u64, clauses: u64, numbers: &[u64], word: &[u8]) -> Result<u64, LratErr>
-    requires { AreNumbers clauses numbers.now }
-    ensures rises { IfOk result (λ x. AreNumbers clauses (numbers.now ++ x ∷ [])) }
-    ensures number { Gives (λ x. x) (number_or n clauses numbers.now (field_of word.now)) result }
+    requires { AreLineNumbers clauses numbers.now }
+    ensures rises { IfOk result (λ x. AreLineNumbers clauses (numbers.now ++ x ∷ [])) }
+    ensures number { LogGives (λ x. x) (number_or n clauses numbers.now (field_of word.now)) result }
 {
     match field_of(word) {
         Some(Field::Number(lit)) => {
@@ -198,9 +198,9 @@ fn log_line(
     words: &[u8],
     scratch: &mut Scratch,
 ) -> Result<u64, LratErr>
-    requires { AreNumbers clauses numbers.now }
-    ensures line { (lines : List Line) → Gives (λ x. record { numbers = numbers.now ++ x ∷ []; lines = lines ++ record { lits = scratch.new.lits.items; hints = scratch.new.hints.items } ∷ [] }) (with_line n clauses (record { numbers = numbers.now; lines = lines }) word.now (words_of words.now)) result }
-    ensures rises { IfOk result (λ x. AreNumbers clauses (numbers.now ++ x ∷ [])) }
+    requires { AreLineNumbers clauses numbers.now }
+    ensures line { (lines : List Line) → LogGives (λ x. record { numbers = numbers.now ++ x ∷ []; lines = lines ++ record { lits = scratch.new.lits.items; hints = scratch.new.hints.items } ∷ [] }) (with_line n clauses (record { numbers = numbers.now; lines = lines }) word.now (words_of words.now)) result }
+    ensures rises { IfOk result (λ x. AreLineNumbers clauses (numbers.now ++ x ∷ [])) }
 {
     let number = number_of(n, clauses, numbers, word)?;
     let rest = lits_of(n, words, &mut scratch.lits)?;
@@ -211,7 +211,7 @@ fn log_line(
 // What a deletion line says behind its number and its `d`, on the n-th line of the text: nothing.
 #[tactic(auto, unfolding(crate::specs::LogReading::deletion))]
 fn deletion(n: u64, word: &[u8], words: &[u8]) -> Result<(), LratErr>
-    ensures { (state : LogRead) → Gives (λ u. state) (deletion n state word.now (words_of words.now)) result }
+    ensures { (state : LogRead) → LogGives (λ u. state) (deletion n state word.now (words_of words.now)) result }
 {
     let Some(_) = natural(GREATEST, word) else {
         return Err(LratErr::BadLine { n });
@@ -242,9 +242,9 @@ fn line_said(
     line: &[u8],
     scratch: &mut Scratch,
 ) -> Result<Option<u64>, LratErr>
-    requires { AreNumbers clauses numbers.now }
-    ensures said { (lines : List Line) → Gives (read_more (record { numbers = numbers.now; lines = lines }) (record { lits = scratch.new.lits.items; hints = scratch.new.hints.items })) (after_words n clauses (record { numbers = numbers.now; lines = lines }) (words_of line.now)) result }
-    ensures rises { IfOk result (λ x. IfSome x (λ y. AreNumbers clauses (numbers.now ++ y ∷ []))) }
+    requires { AreLineNumbers clauses numbers.now }
+    ensures said { (lines : List Line) → LogGives (read_more (record { numbers = numbers.now; lines = lines }) (record { lits = scratch.new.lits.items; hints = scratch.new.hints.items })) (after_words n clauses (record { numbers = numbers.now; lines = lines }) (words_of line.now)) result }
+    ensures rises { IfOk result (λ x. IfSome x (λ y. AreLineNumbers clauses (numbers.now ++ y ∷ []))) }
 {
     let Some((word, words)) = next_word(line) else {
         return Ok(None);
@@ -302,9 +302,9 @@ fn after_line(
     line: &[u8],
     scratch: &mut Scratch,
 ) -> Result<SoFar, LratErr>
-    requires { AreNumbers clauses so_far.numbers }
-    ensures read { Gives (λ new. new) (after_words n clauses so_far (words_of (without_return line.now))) result }
-    ensures rises { IfOk result (λ new. AreNumbers clauses new.numbers) }
+    requires { AreLineNumbers clauses so_far.numbers }
+    ensures read { LogGives (λ new. new) (after_words n clauses so_far (words_of (without_return line.now))) result }
+    ensures rises { IfOk result (λ new. AreLineNumbers clauses new.numbers) }
 {
     let SoFar { numbers, lines } = so_far;
     match line_said(n, clauses, &numbers, without_return(line), scratch) {
@@ -326,7 +326,7 @@ fn after_line(
 /// `Truncated` where the text ends within a line; else `BadLine` or `RatStep` of the first line at fault; `NoMemory`
 /// where memory ran out.
 pub fn read_log(alloc: Global, text: &[u8], clauses: u64) -> Result<Log, LratErr>
-    ensures { Gives (λ log. log) (log_of text.now clauses) result }
+    ensures { LogGives (λ log. log) (log_of text.now clauses) result }
 {
     if !is_whole(text) {
         return Err(LratErr::Truncated);

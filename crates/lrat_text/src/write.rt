@@ -3,7 +3,7 @@
 ghost use Rattle.std.specs.Prelude.{◌≡◌, ◌+◌, ◌≤◌, ◌^◌, ◌∷◌, ◌++◌, [], ℕ, IfOk, OnErr, OnOk, decimal, length, map, take};
 ghost use Rattle.std.specs.List.{flat_map};
 ghost use Rattle.lrat_text.specs.Lines.{line_of};
-ghost use Rattle.lrat_text.specs.LogText.{clause_fields, dimacs_text, header_line, lit_text, log_fields, log_text, spaced, zero_field};
+ghost use Rattle.lrat_text.specs.LogText.{clause_fields, dimacs_text, formula_header, lit_text, log_fields, log_text, spaced, zero_field};
 
 use clause_db::list::ClauseList;
 use clause_db::lit::Lit;
@@ -162,7 +162,7 @@ fn push_clause(text: &mut Vec<u8>, clause: &[Lit]) -> Result<(), NoMemory>
 
 // Adds the first line of a formula.
 fn push_header(text: &mut Vec<u8>, clauses: &ClauseList) -> Result<(), NoMemory>
-    ensures { OnOk result (text.new.items ≡ text.old.items ++ header_line clauses.now) }
+    ensures { OnOk result (text.new.items ≡ text.old.items ++ formula_header clauses.now) }
 {
     text.extend_from_slice(b"p cnf ")?;
     push_number(text, u64::from(clauses.vars()))?;

@@ -17,12 +17,12 @@ use Rattle.auction_core.proofs.Done.{asked-apart}
 use Rattle.result_text.proofs.StepLemmas.{backed-clock, carried-through}
 use Rattle.auction_core.specs.declared.transcript.Transcript.{Transcript}
 use Rattle.transcript_text.specs.Spelling.{transcript_for, transcript_steps}
-use Rattle.auction_core.specs.NotShown.{not_shown, start_fault, step_or, steps_fault}
+use Rattle.auction_core.specs.NotShown.{not_shown, start_fault, step_fault_or, steps_fault}
 use Rattle.auction_core.specs.LogNumbers.{steps_in}
 use Rattle.transcript_check.specs.Sound.{transcript_record}
 use Rattle.transcript_check.proofs.SoundLemmas.{shown-sound, sound-shown, transcript-sound, transcript-steps-same, same-record}
 use Rattle.auction_core.proofs.WalkLemmas.{step_or-parts}
-use Rattle.open_tests.specs.Queries.{state_before, step_at}
+use Rattle.open_tests.specs.Queries.{state_before, step_numbered}
 use Rattle.open_tests.specs.Settled.{IsLeftOpen, RefutesStep, settled_by, shown_outside, without_test}
 use Rattle.open_tests.proofs.AlikeLemmas.{HaveMoved}
 use Rattle.open_tests.proofs.SettledLemmas.{RefutesAt, left-at, moved-outside, open-at, refutes-at, some-step}
@@ -46,7 +46,7 @@ refutes sc book rec step proof b p =
     subst (λ (z : Scenario). RefutesAt z book (first z rec) rec.steps (step - 1) proof) b.scenario
     (refutes-at rec.scenario book (first rec.scenario rec) (state_before rec step) rec.steps step proof refl p)
 
-none-or : (n : ℕ) (o : Option _) (rest : Option _) → o ≡ None → rest ≡ None → step_or n o rest ≡ None
+none-or : (n : ℕ) (o : Option _) (rest : Option _) → o ≡ None → rest ≡ None → step_fault_or n o rest ≡ None
 none-or n o rest e f = rw e f
 
 -- its transcript has no fault
@@ -81,7 +81,7 @@ settled-backed sc book rec step proof a b open_ p =
     (shown-sound sc book (transcript_for sc book (settled_by rec step proof)) a (no-fault sc book rec step proof a b open_ p)).backed
 
 pub settled-left : (sc : Scenario) (book : BookView) (rec : Record) (step : ℕ) (proof : OutsideProof) → IsAuction sc book → IsBacked sc book rec.order rec → IsLeftOpen rec step
-    → MatchOption (step_at rec.steps step) ⊤ (λ x. undecided_of (settled_by rec step proof).steps ≡ without_test (test_of x) (undecided_of rec.steps))
+    → MatchOption (step_numbered rec.steps step) ⊤ (λ x. undecided_of (settled_by rec step proof).steps ≡ without_test (test_of x) (undecided_of rec.steps))
 unfolding asked_tests
 settled-left sc book rec step proof a b open_ =
     let c : IsCarriedThrough sc book rec.order rec = carried-through sc book rec b (has-done sc book rec step b open_) in

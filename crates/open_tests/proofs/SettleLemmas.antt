@@ -21,19 +21,19 @@ use Rattle.auction_core.specs.declared.record.Step.{Step}
 use Rattle.lrat_text.specs.LogReading.{log_of}
 use Rattle.lrat_text.specs.declared.error.LratErr.{LratErr}
 use Rattle.lrat_text.specs.declared.error.LratErr.TheVariants.{Truncated, BadLine, RatStep, NoMemory as NoRoom}
-use Rattle.lrat_text.specs.Steps.{Fails as NotRead}
+use Rattle.lrat_text.specs.Steps.{LogFails as NotRead}
 use Rattle.auction_core.specs.LogNumbers.{clauses_in}
 use Rattle.open_tests.specs.Cut.{up_to_empty}
-use Rattle.open_tests.specs.Queries.{state_before, step_at, task_at}
+use Rattle.open_tests.specs.Queries.{state_before, step_numbered, task_at}
 use Rattle.open_tests.specs.Settled.{IsLeftOpen, RefutesStep, settled_by}
-use Rattle.open_tests.specs.Settling.{Fails, cut_proof, refused, set_of_step, settled_log, settled_or, settled_text, unread}
+use Rattle.open_tests.specs.Settling.{SettleFails, cut_proof, refused, set_of_step, settled_log, settled_or, settled_text, unread}
 use Rattle.open_tests.specs.declared.settle.SettleErr.{SettleErr}
 use Rattle.open_tests.specs.declared.settle.SettleErr.TheVariants.{Unread, NoRefutation, NoMemory}
 
 -- ---- the step
 
 -- a step that there is has a number from 1 to how many there are
-pub step-there : (steps : List Step) (step : ℕ) (x : Step) → step_at steps step ≡ Some x → (1 ≤ step) × (step ≤ length steps)
+pub step-there : (steps : List Step) (step : ℕ) (x : Step) → step_numbered steps step ≡ Some x → (1 ≤ step) × (step ≤ length steps)
 step-there steps zero x e = cc
 step-there steps (suc i) x e = let within = slice_get_within steps i x e in (omega arith, omega arith)
 
@@ -43,7 +43,7 @@ some-match (Some x) P h = (x, refl)
 
 pub open-there : (rec : Record) (step : ℕ) → IsLeftOpen rec step → (1 ≤ step) × (step ≤ length rec.steps)
 open-there rec step h =
-    let found = some-match (step_at rec.steps step) (λ x. is_undecided x.shown ≡ true) h in
+    let found = some-match (step_numbered rec.steps step) (λ x. is_undecided x.shown ≡ true) h in
     step-there rec.steps step found.0 found.1
 
 -- ---- the set
@@ -72,7 +72,7 @@ settled-so book rec step task text log e is h =
 
 -- where they don't, or memory ran out
 pub refused-so : (book : BookView) (rec : Record) (step : ℕ) (task : Task) (text : List ℕ) (log : Log) (why : CertifyWhy) → task_at book rec step ≡ Some task → log_of text (clauses_in book task.set) ≡ Ok log
-    → Tells why (outside_fault book task.set (up_to_empty log.lines)) → Fails (refused why) (settled_text book rec step text)
+    → Tells why (outside_fault book task.set (up_to_empty log.lines)) → SettleFails (refused why) (settled_text book rec step text)
 refused-so book rec step task text log (Rejected place) e is h =
     let proof : OutsideProof = cut_proof log in
     let some : outside_fault book (set_of_step book rec step) (up_to_empty log.lines) ≡ Some place =
@@ -81,7 +81,7 @@ refused-so book rec step task text log (Rejected place) e is h =
 refused-so book rec step task text log NoSpace e is h = tt
 
 -- where the text is none of a log
-pub unread-so : (book : BookView) (rec : Record) (step : ℕ) (task : Task) (text : List ℕ) (why : LratErr) → task_at book rec step ≡ Some task → NotRead why (log_of text (clauses_in book task.set)) → Fails (unread why) (settled_text book rec step text)
+pub unread-so : (book : BookView) (rec : Record) (step : ℕ) (task : Task) (text : List ℕ) (why : LratErr) → task_at book rec step ≡ Some task → NotRead why (log_of text (clauses_in book task.set)) → SettleFails (unread why) (settled_text book rec step text)
 unread-so book rec step task text Truncated e is = read-so book rec step task text (Err Truncated) e is
 unread-so book rec step task text (BadLine n) e is = read-so book rec step task text (Err (BadLine n)) e is
 unread-so book rec step task text (RatStep n) e is = read-so book rec step task text (Err (RatStep n)) e is
@@ -122,8 +122,8 @@ settled-said book rec new step text e = go (log_of text (clauses_in book (set_of
     go (Err why) is f = cc
 
 -- where the step is there, its set is that of its query
-pub said-refutes : (book : BookView) (rec : Record) (step : ℕ) (proof : OutsideProof) (x : Step) → step_at rec.steps step ≡ Some x → IsOutsideProof book (set_of_step book rec step) proof → RefutesStep book rec step proof
-said-refutes book rec step proof x there h = go (step_at rec.steps step) there h
+pub said-refutes : (book : BookView) (rec : Record) (step : ℕ) (proof : OutsideProof) (x : Step) → step_numbered rec.steps step ≡ Some x → IsOutsideProof book (set_of_step book rec step) proof → RefutesStep book rec step proof
+said-refutes book rec step proof x there h = go (step_numbered rec.steps step) there h
   where
     go : (o : Option Step) → o ≡ Some x
         → IsOutsideProof book (option_map_or (λ (t : Task). t.set) (option_map (λ (y : Step). test_task rec.scenario book (state_before rec step) (test_of y)) o) []) proof

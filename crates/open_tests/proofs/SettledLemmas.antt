@@ -15,7 +15,7 @@ use Rattle.auction_core.specs.declared.record.Step.{Step}
 use Rattle.auction_core.specs.State.{CoreState, settled, test_of, test_task, tested_set}
 use Rattle.auction_core.specs.Backed.{after_steps, is_undecided, undecided_of}
 use Rattle.auction_core.proofs.Steps.{listed-undecided, same-back}
-use Rattle.open_tests.specs.Queries.{step_at}
+use Rattle.open_tests.specs.Queries.{step_numbered}
 use Rattle.open_tests.specs.Settled.{is_same_test, shown_outside, without_test}
 use Rattle.open_tests.proofs.AlikeLemmas.{HaveMoved, alike-push, alike-same, same-moves}
 
@@ -41,7 +41,7 @@ open-get [] i h = h
 open-get (x ∷ xs) zero h = h
 open-get (x ∷ xs) (suc i) h = open-get xs i h
 
-pub open-at : (xs : List Step) (step : ℕ) → MatchOption (step_at xs step) ⊥ (λ x. is_undecided x.shown ≡ true) → IsOpenAt xs (step - 1)
+pub open-at : (xs : List Step) (step : ℕ) → MatchOption (step_numbered xs step) ⊥ (λ x. is_undecided x.shown ≡ true) → IsOpenAt xs (step - 1)
 open-at xs zero h = absurd h
 open-at xs (suc i) h = subst (IsOpenAt xs) (sym (one-less i)) (open-get xs i h)
 
@@ -52,7 +52,7 @@ refutes-get sc book state q (x ∷ xs) zero proof e h = subst (λ clock. IsOutsi
 refutes-get sc book state q (x ∷ xs) (suc i) proof e h = refutes-get sc book (settled sc state (test_of x) x.shown) q xs i proof e h
 
 pub refutes-at : (sc : Scenario) (book : BookView) (state q : CoreState) (xs : List Step) (step : ℕ) (proof : OutsideProof) → q.clock ≡ (after_steps sc state (take (step - 1) xs)).clock
-    → MatchOption (option_map (λ x. test_task sc book q (test_of x)) (step_at xs step)) ⊥ (λ task. IsOutsideProof book task.set proof) → RefutesAt sc book state xs (step - 1) proof
+    → MatchOption (option_map (λ x. test_task sc book q (test_of x)) (step_numbered xs step)) ⊥ (λ task. IsOutsideProof book task.set proof) → RefutesAt sc book state xs (step - 1) proof
 refutes-at sc book state q xs zero proof e h = absurd h
 refutes-at sc book state q xs (suc i) proof e h =
     let same = one-less i in
@@ -150,7 +150,7 @@ left-one (x ∷ xs) (suc i) proof apart h = go (slice_get xs i) refl (left-one x
         (not-back (test_of x) (test_of y) (not-listed-get xs i y (test_of x) is apart.0)) rest
 
 pub left-at : (xs : List Step) (step : ℕ) (proof : OutsideProof) → TestsApart (map test_of xs) → IsOpenAt xs (step - 1)
-    → MatchOption (step_at xs step) ⊤ (λ x. undecided_of (shown_outside xs (step - 1) proof) ≡ without_test (test_of x) (undecided_of xs))
+    → MatchOption (step_numbered xs step) ⊤ (λ x. undecided_of (shown_outside xs (step - 1) proof) ≡ without_test (test_of x) (undecided_of xs))
 left-at xs zero proof apart h = tt
 left-at xs (suc i) proof apart h =
     let same = one-less i in

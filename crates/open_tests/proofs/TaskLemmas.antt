@@ -14,10 +14,10 @@ use Rattle.auction_core.specs.State.{CoreState, restricted, test_of, test_task, 
 use Rattle.auction_core.specs.declared.record.Record.{Record}
 use Rattle.auction_core.specs.declared.record.Step.{Step}
 use Rattle.result_text.proofs.StepLemmas.{backed-next}
-use Rattle.open_tests.specs.Queries.{state_before, step_at, task_at}
+use Rattle.open_tests.specs.Queries.{state_before, step_numbered, task_at}
 use Rattle.open_tests.proofs.FollowLemmas.{some-step-done}
 
-step-there : (steps : List Step) (step : ℕ) (x : Step) → 1 ≤ step → step ≤ length steps → x ≡ get_or steps (step - 1) x → step_at steps step ≡ Some x
+step-there : (steps : List Step) (step : ℕ) (x : Step) → 1 ≤ step → step ≤ length steps → x ≡ get_or steps (step - 1) x → step_numbered steps step ≡ Some x
 step-there steps zero x begins there is = absurd (omega (arith, begins))
 step-there steps (suc i) x begins there is =
     let behind : suc i - 1 ≡ i = omega arith in

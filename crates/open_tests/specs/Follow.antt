@@ -8,11 +8,11 @@ use Rattle.auction_core.specs.declared.record.Step.{Step}
 use Rattle.auction_core.specs.AirMap.{AirMapView}
 use Rattle.auction_core.specs.Clock.{ClockView, IsClockOf}
 use Rattle.auction_core.specs.State.{CoreState, fit_of}
-use Rattle.open_tests.specs.Queries.{step_at}
+use Rattle.open_tests.specs.Queries.{step_numbered}
 
 -- the entries of the fit that the step of this number, from 1, is shown by; none at 0, and where it is shown otherwise
 abbrev pub fit_named : List Step → ℕ → List (ℕ × ℕ)
-fit_named steps n = option_map_or (λ x. unwrap_or (fit_of x.shown) []) (step_at steps n) []
+fit_named steps n = option_map_or (λ x. unwrap_or (fit_of x.shown) []) (step_numbered steps n) []
 
 -- the clock and the map are those of this state, and the map ascends
 pub record IsLeftSo (sc : Scenario) (state : CoreState) (clock : ClockView) (map : AirMapView) : Type 0 where
@@ -26,6 +26,6 @@ entry_before s None rest = rest
 entry_before s (Some channel) rest = (s, channel) ∷ rest
 
 -- the entries of those of these stations that have a channel, in their order
-abbrev pub entries_at : List (ℕ × ℕ) → List ℕ → List (ℕ × ℕ)
-entries_at entries [] = []
-entries_at entries (s ∷ ss) = entry_before s (channel_of s entries) (entries_at entries ss)
+abbrev pub entries_of_stations : List (ℕ × ℕ) → List ℕ → List (ℕ × ℕ)
+entries_of_stations entries [] = []
+entries_of_stations entries (s ∷ ss) = entry_before s (channel_of s entries) (entries_of_stations entries ss)

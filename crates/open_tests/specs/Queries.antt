@@ -10,9 +10,9 @@ use Rattle.auction_core.specs.Prefix.{queries_taken}
 use Rattle.auction_core.specs.State.{CoreState, test_of, test_task}
 
 -- the step of this number, from 1, if there is one
-abbrev pub step_at : List Step → ℕ → Option Step
-step_at steps zero = None
-step_at steps (suc i) = slice_get steps i
+abbrev pub step_numbered : List Step → ℕ → Option Step
+step_numbered steps zero = None
+step_numbered steps (suc i) = slice_get steps i
 
 -- the steps before the step of this number
 abbrev pub steps_before : Record → ℕ → List Step
@@ -28,4 +28,4 @@ state_before rec step =
 
 -- the query of that step, if there is such a step
 abbrev pub task_at : BookView → Record → ℕ → Option Task
-task_at book rec step = option_map (λ x. test_task rec.scenario book (state_before rec step) (test_of x)) (step_at rec.steps step)
+task_at book rec step = option_map (λ x. test_task rec.scenario book (state_before rec step) (test_of x)) (step_numbered rec.steps step)

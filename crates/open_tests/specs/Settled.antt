@@ -10,7 +10,7 @@ use Rattle.auction_core.specs.Backed.{is_undecided}
 use Rattle.auction_core.specs.declared.record.Record.{Record}
 use Rattle.auction_core.specs.declared.record.Shown.TheVariants.{Outside}
 use Rattle.auction_core.specs.declared.record.Step.{Step}
-use Rattle.open_tests.specs.Queries.{step_at, task_at}
+use Rattle.open_tests.specs.Queries.{step_numbered, task_at}
 
 -- these steps, the one at this place, from 0, shown by the proof
 abbrev pub shown_outside : List Step → ℕ → OutsideProof → List Step
@@ -24,7 +24,7 @@ settled_by rec step proof = record rec { steps = shown_outside rec.steps (step -
 
 -- the record has a step of this number, which is shown undecided
 abbrev pub IsLeftOpen : Record → ℕ → Type 0
-IsLeftOpen rec step = MatchOption (step_at rec.steps step) ⊥ (λ x. is_undecided x.shown ≡ true)
+IsLeftOpen rec step = MatchOption (step_numbered rec.steps step) ⊥ (λ x. is_undecided x.shown ≡ true)
 
 -- the proof refutes the set of that step's query
 abbrev pub RefutesStep : BookView → Record → ℕ → OutsideProof → Type 0

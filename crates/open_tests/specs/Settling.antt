@@ -65,7 +65,7 @@ refused (Rejected place) = NoRefutation
 refused certify.NoMemory = NoMemory
 
 -- the error is what the definition gives, unless memory ran out
-abbrev pub Fails : SettleErr → Result Record SettleErr → Type 0
-Fails (Unread why) wanted = wanted ≡ Err (Unread why)
-Fails NoRefutation wanted = wanted ≡ Err NoRefutation
-Fails NoMemory wanted = Unit {0}
+abbrev pub SettleFails : SettleErr → Result Record SettleErr → Type 0
+SettleFails (Unread why) wanted = wanted ≡ Err (Unread why)
+SettleFails NoRefutation wanted = wanted ≡ Err NoRefutation
+SettleFails NoMemory wanted = Unit {0}

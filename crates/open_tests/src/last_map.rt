@@ -4,7 +4,7 @@ ghost use Rattle.std.specs.Prelude.{◌≡◌, IfOk, IsTrue};
 ghost use Rattle.pack_defs.specs.ChannelMap.{IsAscending};
 ghost use Rattle.pack_defs.specs.Lists.{is_ascending};
 ghost use Rattle.auction_core.specs.State.{restricted};
-ghost use Rattle.open_tests.specs.Follow.{entries_at};
+ghost use Rattle.open_tests.specs.Follow.{entries_of_stations};
 
 use auction_core::air_map::AirMap;
 use pack_defs::channel_map::ChannelMap;
@@ -22,7 +22,7 @@ pub(crate) fn map_on(alloc: Global, map: &AirMap, set: &[u32]) -> Result<Channel
 
 // The entries of those stations of a set that have a channel, in the set's order. It is a search by halves for each.
 fn entries_on(alloc: Global, map: &AirMap, set: &[u32]) -> Result<Vec<(u32, u8)>, NoMemory>
-    ensures { IfOk result (λ entries. entries.items ≡ entries_at map.now.entries set.now) }
+    ensures { IfOk result (λ entries. entries.items ≡ entries_of_stations map.now.entries set.now) }
 {
     let mut entries = Vec::with_capacity(alloc, set.len())?;
     for station in set {

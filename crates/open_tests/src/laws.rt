@@ -14,7 +14,7 @@ ghost use Rattle.auction_core.specs.State.{test_of};
 ghost use Rattle.auction_core.specs.declared.record.Record.{Record};
 ghost use Rattle.lrat_text.specs.LogReading.{log_of};
 ghost use Rattle.auction_core.specs.LogNumbers.{clauses_in};
-ghost use Rattle.open_tests.specs.Queries.{step_at};
+ghost use Rattle.open_tests.specs.Queries.{step_numbered};
 ghost use Rattle.open_tests.specs.Settled.{IsLeftOpen, RefutesStep, decided_row, settled_by, without_test};
 ghost use Rattle.open_tests.specs.Settling.{cut_proof, set_of_step, settled_text};
 
@@ -22,7 +22,7 @@ ghost use Rattle.open_tests.specs.Settling.{cut_proof, set_of_step, settled_text
 /// clock rule with these left open comes to the same state as before.
 pub fn settled_by_a_proof()
     ensures backed { (sc : Scenario) (book : BookView) (rec : Record) (step : ℕ) (proof : OutsideProof) → IsAuction sc book → IsBacked sc book rec.order rec → IsLeftOpen rec step → RefutesStep book rec step proof → IsBacked sc book rec.order (settled_by rec step proof) }
-    ensures left { (sc : Scenario) (book : BookView) (rec : Record) (step : ℕ) (proof : OutsideProof) → IsAuction sc book → IsBacked sc book rec.order rec → IsLeftOpen rec step → MatchOption (step_at rec.steps step) ⊤ (λ x. undecided_of (settled_by rec step proof).steps ≡ without_test (test_of x) (undecided_of rec.steps)) }
+    ensures left { (sc : Scenario) (book : BookView) (rec : Record) (step : ℕ) (proof : OutsideProof) → IsAuction sc book → IsBacked sc book rec.order rec → IsLeftOpen rec step → MatchOption (step_numbered rec.steps step) ⊤ (λ x. undecided_of (settled_by rec step proof).steps ≡ without_test (test_of x) (undecided_of rec.steps)) }
     ensures clock { (sc : Scenario) (book : BookView) (rec : Record) (step : ℕ) (proof : OutsideProof) → IsAuction sc book → IsBacked sc book rec.order rec → IsLeftOpen rec step → RefutesStep book rec step proof → clock_rule sc book rec.order (undecided_of (settled_by rec step proof).steps) ≡ clock_rule sc book rec.order (undecided_of rec.steps) }
 {}
 

@@ -4,7 +4,7 @@ ghost use Rattle.std.specs.Prelude.{◌≡◌, MatchOption, ⊤};
 ghost use Rattle.pack_defs.specs.Scenario.{IsWithinLimits};
 ghost use Rattle.auction_core.specs.Backed.{IsBacked, undecided_of};
 ghost use Rattle.auction_core.specs.State.{test_of};
-ghost use Rattle.open_tests.specs.Queries.{step_at};
+ghost use Rattle.open_tests.specs.Queries.{step_numbered};
 ghost use Rattle.open_tests.specs.Settled.{IsLeftOpen, RefutesStep, settled_by, without_test};
 
 use auction_core::record::{Record, Shown};
@@ -22,7 +22,7 @@ pub fn replace_undecided(rec: Record, book: &Book, step: u32, proof: OutsideProo
     requires refutes { RefutesStep book.now rec step proof }
     ensures record_is { result ≡ settled_by rec step proof }
     ensures backed { IsBacked rec.scenario book.now rec.order result }
-    ensures left { MatchOption (step_at rec.steps step) ⊤ (λ x. undecided_of result.steps ≡ without_test (test_of x) (undecided_of rec.steps)) }
+    ensures left { MatchOption (step_numbered rec.steps step) ⊤ (λ x. undecided_of result.steps ≡ without_test (test_of x) (undecided_of rec.steps)) }
 {
     // For its clause alone: that the book is in order, which the laws ask.
     book.keeps_order();

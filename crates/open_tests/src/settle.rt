@@ -4,7 +4,7 @@ ghost use Rattle.std.specs.Prelude.{◌≡◌, IfErr, IfOk, Ok};
 ghost use Rattle.pack_defs.specs.Scenario.{IsWithinLimits};
 ghost use Rattle.auction_core.specs.Backed.{IsBacked};
 ghost use Rattle.open_tests.specs.Settled.{IsLeftOpen};
-ghost use Rattle.open_tests.specs.Settling.{Fails, refused, settled_text, unread};
+ghost use Rattle.open_tests.specs.Settling.{SettleFails, refused, settled_text, unread};
 
 use crate::cut::up_to_empty;
 use crate::replace::replace_undecided;
@@ -82,7 +82,7 @@ pub fn settle_by_text(
     requires undecided { IsLeftOpen rec step }
     ensures settled { IfOk result (λ new. settled_text book.now rec step text.now ≡ Ok new) }
     ensures backed { IfOk result (IsBacked rec.scenario book.now rec.order) }
-    ensures why { IfErr result (λ e. Fails e (settled_text book.now rec step text.now)) }
+    ensures why { IfErr result (λ e. SettleFails e (settled_text book.now rec step text.now)) }
 {
     let task = task_at(alloc, &rec, book, step)?;
     let clauses = clause_count(book, task.set.as_slice());

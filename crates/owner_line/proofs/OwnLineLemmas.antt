@@ -23,9 +23,9 @@ use Rattle.pack_defs.proofs.Rivals.{OneEachRound}
 use Rattle.pack_defs.proofs.Rounds.{one_each_round}
 use Rattle.pack_defs.proofs.Turns.{bidders-apart, bidder-comes}
 use Rattle.pack_defs.proofs.OneRow.{row-by_answers}
-use Rattle.owner_line.specs.OwnersOf.{word_of, line_on, line_from, owner_line, with_owner_line, with_record, with_records, after_line, with_file_lines, owners_of}
+use Rattle.owner_line.specs.OwnersOf.{word_of, line_on, line_from, owner_line, with_owner_line, with_record, with_records, after_owner_line, with_file_lines, owners_of}
 use Rattle.owner_line.specs.OwnLines.{LeavesIn, FitsUpTo}
-use Rattle.owner_line.specs.Steps.{◌>>=◌}
+use Rattle.pack_defs.specs.Steps.{◌>>=◌}
 use Rattle.owner_line.specs.declared.error.OwnerWhy.{OwnerWhy}
 use Rattle.owner_line.specs.declared.error.OwnerWhy.TheVariants.{BadNumber, RoundRange, UnknownStation, BadWord, Repeated}
 
@@ -349,7 +349,7 @@ file-within : (R : ℕ) (ids : List ℕ) (said next : List OwnerLine) (at : ℕ)
 unfolding with_file_lines lines_in
 file-within R ids said next at [] within is = subst (λ z. WithinRounds R z) (ap lines_in is) within
 file-within R ids said next at (line ∷ lines) within is =
-    (elim (with_records R ids said (line_records line)) as (λ o. with_records R ids said (line_records line) ≡ o → after_line at o (λ then. with_file_lines R ids then (at + 1) lines) ≡ Ok next → WithinRounds R next) [
+    (elim (with_records R ids said (line_records line)) as (λ o. with_records R ids said (line_records line) ≡ o → after_owner_line at o (λ then. with_file_lines R ids then (at + 1) lines) ≡ Ok next → WithinRounds R next) [
       | Ok then ↦ λ first later. file-within R ids then next (at + 1) lines (records-within R ids said then (line_records line) within first) later
       | Err why ↦ λ _ bad. absurd (refused _ next bad)
     ]) refl is

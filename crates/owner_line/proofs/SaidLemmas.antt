@@ -4,11 +4,11 @@ use Rattle.std.proofs.lemmas.List.{drop_all, drop_more, length-map}
 use Rattle.std.proofs.Math.ListN.{get_or-map}
 use Rattle.constraint_files.specs.Records.{line_records, lines_of}
 use Rattle.pack_defs.specs.declared.owners.OwnerLine.{OwnerLine}
-use Rattle.owner_line.specs.OwnersOf.{after_line, with_file_lines, with_record, with_records}
-use Rattle.owner_line.specs.Reads.{Changes}
-use Rattle.owner_line.specs.Steps.{◌>>=◌}
-use Rattle.owner_line.specs.declared.error.AddErr.{AddErr}
-use Rattle.owner_line.specs.declared.error.AddErr.TheVariants.{NoMemory, Refused}
+use Rattle.owner_line.specs.OwnersOf.{after_owner_line, with_file_lines, with_record, with_records}
+use Rattle.owner_line.specs.Reads.{OwnerChanges}
+use Rattle.pack_defs.specs.Steps.{◌>>=◌}
+use Rattle.owner_line.specs.declared.error.OwnerAddErr.{OwnerAddErr}
+use Rattle.owner_line.specs.declared.error.OwnerAddErr.TheVariants.{NoMemory, Refused}
 use Rattle.owner_line.specs.declared.error.OwnerErr.TheVariants.{Row}
 use Rattle.owner_line.specs.declared.error.OwnerWhy.{OwnerWhy}
 
@@ -19,8 +19,8 @@ unfolding with_records
 with-first R ids said rs i r h e = rw (drop_more rs i r h, ← e) refl
 
 -- a record that is refused refuses all from it on
-stops : (R : ℕ) (ids : List ℕ) (said new : List OwnerLine) (rs : List (List (List ℕ))) (i : ℕ) (r : List (List ℕ)) (e : AddErr) → i < length rs → r ≡ get_or rs i r
-    → Changes (with_record R ids said r) new (Err e) → Changes (with_records R ids said (drop i rs)) new (Err e)
+stops : (R : ℕ) (ids : List ℕ) (said new : List OwnerLine) (rs : List (List (List ℕ))) (i : ℕ) (r : List (List ℕ)) (e : OwnerAddErr) → i < length rs → r ≡ get_or rs i r
+    → OwnerChanges (with_record R ids said r) new (Err e) → OwnerChanges (with_records R ids said (drop i rs)) new (Err e)
 stops R ids said new rs i r (Refused why) h is refused =
     with-first R ids said rs i r h is ∙ ap (λ o. o >>= (λ next. with_records R ids next (drop (i + 1) rs))) refused
 stops R ids said new rs i r NoMemory h is refused = tt
@@ -33,9 +33,9 @@ module _ {X : Type 0} (own : X → List (List ℕ)) (R : ℕ) (ids : List ℕ) (
   at : (i : ℕ) (x : X) → x ≡ get_or xs i x → own x ≡ get_or (map own xs) i (own x)
   at i x is = ap own is ∙ sym (get_or-map own xs i x)
 
-  pub stops-own : (said new : List OwnerLine) (i : ℕ) (x : X) (r : List (List ℕ)) (e : AddErr) → i < length xs → x ≡ get_or xs i x → r ≡ own x → Changes (with_record R ids said r) new (Err e) → Changes (with_records R ids said (drop i (map own xs))) new (Err e)
+  pub stops-own : (said new : List OwnerLine) (i : ℕ) (x : X) (r : List (List ℕ)) (e : OwnerAddErr) → i < length xs → x ≡ get_or xs i x → r ≡ own x → OwnerChanges (with_record R ids said r) new (Err e) → OwnerChanges (with_records R ids said (drop i (map own xs))) new (Err e)
   stops-own said new i x r e h is same refused =
-      stops R ids said new (map own xs) i (own x) e (within i h) (at i x is) (subst (λ z. Changes (with_record R ids said z) new (Err e)) same refused)
+      stops R ids said new (map own xs) i (own x) e (within i h) (at i x is) (subst (λ z. OwnerChanges (with_record R ids said z) new (Err e)) same refused)
 
   pub next-own : (said new : List OwnerLine) (i : ℕ) (x : X) (r : List (List ℕ)) → i < length xs → x ≡ get_or xs i x → r ≡ own x → with_record R ids said r ≡ Ok new → with_records R ids said (drop i (map own xs)) ≡ with_records R ids new (drop (i + 1) (map own xs))
   next-own said new i x r h is same taken =
@@ -49,7 +49,7 @@ module _ {X : Type 0} (own : X → List (List ℕ)) (R : ℕ) (ids : List ℕ) (
 
 -- what the lines of some bytes say, by the first of them
 pub line-next : (R : ℕ) (ids : List ℕ) (said : List OwnerLine) (number : ℕ) (bytes line rest : List ℕ) → lines_of bytes ≡ line ∷ lines_of rest
-    → with_file_lines R ids said number (lines_of bytes) ≡ after_line number (with_records R ids said (line_records line)) (λ next. with_file_lines R ids next (number + 1) (lines_of rest))
+    → with_file_lines R ids said number (lines_of bytes) ≡ after_owner_line number (with_records R ids said (line_records line)) (λ next. with_file_lines R ids next (number + 1) (lines_of rest))
 unfolding with_file_lines
 line-next R ids said number bytes line rest e = rw e refl
 
@@ -57,7 +57,7 @@ line-next R ids said number bytes line rest e = rw e refl
 pub line-stops : (R : ℕ) (ids : List ℕ) (said : List OwnerLine) (number : ℕ) (bytes line rest : List ℕ) (why : OwnerWhy) → lines_of bytes ≡ line ∷ lines_of rest
     → with_records R ids said (line_records line) ≡ Err why → with_file_lines R ids said number (lines_of bytes) ≡ Err (Row number why)
 line-stops R ids said number bytes line rest why first refused =
-    line-next R ids said number bytes line rest first ∙ ap (λ o. after_line number o (λ next. with_file_lines R ids next (number + 1) (lines_of rest))) refused
+    line-next R ids said number bytes line rest first ∙ ap (λ o. after_owner_line number o (λ next. with_file_lines R ids next (number + 1) (lines_of rest))) refused
 
 -- no bytes have no lines
 pub lines-none : (R : ℕ) (ids : List ℕ) (said : List OwnerLine) (number : ℕ) → with_file_lines R ids said number (lines_of []) ≡ Ok said

@@ -1,4 +1,3 @@
-pub mod Steps
 pub mod OwnersOf
 pub mod Reads
 pub mod OwnLines

@@ -8,7 +8,7 @@ use Rattle.pack_defs.specs.Prices.{is_said}
 use Rattle.pack_defs.specs.declared.owners.OwnerLine.{OwnerLine}
 use Rattle.constraint_files.specs.Numbers.{number}
 use Rattle.constraint_files.specs.Records.{line_records, lines_of}
-use Rattle.owner_line.specs.Steps.{◌>>=◌}
+use Rattle.pack_defs.specs.Steps.{◌>>=◌}
 use Rattle.owner_line.specs.declared.error.OwnerErr.{OwnerErr}
 use Rattle.owner_line.specs.declared.error.OwnerErr.TheVariants.{Row}
 use Rattle.owner_line.specs.declared.error.OwnerWhy.{OwnerWhy}
@@ -58,16 +58,16 @@ with_records R ids said (r ∷ rs) = do
   with_records R ids next rs
 
 -- what comes after a line of the file, or the refusal of this line
-abbrev pub after_line : ℕ → Result (List OwnerLine) OwnerWhy → (List OwnerLine → Result (List OwnerLine) OwnerErr) → Result (List OwnerLine) OwnerErr
-after_line line (Ok next) rest = rest next
-after_line line (Err why) rest = Err (Row line why)
+abbrev pub after_owner_line : ℕ → Result (List OwnerLine) OwnerWhy → (List OwnerLine → Result (List OwnerLine) OwnerErr) → Result (List OwnerLine) OwnerErr
+after_owner_line line (Ok next) rest = rest next
+after_owner_line line (Err why) rest = Err (Row line why)
 
 -- What was said with the lines of the records of these lines of the file, of which the first has this number. The first
 -- record that is refused refuses all, with its line's number.
 unfoldable pub with_file_lines : ℕ → List ℕ → List OwnerLine → ℕ → List (List ℕ) → Result (List OwnerLine) OwnerErr
 with_file_lines R ids said number [] = Ok said
 with_file_lines R ids said number (line ∷ lines) =
-    after_line number (with_records R ids said (line_records line)) (λ next. with_file_lines R ids next (number + 1) lines)
+    after_owner_line number (with_records R ids said (line_records line)) (λ next. with_file_lines R ids next (number + 1) lines)
 
 -- the lines of a file, for an auction with these stations whose price falls in R rounds, or its first refusal
 unfoldable pub owners_of : List ℕ → ℕ → List ℕ → Result (List OwnerLine) OwnerErr

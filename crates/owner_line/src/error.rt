@@ -1,7 +1,7 @@
 //! Why an owners' file is refused.
 
 ghost use Rattle.std.specs.Prelude.{◌≡◌};
-ghost use Rattle.owner_line.specs.declared.error.AddErr.TheVariants.{NoMemory as NoRoom, Refused};
+ghost use Rattle.owner_line.specs.declared.error.OwnerAddErr.TheVariants.{NoMemory as NoRoom, Refused};
 ghost use Rattle.owner_line.specs.declared.error.OwnerErr.TheVariants.{NoMemory};
 
 use std::alloc::{AllocError, AllocFailed};
@@ -49,33 +49,33 @@ impl From<AllocError> for OwnerErr {
 
 /// Why a record was not taken.
 #[derive(Clone, Copy, Debug, PartialEq, Eq)]
-pub(crate) enum AddErr {
+pub(crate) enum OwnerAddErr {
     /// It is refused.
     Refused(OwnerWhy),
     /// Memory ran out.
     NoMemory,
 }
 
-impl From<OwnerWhy> for AddErr {
+impl From<OwnerWhy> for OwnerAddErr {
     ghost from_gives = { λ why e. e ≡ Refused why };
 
-    fn from(why: OwnerWhy) -> AddErr {
-        AddErr::Refused(why)
+    fn from(why: OwnerWhy) -> OwnerAddErr {
+        OwnerAddErr::Refused(why)
     }
 }
 
-impl From<AllocError> for AddErr {
+impl From<AllocError> for OwnerAddErr {
     ghost from_gives = { λ _ e. e ≡ NoRoom };
 
-    fn from(_e: AllocError) -> AddErr {
-        AddErr::NoMemory
+    fn from(_e: AllocError) -> OwnerAddErr {
+        OwnerAddErr::NoMemory
     }
 }
 
-impl<T: Drop> From<AllocFailed<T>> for AddErr {
+impl<T: Drop> From<AllocFailed<T>> for OwnerAddErr {
     ghost from_gives = { λ _ e. e ≡ NoRoom };
 
-    fn from(_e: AllocFailed<T>) -> AddErr {
-        AddErr::NoMemory
+    fn from(_e: AllocFailed<T>) -> OwnerAddErr {
+        OwnerAddErr::NoMemory
     }
 }

@@ -5,22 +5,27 @@ ghost use Rattle.std.specs.Prelude.{◌≡◌, map, true};
 ghost use Rattle.constraint_files.specs.Records.{line_records};
 ghost use Rattle.pack_defs.specs.Lists.{is_ascending};
 ghost use Rattle.owner_line.specs.OwnersOf.{owners_of, with_record, with_records};
-ghost use Rattle.owner_line.specs.Reads.{Changes, Reads};
+ghost use Rattle.owner_line.specs.Reads.{OwnerChanges, OwnerReads};
 
-use crate::error::{AddErr, OwnerErr, OwnerWhy};
+use crate::error::{OwnerAddErr, OwnerErr, OwnerWhy};
 use crate::line::owner_line;
 use constraint_files::records::{fields, split_line};
 use pack_defs::owners::Owners;
 use std::alloc::Global;
 
 /// Adds what a record says. After an error the owners are lost.
-fn add_record(owners: &mut Owners, rounds: u32, ids: &[u32], row: &[Vec<u8>]) -> Result<(), AddErr>
+fn add_record(
+    owners: &mut Owners,
+    rounds: u32,
+    ids: &[u32],
+    row: &[Vec<u8>],
+) -> Result<(), OwnerAddErr>
     requires { is_ascending ids.now ≡ true }
-    ensures { Changes (with_record rounds ids.now owners.old (map (λ f. f.items) row.now)) owners.new result }
+    ensures { OwnerChanges (with_record rounds ids.now owners.old (map (λ f. f.items) row.now)) owners.new result }
 {
     let line = owner_line(rounds, ids, row)?;
     if !owners.add(line)? {
-        return Err(AddErr::Refused(OwnerWhy::Repeated));
+        return Err(OwnerAddErr::Refused(OwnerWhy::Repeated));
     }
     Ok(())
 }
@@ -32,9 +37,9 @@ fn add_line(
     rounds: u32,
     ids: &[u32],
     line: &[u8],
-) -> Result<(), AddErr>
+) -> Result<(), OwnerAddErr>
     requires { is_ascending ids.now ≡ true }
-    ensures { Changes (with_records rounds ids.now owners.old (line_records line.now)) owners.new result }
+    ensures { OwnerChanges (with_records rounds ids.now owners.old (line_records line.now)) owners.new result }
 {
     let records = fields(alloc, line)?;
     for record in &records {
@@ -62,7 +67,7 @@ pub fn read_owners(
     ids: &[u32],
 ) -> Result<Owners, OwnerErr>
     requires { is_ascending ids.now ≡ true }
-    ensures { Reads (owners_of bytes.now rounds ids.now) result }
+    ensures { OwnerReads (owners_of bytes.now rounds ids.now) result }
 {
     let mut owners = Owners::new(alloc);
     let mut rest = bytes;
@@ -71,8 +76,8 @@ pub fn read_owners(
         let (line, after) = split_line(rest);
         match add_line(alloc, &mut owners, rounds, ids, line) {
             Ok(()) => {}
-            Err(AddErr::Refused(why)) => return Err(OwnerErr::Row { line: number, why }),
-            Err(AddErr::NoMemory) => return Err(OwnerErr::NoMemory),
+            Err(OwnerAddErr::Refused(why)) => return Err(OwnerErr::Row { line: number, why }),
+            Err(OwnerAddErr::NoMemory) => return Err(OwnerErr::NoMemory),
         }
         rest = after;
         number += 1;

@@ -18,7 +18,7 @@ use Rattle.auction_core.specs.Postings.{GoesOn}
 use Rattle.auction_core.proofs.GoesOn.{replay-goes as state-goes}
 use Rattle.turn_lock.specs.Turns.{StartsWith}
 use Rattle.answer_board.specs.Boards.{beginning_of}
-use Rattle.answer_board.specs.Entries.{entries_of, numbered}
+use Rattle.answer_board.specs.Entries.{plain_entries, numbered}
 use Rattle.answer_board.proofs.PostLemmas.{entries-numbered, Replays}
 use Rattle.answer_board.proofs.StandLemmas.{entries-more, replay-rest}
 use Rattle.auction_core.proofs.Replays.{if-some}
@@ -85,9 +85,9 @@ later-nears old new begins starts h k = replay-goes old.scenario old.book starts
 -- the history of an auction that closes with the one that it was raised with and a tail
 pub board-starts : (made old new : AuctionView) (tail : List (ℕ × EntryView)) → made ≡ old → numbered new.history ≡ numbered made.history ++ tail → StartsWith new.history old.history
 board-starts made old new tail over more = (
-  entries_of tail,
-  sym (entries-numbered new.history) ∙ (ap entries_of more ∙ (entries-more (numbered made.history) tail
-      ∙ ap (λ l. l ++ entries_of tail) (entries-numbered made.history ∙ ap (λ (a : AuctionView). a.history) over))),
+  plain_entries tail,
+  sym (entries-numbered new.history) ∙ (ap plain_entries more ∙ (entries-more (numbered made.history) tail
+      ∙ ap (λ l. l ++ plain_entries tail) (entries-numbered made.history ∙ ap (λ (a : AuctionView). a.history) over))),
 )
 
 -- a wave and a serial turn leave fewer queries

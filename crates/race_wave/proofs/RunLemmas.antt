@@ -8,7 +8,7 @@ use native.Mathlib.Decide.{ℕ_discrete}
 use Rattle.pack_defs.specs.declared.worker.Worker.{Worker}
 use Rattle.auction_core.specs.Clockwork.{ClockworkView}
 use Rattle.auction_core.specs.Replay.{EntryView}
-use Rattle.turn_lock.specs.declared.chronicle.Known.{Known}
+use Rattle.turn_lock.specs.declared.chronicle.PassKnowledge.{PassKnowledge}
 use Rattle.turn_lock.specs.Passes.{IsIdle, StandsAt, known_of, number_of, standing}
 use Rattle.turn_lock.specs.Turns.{AllOf, each_new, known}
 use Rattle.answer_board.specs.contracts.kept.KeptChronicle.TheImpl.{ghosts}
@@ -53,17 +53,17 @@ long-new start (suc n) = long-more (each_new start n) (known n start []) ∙ ap 
     long-more [] x = refl
     long-more (y ∷ ys) x = ap suc (long-more ys x)
 
-pub new-many : {X : Type 0} (f : X → Known EntryView) (xs : List X) (start : List (ℕ × EntryView)) (n : ℕ) → map f xs ≡ each_new start n → length xs ≡ n
+pub new-many : {X : Type 0} (f : X → PassKnowledge EntryView) (xs : List X) (start : List (ℕ × EntryView)) (n : ℕ) → map f xs ≡ each_new start n → length xs ≡ n
 new-many f xs start n e = sym (length_map f xs) ∙ (ap length e ∙ long-new start n)
 
 -- the new pass at a place has that number
-new-at : (start : List (ℕ × EntryView)) (n i : ℕ) (d : Known EntryView) → i < n → (get_or (each_new start n) i d).number ≡ i
+new-at : (start : List (ℕ × EntryView)) (n i : ℕ) (d : PassKnowledge EntryView) → i < n → (get_or (each_new start n) i d).number ≡ i
 new-at start zero i d lt = absurd (omega arith)
 new-at start (suc n) i d lt = dite (ℕ_discrete i n)
-    (λ e. ap (λ (k : ℕ). (get_or (each_new start n ++ known n start [] ∷ []) k d).number) (e ∙ sym (long-new start n)) ∙ (ap (λ (k : Known EntryView). k.number) (get-last (each_new start n) (known n start []) d) ∙ sym e))
+    (λ e. ap (λ (k : ℕ). (get_or (each_new start n ++ known n start [] ∷ []) k d).number) (e ∙ sym (long-new start n)) ∙ (ap (λ (k : PassKnowledge EntryView). k.number) (get-last (each_new start n) (known n start []) d) ∙ sym e))
     (λ ne. let below : i < n = omega arith in
     let long = long-new start n in
-    ap (λ (k : Known EntryView). k.number) (get-left (each_new start n) (known n start [] ∷ []) i d (omega arith)) ∙ new-at start n i d below)
+    ap (λ (k : PassKnowledge EntryView). k.number) (get-left (each_new start n) (known n start [] ∷ []) i d (omega arith)) ∙ new-at start n i d below)
 
 take-left : {X : Type 0} (xs ys : List X) → take (length xs) (xs ++ ys) ≡ xs
 take-left [] ys = refl
@@ -88,7 +88,7 @@ module _ {R : Type 0} (w : R → Worker) (board : Board) where
       let rest : AllOf (λ (x : Runner R). IsIdle x.pass) xs = idle-from xs idle in
       let knowns : map (λ (x : Runner R). known_of x.pass) xs ≡ each_new start n = sym (map_again (λ (x : Runner R). x.pass) known_of xs) ∙ new in
       let many : length xs ≡ n = sym (length_map (λ (x : Runner R). known_of x.pass) xs) ∙ (ap length knowns ∙ long-new start n) in
-      let number : number_of r.pass ≡ k = ap (λ (x : Known EntryView). x.number) (sym (get-map (λ (x : Runner R). known_of x.pass) xs k d)) ∙ (ap (λ l. (get_or l k (known_of d.pass)).number) knowns ∙ new-at start n k (known_of d.pass) (omega arith)) in
+      let number : number_of r.pass ≡ k = ap (λ (x : PassKnowledge EntryView). x.number) (sym (get-map (λ (x : Runner R). known_of x.pass) xs k d)) ∙ (ap (λ l. (get_or l k (known_of d.pass)).number) knowns ∙ new-at start n k (known_of d.pass) (omega arith)) in
       let mine : map (λ (x : Runner R). w x.racer) xs ≡ (raised board).scenario.workers = sym (map_again (λ (x : Runner R). x.racer) w xs) ∙ (racers ∙ sym of) in
       let at : slice_get (map (λ (x : Runner R). w x.racer) xs) k ≡ Some (w r.racer) = slice_get-get_or (map (λ (x : Runner R). w x.racer) xs) k (w d.racer) (let long = length_map (λ (x : Runner R). w x.racer) xs in omega arith) ∙ ap (λ x. Some x) (get-map (λ (x : Runner R). w x.racer) xs k d) in
       record {
@@ -203,7 +203,7 @@ module _ {R : Type 0} (w : R → Worker) (board : Board) where
       ap (map w) left ∙ (raced-workers w board xs ys raced ∙ ap (map w) solvers)
 
 -- the passes of a board that was just raised
-pub new-passes : (made auction : AuctionView) (ks : List (Known EntryView)) (n m : ℕ) → ks ≡ each_new (numbered auction.history) n → n ≡ m → made ≡ auction → ks ≡ each_new (numbered made.history) m
+pub new-passes : (made auction : AuctionView) (ks : List (PassKnowledge EntryView)) (n m : ℕ) → ks ≡ each_new (numbered auction.history) n → n ≡ m → made ≡ auction → ks ≡ each_new (numbered made.history) m
 new-passes made auction ks n m e same over = e ∙ (ap (λ k. each_new (numbered auction.history) k) same ∙ ap (λ (a : AuctionView). each_new (numbered a.history) m) (sym over))
 
 -- there are as many workers as racers

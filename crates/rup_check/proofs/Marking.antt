@@ -5,10 +5,10 @@ use Rattle.std.specs.Prelude.{slice_set}
 use Rattle.std.proofs.lemmas.Bool.{and_parts, and_from, or_left, false_from_ne_true, false≢true, leb-true, le-leb}
 use Rattle.std.proofs.lemmas.List.{get_or-set_same, get_or-set_other}
 use Rattle.clause_db.specs.declared.lit.Lit.{Lit}
-use Rattle.clause_db.specs.Clause.{same_lit, has_lit}
+use Rattle.clause_db.specs.Clause.{same_lit, has_lit, code_of}
 use Rattle.clause_db.specs.Clauses.{LitWithin}
 use Rattle.clause_db.proofs.Literals.{lit-parts, lit_cases, same_lit-apart, has-push_new, has-push_other}
-use Rattle.rup_check.specs.Known.{code_of, is_within, Marks}
+use Rattle.rup_check.specs.Known.{is_lit_within, Marks}
 use Rattle.rup_check.proofs.Denying.{turned}
 
 -- each marked literal is in the list
@@ -31,10 +31,10 @@ code_below v vars false p q = omega arith
 pub code-below : (vars : ℕ) (l : Lit) → LitWithin vars l → code_of l < 2 * vars
 code-below vars l p = code_below l.var vars l.positive p.0 p.1
 
-pub within-from : (vars : ℕ) (l : Lit) → is_within vars l ≡ true → LitWithin vars l
+pub within-from : (vars : ℕ) (l : Lit) → is_lit_within vars l ≡ true → LitWithin vars l
 within-from vars l e = let parts = and_parts (nat_le 1 l.var) (nat_le l.var vars) e in (leb-true 1 l.var parts.0, leb-true l.var vars parts.1)
 
-pub within-to : (vars : ℕ) (l : Lit) → LitWithin vars l → is_within vars l ≡ true
+pub within-to : (vars : ℕ) (l : Lit) → LitWithin vars l → is_lit_within vars l ≡ true
 within-to vars l w = and_from (nat_le 1 l.var) (nat_le l.var vars) (le-leb 1 l.var w.0) (le-leb l.var vars w.1)
 
 pub marks-push : (vars : ℕ) (marks : List Bool) (known : List Lit) (x : Lit) → Marks vars marks known → length marks ≡ 2 * vars → LitWithin vars x → Marks vars (slice_set marks (code_of x) true) (known ++ x ∷ [])
@@ -45,7 +45,7 @@ marks-push vars marks known x m size p = λ l q.
     (λ e. subst (λ (z : Lit). get_or (slice_set marks (code_of x) true) (code_of z) false ≡ has_lit (known ++ x ∷ []) z) (sym e) (get_or-set_same marks (code_of x) true false within ∙ sym (has-push_new known x)))
     (λ n. get_or-set_other marks (code_of x) (code_of l) true false (λ e. n (code-is vars l x q p e)) ∙ (m l q ∙ sym (has-push_other known x l n)))
 
-pub marks-stray : (vars : ℕ) (marks : List Bool) (known : List Lit) (x : Lit) → Marks vars marks known → is_within vars x ≡ false → Marks vars marks (known ++ x ∷ [])
+pub marks-stray : (vars : ℕ) (marks : List Bool) (known : List Lit) (x : Lit) → Marks vars marks known → is_lit_within vars x ≡ false → Marks vars marks (known ++ x ∷ [])
 marks-stray vars marks known x m out = λ l q.
     m l q ∙ sym (has-push_other known x l (λ e. false≢true (sym out ∙ within-to vars x (subst (λ (z : Lit). LitWithin vars z) e q))))
 
@@ -64,7 +64,7 @@ marked-cleared vars marks x rest size p m = λ k w e.
     (λ same. absurd (false≢true (sym (get_or-set_same marks (code_of x) false false within) ∙ subst (λ (z : Lit). get_or (slice_set marks (code_of x) false) (code_of z) false ≡ true) same e)))
     (λ n. rest-of (same_lit k x) (has_lit rest k) (same_lit-apart k x n) (m k w (sym (get_or-set_other marks (code_of x) (code_of k) false false (λ i. n (code-is vars k x w p i))) ∙ e)))
 
-pub marked-skipped : (vars : ℕ) (marks : List Bool) (x : Lit) (rest : List Lit) → is_within vars x ≡ false → MarkedIn vars marks (x ∷ rest) → MarkedIn vars marks rest
+pub marked-skipped : (vars : ℕ) (marks : List Bool) (x : Lit) (rest : List Lit) → is_lit_within vars x ≡ false → MarkedIn vars marks (x ∷ rest) → MarkedIn vars marks rest
 marked-skipped vars marks x rest out m = λ k w e.
     rest-of (same_lit k x) (has_lit rest k) (same_lit-apart k x (λ same. false≢true (sym out ∙ within-to vars x (subst (λ (z : Lit). LitWithin vars z) same w)))) (m k w e)
 

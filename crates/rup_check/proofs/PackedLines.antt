@@ -6,7 +6,7 @@ use Rattle.std.proofs.lemmas.List.Elements.{All-head, All-push, All-tail}
 use Rattle.std.proofs.Math.Seq.{take-append_seam, drop-append_seam}
 use Rattle.clause_db.specs.declared.lit.Lit.{Lit}
 use Rattle.rup_check.specs.declared.lines.Span.{Span}
-use Rattle.rup_check.specs.Packed.{IsWithin, Spells, line_at, line_in, no_line, lit_of_number, lits_of, number_of_lit, numbers_of}
+use Rattle.rup_check.specs.Packed.{IsWithin, Spells, line_at, line_in, no_line, lit_of_number, lits_spelled, number_of_lit, numbers_of}
 use Rattle.rup_check.proofs.Packing.{spells-alone}
 
 -- what stands within the bytes stays where more is put behind them
@@ -19,7 +19,7 @@ line-kept : (bytes more : List ℕ) (s : Span) → IsWithin (length bytes) s →
 line-kept bytes more s w =
     let lits = range-kept bytes more s.lits s.hints w.0 (omega (arith, w.1, w.2)) in
     let hints = range-kept bytes more s.hints s.end w.1 w.2 in
-    λ i. record { lits = lits_of (lits i); hints = numbers_of (hints i) }
+    λ i. record { lits = lits_spelled (lits i); hints = numbers_of (hints i) }
 
 pub lines-kept : (bytes more : List ℕ) (spans : List Span) → All (IsWithin (length bytes)) spans → map (line_in (bytes ++ more)) spans ≡ map (line_in bytes) spans
 lines-kept bytes more [] w = refl
@@ -93,7 +93,7 @@ lines-pushed old middle new a b spans s lits hints w m n f g l h e =
     (λ i. slice_range (n i) (h i) ((e ∙ ap length n) i)) ∙ range-last middle b in
     let line : line_in new s ≡ record { lits = lits; hints = hints } =
     λ i. record {
-      lits = (ap lits_of first ∙ ap (map lit_of_number) (spells-alone a (map number_of_lit lits) f) ∙ lits-back lits) i;
+      lits = (ap lits_spelled first ∙ ap (map lit_of_number) (spells-alone a (map number_of_lit lits) f) ∙ lits-back lits) i;
       hints = (ap numbers_of last ∙ spells-alone b hints g) i;
     } in
     map_push (line_in new) spans s

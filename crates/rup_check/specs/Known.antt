@@ -1,7 +1,7 @@
 -- The marks by which the checker keeps what is known.
 use Rattle.std.specs.Prelude.{ℕ, ◌≡◌, ◌+◌, ◌*◌, ◌-◌, ◌&&◌, nat_le, Bool, false, if◌then◌else◌, List, slice_index_or}
 use Rattle.clause_db.specs.declared.lit.Lit.{Lit}
-use Rattle.clause_db.specs.Clause.{has_lit}
+use Rattle.clause_db.specs.Clause.{code_of, has_lit}
 use Rattle.clause_db.specs.Clauses.{LitWithin}
 
 -- the number of variables, and the literals that are known to be true
@@ -10,12 +10,8 @@ pub record Knowledge : Type 0 where
   pub lits : List Lit
 
 -- the literal's variable is one of 1 to vars
-abbrev pub is_within : ℕ → Lit → Bool
-is_within vars l = nat_le 1 l.var && nat_le l.var vars
-
--- the place of a literal's mark
-abbrev pub code_of : Lit → ℕ
-code_of l = if l.positive then 2 * (l.var - 1) else 2 * (l.var - 1) + 1
+abbrev pub is_lit_within : ℕ → Lit → Bool
+is_lit_within vars l = nat_le 1 l.var && nat_le l.var vars
 
 -- each literal of the variables has a mark, which says whether it is known
 abbrev pub Marks : ℕ → List Bool → List Lit → Type 0

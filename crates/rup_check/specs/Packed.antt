@@ -41,12 +41,12 @@ abbrev pub lit_of_number : ℕ → Lit
 lit_of_number n = record { var = n / 2; positive = n % 2 == 1 }
 
 -- the literals that the bytes spell
-abbrev pub lits_of : List ℕ → List Lit
-lits_of bytes = map lit_of_number (numbers_of bytes)
+abbrev pub lits_spelled : List ℕ → List Lit
+lits_spelled bytes = map lit_of_number (numbers_of bytes)
 
 -- the line whose literals and hints stand there
 abbrev pub line_in : List ℕ → Span → Line
-line_in bytes s = record { lits = lits_of (slice_range bytes s.lits s.hints); hints = numbers_of (slice_range bytes s.hints s.end) }
+line_in bytes s = record { lits = lits_spelled (slice_range bytes s.lits s.hints); hints = numbers_of (slice_range bytes s.hints s.end) }
 
 -- the places are in order, and none is past the bytes
 abbrev pub IsWithin : ℕ → Span → Type 0

@@ -46,11 +46,11 @@ pub struct Literals<'a> {
 impl<'a> Model for Literals<'a> {
     ghost use Rattle.std.specs.Prelude.{List, ◌++◌};
     ghost use Rattle.clause_db.specs.declared.lit.Lit.{Lit};
-    ghost use Rattle.rup_check.specs.Packed.{lits_of};
+    ghost use Rattle.rup_check.specs.Packed.{lits_spelled};
 
     ghost Value = { List Lit };
 
-    ghost view = { λ l. l.plain.now ++ lits_of l.packed.now };
+    ghost view = { λ l. l.plain.now ++ lits_spelled l.packed.now };
 }
 
 impl<'a> Literals<'a> {

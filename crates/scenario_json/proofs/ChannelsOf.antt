@@ -15,7 +15,7 @@ use Rattle.pack_defs.specs.declared.scenario.Scenario.{Scenario}
 use Rattle.constraint_files.specs.Domains.{add_domain_row, channels_of, channels_to_keep, domain_naming, domain_row, domains_of, kept_channels, put_domain, with_domain}
 use Rattle.constraint_files.specs.Numbers.{is_channel, number, numbers}
 use Rattle.constraint_files.specs.Records.{lines_of}
-use Rattle.constraint_files.specs.Steps.{◌>>=◌}
+use Rattle.pack_defs.specs.Steps.{◌>>=◌}
 use Rattle.constraint_files.specs.declared.error.RowWhy.{RowWhy}
 use Rattle.constraint_files.specs.declared.error.RowWhy.TheVariants.{BadKey, BadNumber, ChannelRange, SecondDomain, TooMany}
 use Rattle.constraint_files.proofs.OrderLemmas.{lines-keep}

@@ -12,11 +12,11 @@ use Rattle.serde_json.specs.declared.value.Value.{Value}
 use Rattle.scenario_json.specs.declared.error.ScenarioErr.{ScenarioErr}
 use Rattle.scenario_json.specs.declared.error.ScenarioErr.TheVariants.{Syntax}
 use Rattle.scenario_json.specs.declared.name.Name.{Name}
-use Rattle.scenario_json.specs.Members.{array_in, listed}
+use Rattle.scenario_json.specs.Members.{array_in, array_items}
 use Rattle.scenario_json.specs.ScenarioOf.{json_in}
-use Rattle.scenario_json.specs.Steps.{◌>>=◌}
+use Rattle.pack_defs.specs.Steps.{◌>>=◌}
 
-listed-view : (vs : List Value) → listed (items_view vs) ≡ map view vs
+listed-view : (vs : List Value) → array_items (items_view vs) ≡ map view vs
 listed-view [] = refl
 listed-view (v ∷ vs) = ap (λ ds. view v ∷ ds) (listed-view vs)
 

@@ -27,9 +27,10 @@ use Rattle.scenario_json.specs.declared.error.ScenarioErr.{ScenarioErr}
 use Rattle.scenario_json.specs.declared.name.Name.{Name}
 use Rattle.scenario_json.specs.declared.name.Name.TheVariants as names
 use Rattle.scenario_json.specs.Name.{name_text}
-use Rattle.scenario_json.specs.Members.{list, listed, number, object_in, within}
-use Rattle.scenario_json.specs.Steps.{◌>>=◌, each_from}
-use Rattle.scenario_json.specs.ScenarioOf.{decrement_in, decrements_in, fall_in, has_id, json_in, kind_in, listed_in, new_id, placed, rated_in, scenario_in, scenario_of, seed_in, station_in, stations_from, stations_in, value_from, value_in, with_prover, worker_in, workers_in}
+use Rattle.scenario_json.specs.Members.{list, array_items, member_number, object_in, within_limits}
+use Rattle.pack_defs.specs.Steps.{◌>>=◌}
+use Rattle.scenario_json.specs.Steps.{each_from}
+use Rattle.scenario_json.specs.ScenarioOf.{decrement_in, decrements_in, fall_in, has_id, json_in, kind_in, listed_in, new_id, placed, rated_in, scenario_in, scenario_of, seed_in, station_in, stations_from, stations_in, value_from, member_value, with_prover, worker_in, workers_in}
 use Rattle.scenario_json.specs.Written.{IsFileNumber, data_for, kind_text, last_members, list_for, members_for, station_for, value_for, whole_for, worker_for}
 use Rattle.scenario_json.proofs.Limits.{IsDecrement}
 use Rattle.scenario_json.proofs.StationsAscend.{ids}
@@ -126,13 +127,13 @@ data-shallow sc = members-shallow sc.fall sc
 then-reads : {A B : Type 0} (r : Result A ScenarioErr) (x : A) (f : A → Result B ScenarioErr) (answer : Result B ScenarioErr) → r ≡ Ok x → f x ≡ answer → (r >>= f) ≡ answer
 then-reads r x f answer is next = ap (λ q. q >>= f) is ∙ next
 
-within-passes : (name : Name) (at least most n : ℕ) → least ≤ n → n ≤ most → within name at least most n ≡ Ok n
+within-passes : (name : Name) (at least most n : ℕ) → least ≤ n → n ≤ most → within_limits name at least most n ≡ Ok n
 within-passes name at least most n low high = rw (le-ltb n least low, le-ltb most n high) refl
 
-number-reads : (name : Name) (at least most : ℕ) (d : Data) (n : ℕ) → get (name_text name) d ≡ Some (whole_for n) → least ≤ n → n ≤ most → number name at least most d ≡ Ok n
+number-reads : (name : Name) (at least most : ℕ) (d : Data) (n : ℕ) → get (name_text name) d ≡ Some (whole_for n) → least ≤ n → n ≤ most → member_number name at least most d ≡ Ok n
 number-reads name at least most d n found low high = rw found (within-passes name at least most n low high)
 
-listed-items : (ds : List Data) → listed (items_of ds) ≡ ds
+listed-items : (ds : List Data) → array_items (items_of ds) ≡ ds
 listed-items [] = refl
 listed-items (d ∷ ds) = ap (λ es. d ∷ es) (listed-items ds)
 
@@ -140,7 +141,7 @@ list-reads : {A : Type 0} (write : A → Data) (name : Name) (least most : ℕ) 
 list-reads write name least most d xs found low high =
     let many : length (map write xs) ≡ length xs = length-map xs write in
     rw (found, listed-items (map write xs))
-    (then-reads (within name 0 least most (length (map write xs))) (length (map write xs)) _ _
+    (then-reads (within_limits name 0 least most (length (map write xs))) (length (map write xs)) _ _
     (within-passes name 0 least most (length (map write xs)) (omega (arith, many, low)) (omega (arith, many, high))) refl)
 
 each-reads : {A B : Type 0} (P : B → Type 0) (read : ℕ → A → Result B ScenarioErr) (write : B → A) → ((at : ℕ) (x : B) → P x → read at (write x) ≡ Ok x) → (at : ℕ) (xs : List B) → All P xs → each_from read at (map write xs) ≡ Ok xs
@@ -165,8 +166,8 @@ listed-reads opening d ds found limits =
 rated-reads : (d : Data) (rate floor : ℕ) → get (name_text names.Rate) d ≡ Some (whole_for rate) → get (name_text names.Floor) d ≡ Some (whole_for floor) → IsRateWithinLimits rate floor → rated_in d ≡ Ok (Rated rate floor)
 unfolding rated_in
 rated-reads d rate floor first second limits =
-    then-reads (number names.Rate 0 1 1000 d) rate _ _ (number-reads names.Rate 0 1 1000 d rate first limits.some_rate limits.rate_most)
-    (then-reads (number names.Floor 0 0 1000 d) floor _ _ (number-reads names.Floor 0 0 1000 d floor second (omega arith) limits.floor_most)
+    then-reads (member_number names.Rate 0 1 1000 d) rate _ _ (number-reads names.Rate 0 1 1000 d rate first limits.some_rate limits.rate_most)
+    (then-reads (member_number names.Floor 0 0 1000 d) floor _ _ (number-reads names.Floor 0 0 1000 d floor second (omega arith) limits.floor_most)
     refl)
 
 -- ---- stations
@@ -174,7 +175,7 @@ rated-reads d rate floor first second limits =
 value-reads : (at : ℕ) (v : Option ℕ) → MatchOption v ⊤ (λ n. n ≤ 1000000000000000) → value_from at (Some (value_for v)) ≡ Ok v
 value-reads at None small = refl
 value-reads at (Some n) small =
-    then-reads (within names.Value at 0 1000000000000000 n) n _ _ (within-passes names.Value at 0 1000000000000000 n (omega arith) small) refl
+    then-reads (within_limits names.Value at 0 1000000000000000 n) n _ _ (within-passes names.Value at 0 1000000000000000 n (omega arith) small) refl
 
 id-reads : (x : Station) → get (name_text names.Id) (station_for x) ≡ Some (whole_for x.id)
 unfolding name_text station_for
@@ -202,10 +203,10 @@ station-reads : (before : List Station) (at : ℕ) (x : Station) → has_id befo
 unfolding station_in
 station-reads before at x new small limits =
     then-reads (object_in names.Stations at (station_for x)) (station_for x) _ _ (object-reads names.Stations at (station_for x) (station-object x))
-    (then-reads (number names.Id at 0 4294967295 (station_for x)) x.id _ _ (number-reads names.Id at 0 4294967295 (station_for x) x.id (id-reads x) (omega arith) small)
+    (then-reads (member_number names.Id at 0 4294967295 (station_for x)) x.id _ _ (number-reads names.Id at 0 4294967295 (station_for x) x.id (id-reads x) (omega arith) small)
     (then-reads (new_id before x.id) x.id _ _ (new-reads before x.id new)
-    (then-reads (number names.Volume at 1 1000000 (station_for x)) x.volume _ _ (number-reads names.Volume at 1 1000000 (station_for x) x.volume (volume-reads x) limits.some_volume limits.volume)
-    (then-reads (value_in at (station_for x)) x.value _ _ (ap (value_from at) (value-stands x) ∙ value-reads at x.value limits.value)
+    (then-reads (member_number names.Volume at 1 1000000 (station_for x)) x.volume _ _ (number-reads names.Volume at 1 1000000 (station_for x) x.volume (volume-reads x) limits.some_volume limits.volume)
+    (then-reads (member_value at (station_for x)) x.value _ _ (ap (value_from at) (value-stands x) ∙ value-reads at x.value limits.value)
     refl))))
 
 has-own : (ys : List Station) (x : Station) (rest : List Station) → is_in (ids (ys ++ x ∷ rest)) x.id ≡ true
@@ -266,7 +267,7 @@ unfolding worker_in
 worker-reads at w limits =
     then-reads (object_in names.Workers at (worker_for w)) (worker_for w) _ _ (object-reads names.Workers at (worker_for w) (worker-object w))
     (then-reads (kind_in at (worker_for w)) w.kind _ _ (kind-reads at (worker_for w) w.kind (kind-stands w))
-    (then-reads (number names.Budget at 1 (most_budget w.kind) (worker_for w)) w.budget _ _ (number-reads names.Budget at 1 (most_budget w.kind) (worker_for w) w.budget (budget-reads w) limits.some_budget limits.budget)
+    (then-reads (member_number names.Budget at 1 (most_budget w.kind) (worker_for w)) w.budget _ _ (number-reads names.Budget at 1 (most_budget w.kind) (worker_for w) w.budget (budget-reads w) limits.some_budget limits.budget)
     (then-reads (seed_in at (worker_for w)) w.seed _ _ (seed-reads at w)
     refl)))
 
@@ -321,16 +322,16 @@ made sc owners is = rw (← is) refl
 
 -- a scenario is read where its members are
 members-read : (d : Data) (version top opening : ℕ) (fall : Fall) (stations : List Station) (workers : List Worker) (sc : Scenario)
-    → object_in names.Scenario 0 d ≡ Ok d → number names.Version 0 1 2 d ≡ Ok version → number names.Top 0 14 51 d ≡ Ok top → number names.Opening 0 1 1000000 d ≡ Ok opening
+    → object_in names.Scenario 0 d ≡ Ok d → member_number names.Version 0 1 2 d ≡ Ok version → member_number names.Top 0 14 51 d ≡ Ok top → member_number names.Opening 0 1 1000000 d ≡ Ok opening
     → fall_in version opening d ≡ Ok fall → stations_in d ≡ Ok stations → workers_in d ≡ Ok workers
     → record { version = version; top = top; opening = opening; fall = fall; stations = stations; workers = workers; owners = None } ≡ sc
     → scenario_in d ≡ Ok sc
 unfolding scenario_in
 members-read d version top opening fall stations workers sc whole e f g h k l is =
     then-reads (object_in names.Scenario 0 d) d _ _ whole
-    (then-reads (number names.Version 0 1 2 d) version _ _ e
-    (then-reads (number names.Top 0 14 51 d) top _ _ f
-    (then-reads (number names.Opening 0 1 1000000 d) opening _ _ g
+    (then-reads (member_number names.Version 0 1 2 d) version _ _ e
+    (then-reads (member_number names.Top 0 14 51 d) top _ _ f
+    (then-reads (member_number names.Opening 0 1 1000000 d) opening _ _ g
     (then-reads (fall_in version opening d) fall _ _ h
     (then-reads (stations_in d) stations _ _ k
     (then-reads (workers_in d) workers _ _ l

@@ -8,7 +8,7 @@ use Rattle.scenario_json.specs.declared.error.ScenarioErr.{ScenarioErr}
 use Rattle.scenario_json.specs.declared.error.ScenarioErr.TheVariants.{MissingField, OutOfLimit, WrongKind}
 use Rattle.scenario_json.specs.declared.name.Name.{Name}
 use Rattle.scenario_json.specs.Name.{name_text}
-use Rattle.scenario_json.specs.Steps.{◌>>=◌}
+use Rattle.pack_defs.specs.Steps.{◌>>=◌}
 
 -- the value, which has to be an object
 abbrev pub object_in : Name → ℕ → Data → Result Data ScenarioErr
@@ -23,29 +23,29 @@ abbrev pub whole : Name → ℕ → Data → Result ℕ ScenarioErr
 whole name at d = ok_or (option_and_then as_u64 (as_number d)) (WrongKind name at)
 
 -- the number, which has to be from least to most
-abbrev pub within : Name → ℕ → ℕ → ℕ → ℕ → Result ℕ ScenarioErr
-within name at least most n = if nat_lt n least || nat_lt most n then Err (OutOfLimit name at) else Ok n
+abbrev pub within_limits : Name → ℕ → ℕ → ℕ → ℕ → Result ℕ ScenarioErr
+within_limits name at least most n = if nat_lt n least || nat_lt most n then Err (OutOfLimit name at) else Ok n
 
 -- the object's member of that name, a whole number from least to most
-abbrev pub number : Name → ℕ → ℕ → ℕ → Data → Result ℕ ScenarioErr
-number name at least most d = do
+abbrev pub member_number : Name → ℕ → ℕ → ℕ → Data → Result ℕ ScenarioErr
+member_number name at least most d = do
   found ← member name at d
   n ← whole name at found
-  within name at least most n
+  within_limits name at least most n
 
 -- the items of an array as a list
-abbrev pub listed : Items → List Data
-listed no_items = []
-listed (item d ds) = d ∷ listed ds
+abbrev pub array_items : Items → List Data
+array_items no_items = []
+array_items (item d ds) = d ∷ array_items ds
 
 -- the value, which has to be an array
 abbrev pub array_in : Name → Data → Result (List Data) ScenarioErr
-array_in name d = ok_or (option_map listed (as_array d)) (WrongKind name 0)
+array_in name d = ok_or (option_map array_items (as_array d)) (WrongKind name 0)
 
 -- the object's member of that name, a list of least to most items
 abbrev pub list : Name → ℕ → ℕ → Data → Result (List Data) ScenarioErr
 list name least most d = do
   found ← member name 0 d
   items ← array_in name found
-  many ← within name 0 least most (length items)
+  many ← within_limits name 0 least most (length items)
   Ok items

@@ -3,12 +3,6 @@ use Rattle.std.specs.Prelude.{◌≡◌, ◌⊎◌, ℕ, ◌+◌, List, [], ◌�
 use Rattle.scenario_json.specs.declared.error.ScenarioErr.{ScenarioErr}
 use Rattle.scenario_json.specs.declared.error.ScenarioErr.TheVariants.{NoMemory}
 
-infixl 10 ◌>>=◌
--- what the next step makes of the value, unless this one is refused
-abbrev pub ◌>>=◌ : {A B : Type 0} → Result A ScenarioErr → (A → Result B ScenarioErr) → Result B ScenarioErr
-Ok x >>= f = f x
-Err why >>= f = Err why
-
 -- What the items of a list read as, each by its place. The first stands at this place. One that is refused refuses all.
 abbrev pub each_from : {A B : Type 0} → (ℕ → A → Result B ScenarioErr) → ℕ → List A → Result (List B) ScenarioErr
 each_from read at [] = Ok []
@@ -18,5 +12,5 @@ each_from read at (x ∷ xs) = do
   Ok (y ∷ ys)
 
 -- the answer is this reading, or want of memory, which may come at any time
-abbrev pub Reads : {A : Type 0} → Result A ScenarioErr → Result A ScenarioErr → Type 0
-Reads reading answer = (answer ≡ reading) ⊎ (answer ≡ Err NoMemory)
+abbrev pub ScenarioReads : {A : Type 0} → Result A ScenarioErr → Result A ScenarioErr → Type 0
+ScenarioReads reading answer = (answer ≡ reading) ⊎ (answer ≡ Err NoMemory)

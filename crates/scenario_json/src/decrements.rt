@@ -3,7 +3,7 @@
 ghost use Rattle.std.specs.Prelude.{◌≡◌, map, nat_le, sum};
 ghost use Rattle.serde_json.specs.View.{view};
 ghost use Rattle.scenario_json.specs.ScenarioOf.{decrement_in, decrements_in};
-ghost use Rattle.scenario_json.specs.Steps.{Reads, each_from};
+ghost use Rattle.scenario_json.specs.Steps.{ScenarioReads, each_from};
 
 use crate::error::ScenarioErr;
 use crate::members::{list, whole, within};
@@ -20,7 +20,7 @@ pub(crate) fn decrements_in(
     object: &Value,
     opening: u32,
 ) -> Result<Items<u32>, ScenarioErr>
-    ensures { Reads (decrements_in opening (view object.now)) result }
+    ensures { ScenarioReads (decrements_in opening (view object.now)) result }
 {
     let items = list(object, Name::Decrements, 0, MOST_ROUNDS)?;
     let decrements = decrements_from(alloc, items)?;
@@ -31,7 +31,7 @@ pub(crate) fn decrements_in(
 }
 
 fn decrements_from(alloc: Global, items: &[Value]) -> Result<Items<u32>, ScenarioErr>
-    ensures { Reads (each_from decrement_in 1 (map view items.now)) result }
+    ensures { ScenarioReads (each_from decrement_in 1 (map view items.now)) result }
 {
     let mut decrements = Vec::with_capacity(alloc, items.len())?;
     for (i, item) in items.iter().enumerate() {

@@ -3,7 +3,7 @@
 ghost use Rattle.std.specs.Prelude.{◌≡◌, ◌≤◌, IfOk, map};
 ghost use Rattle.std.specs.Result.{result_map_both};
 ghost use Rattle.serde_json.specs.View.{view};
-ghost use Rattle.scenario_json.specs.Members.{array_in, list, member, number, object_in, whole, within};
+ghost use Rattle.scenario_json.specs.Members.{array_in, list, member, member_number, object_in, whole, within_limits};
 
 use crate::error::ScenarioErr;
 use crate::name::Name;
@@ -47,7 +47,7 @@ pub(crate) fn within(
     least: u64,
     most: u64,
 ) -> Result<u64, ScenarioErr>
-    ensures value { result ≡ within name at least most number }
+    ensures value { result ≡ within_limits name at least most member_number }
     ensures limits { IfOk result (λ n. (least ≤ n) × (n ≤ most)) }
 {
     if number < least || most < number {
@@ -64,7 +64,7 @@ pub(crate) fn number(
     least: u64,
     most: u64,
 ) -> Result<u64, ScenarioErr>
-    ensures value { result ≡ number name at least most (view object.now) }
+    ensures value { result ≡ member_number name at least most (view object.now) }
     ensures limits { IfOk result (λ n. (least ≤ n) × (n ≤ most)) }
 {
     let found = member(object, name, at)?;

@@ -6,7 +6,7 @@ ghost use Rattle.serde_json.specs.View.{view};
 ghost use Rattle.pack_defs.specs.declared.limits.TheConstants.{MOST_MOVES};
 ghost use Rattle.pack_defs.specs.Scenario.{is_prover, most_budget};
 ghost use Rattle.scenario_json.specs.ScenarioOf.{kind_in, kind_named, seed_in, worker_in, workers_in};
-ghost use Rattle.scenario_json.specs.Steps.{Reads, each_from};
+ghost use Rattle.scenario_json.specs.Steps.{ScenarioReads, each_from};
 
 use crate::error::ScenarioErr;
 use crate::members::{list, member, number, object_in, whole};
@@ -20,7 +20,7 @@ use std::alloc::Global;
 /// The workers of the object, of which one at least is of kind "cdcl".
 #[tactic(auto, unfolding(crate::specs::ScenarioOf::workers_in))]
 pub(crate) fn workers_in(alloc: Global, object: &Value) -> Result<Items<Worker>, ScenarioErr>
-    ensures { Reads (workers_in (view object.now)) result }
+    ensures { ScenarioReads (workers_in (view object.now)) result }
 {
     let items = list(object, Name::Workers, 1, MOST_WORKERS)?;
     let workers = workers_from(alloc, items)?;
@@ -31,7 +31,7 @@ pub(crate) fn workers_in(alloc: Global, object: &Value) -> Result<Items<Worker>,
 }
 
 fn workers_from(alloc: Global, items: &[Value]) -> Result<Items<Worker>, ScenarioErr>
-    ensures { Reads (each_from worker_in 1 (map view items.now)) result }
+    ensures { ScenarioReads (each_from worker_in 1 (map view items.now)) result }
 {
     let mut workers = Vec::with_capacity(alloc, items.len())?;
     for (i, item) in items.iter().enumerate() {

@@ -11,7 +11,7 @@ use Rattle.pack_defs.specs.declared.pair.Pair.{Pair}
 use Rattle.constraint_files.specs.Domains.{channels_of}
 use Rattle.constraint_files.specs.Numbers.{number, numbers}
 use Rattle.constraint_files.specs.Records.{after_lines, lines_of}
-use Rattle.constraint_files.specs.Rows.{PairsView, add_row, interference_row, pair_of, pairs_of, row_from, row_on, with_kept, with_other, with_pair}
+use Rattle.constraint_files.specs.Rows.{PairsView, add_row, interference_row, pair_of, pairs_of, row_of_fields, row_on, with_kept, with_other, with_pair}
 use Rattle.constraint_files.specs.declared.interference_row.Offset.{Offset}
 use Rattle.constraint_files.specs.declared.interference_row.Row.{Row}
 use Rattle.rand_pcg.specs.Lcg.{Lcg}
@@ -86,7 +86,7 @@ adds-line domains key n ns row k small is told line rest h =
 
 -- ---- rows
 
-from-fields : (offset : Offset) (a b s : List ℕ) (others : List (List ℕ)) (x y z : ℕ) (ts : List ℕ) → number a ≡ Some x → number b ≡ Some y → number s ≡ Some z → numbers others ≡ Some ts → row_from offset a b s others ≡ row_on offset x y z ts
+from-fields : (offset : Offset) (a b s : List ℕ) (others : List (List ℕ)) (x y z : ℕ) (ts : List ℕ) → number a ≡ Some x → number b ≡ Some y → number s ≡ Some z → numbers others ≡ Some ts → row_of_fields offset a b s others ≡ row_on offset x y z ts
 from-fields offset a b s others x y z ts first second third rest = rw (first, second, third, rest) refl
 
 same-row : (c s : ℕ) (ts : List ℕ) → AreSmall (c ∷ c ∷ s ∷ ts) → interference_row (codes "CO" ∷ map decimal (c ∷ c ∷ s ∷ ts)) ≡ row_on (record { above = 0; below = 0 }) c c s ts

@@ -17,7 +17,7 @@ use Rattle.scenario_json.specs.ScenarioOf.{scenario_of}
 use Rattle.scenario_json.specs.Written.{IsFileNumber, IsFileSeed, IsOfAFile}
 use Rattle.scenario_json.proofs.StationsAscend.{increasing-from_ascending}
 use Rattle.scenario_json.proofs.WrittenText.{written-reads}
-use Rattle.scenario_make.specs.Draws.{generator_of, word_at}
+use Rattle.scenario_make.specs.Draws.{generator_of, draw_word_at}
 use Rattle.scenario_make.specs.MadeFiles.{made_facilities, made_scenario, made_scenario_text, made_station, made_value, made_volume, made_workers, scenario_with}
 
 -- ---- within the limits
@@ -44,7 +44,7 @@ stations-within : (g : Lcg) (xs : List ℕ) → All IsStationWithinLimits (map (
 stations-within g [] = All-nil IsStationWithinLimits
 stations-within g (x ∷ xs) =
     All-cons IsStationWithinLimits (made_station g x) (map (made_station g) xs)
-    (station-within x (word_at g (2 * (x - 1))) (word_at g (2 * (x - 1) + 1))) (stations-within g xs)
+    (station-within x (draw_word_at g (2 * (x - 1))) (draw_word_at g (2 * (x - 1) + 1))) (stations-within g xs)
 
 file-numbers : (g : Lcg) (a n : ℕ) → a + n ≤ 4294967296 → All IsFileNumber (map (made_station g) (range_with_len a n))
 file-numbers g a zero h = All-nil IsFileNumber
@@ -137,7 +137,7 @@ value-low x v =
 
 takes-part : (seed : ℕ) (g : Lcg) (xs : List ℕ) (s : ℕ) → is_in xs s ≡ true → declines (scenario_with seed (map (made_station g) xs)) s 0 ≡ false
 unfolding scenario_with
-takes-part seed g xs s h = rw (value-at g xs s h, volume-at g xs s h) (value-low (word_at g (2 * (s - 1) + 1)) (made_volume g s))
+takes-part seed g xs s h = rw (value-at g xs s h, volume-at g xs s h) (value-low (draw_word_at g (2 * (s - 1) + 1)) (made_volume g s))
 
 none-passes : (p : ℕ → Bool) (xs : List ℕ) → ((s : ℕ) → is_in xs s ≡ true → p s ≡ false) → filter p xs ≡ []
 none-passes p [] h = refl

@@ -13,9 +13,9 @@ generator_after g zero = g
 generator_after g (suc k) = (pcg32 (generator_after g k)).1
 
 -- the word at a place, from 0
-abbrev pub word_at : Lcg → ℕ → ℕ
-word_at g k = (pcg32 (generator_after g k)).0
+abbrev pub draw_word_at : Lcg → ℕ → ℕ
+draw_word_at g k = (pcg32 (generator_after g k)).0
 
 -- the draw at a place: its word modulo this number
 abbrev pub draw_at : Lcg → ℕ → ℕ → ℕ
-draw_at g k modulus = word_at g k % modulus
+draw_at g k modulus = draw_word_at g k % modulus

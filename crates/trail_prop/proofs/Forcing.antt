@@ -8,7 +8,7 @@ use Rattle.clause_db.specs.declared.lit.Lit.{Lit}
 use Rattle.clause_db.specs.Clause.{opposite, has_lit}
 use Rattle.clause_db.specs.Clauses.{LitWithin}
 use Rattle.clause_db.specs.Forced.{is_false_clause, not_false, only_open, forced_by}
-use Rattle.trail_prop.specs.Open.{LitsWithin, is_open, IsSettled}
+use Rattle.trail_prop.specs.Open.{LitsWithin, is_open, IsClauseSettled}
 
 none_kept : (b : Bool) (l : Lit) (rest : List Lit) → cond (not b) (l ∷ rest) rest ≡ [] → (b ≡ true) × (rest ≡ [])
 none_kept true l rest e = (refl, e)
@@ -43,7 +43,7 @@ two-open known rest (Some x) l f = refl
 pub kept-here : (known zs : List Lit) (l : Lit) → has_lit known (opposite l) ≡ false → not_false known (l ∷ zs) ≡ l ∷ not_false known zs
 kept-here known zs l e = cond-true (not (has_lit known (opposite l))) (l ∷ not_false known zs) (not_false known zs) (ap not e)
 
-pub settled-at : (known xs zs : List Lit) (o : Option Lit) (l : Lit) → not_false known xs ≡ option_to_list o → has_lit known (opposite l) ≡ false → (o ≡ None → has_lit known l ≡ true) → IsSettled known (xs ++ l ∷ zs)
+pub settled-at : (known xs zs : List Lit) (o : Option Lit) (l : Lit) → not_false known xs ≡ option_to_list o → has_lit known (opposite l) ≡ false → (o ≡ None → has_lit known l ≡ true) → IsClauseSettled known (xs ++ l ∷ zs)
 settled-at known xs zs o l k e f = (
   not-false-part known xs zs l e,
   ap (λ (z : List Lit). only_open known z) (filter-append (λ (m : Lit). not (has_lit known (opposite m))) xs (l ∷ zs) ∙ ((λ i. k i ++ kept-here known zs l e i))) ∙ two-open known (not_false known zs) o l f,
@@ -52,8 +52,8 @@ settled-at known xs zs o l k e f = (
 pub split-at : (xs : List Lit) (i : ℕ) (d : Lit) → i < length xs → xs ≡ take i xs ++ get_or xs i d ∷ drop (i + 1) xs
 split-at xs i d h = sym (take-append-drop i xs) ∙ ap (λ (z : List Lit). take i xs ++ z) (drop-cons xs i d h ∙ rw add-one refl)
 
-pub settled-read : (known clause : List Lit) (i : ℕ) (d : Lit) (o : Option Lit) → i < length clause → not_false known (take i clause) ≡ option_to_list o → has_lit known (opposite (get_or clause i d)) ≡ false → (o ≡ None → has_lit known (get_or clause i d) ≡ true) → IsSettled known clause
-settled-read known clause i d o h k e f = subst (λ (z : List Lit). IsSettled known z) (sym (split-at clause i d h)) (settled-at known (take i clause) (drop (i + 1) clause) o (get_or clause i d) k e f)
+pub settled-read : (known clause : List Lit) (i : ℕ) (d : Lit) (o : Option Lit) → i < length clause → not_false known (take i clause) ≡ option_to_list o → has_lit known (opposite (get_or clause i d)) ≡ false → (o ≡ None → has_lit known (get_or clause i d) ≡ true) → IsClauseSettled known clause
+settled-read known clause i d o h k e f = subst (λ (z : List Lit). IsClauseSettled known z) (sym (split-at clause i d h)) (settled-at known (take i clause) (drop (i + 1) clause) o (get_or clause i d) k e f)
 
 pub only_open-is : (known rest : List Lit) (l : Lit) → only_open known rest ≡ Some l → (rest ≡ l ∷ []) × (has_lit known l ≡ false)
 only_open-is known [] l e = cc

@@ -4,11 +4,11 @@ use Rattle.std.specs.Prelude.{slice_set}
 use Rattle.std.proofs.lemmas.Bool.{and_parts, false≢true}
 use Rattle.std.proofs.lemmas.List.{get_or-set_same, get_or-set_other}
 use Rattle.clause_db.specs.declared.lit.Lit.{Lit}
-use Rattle.clause_db.specs.Clause.{opposite, has_lit}
+use Rattle.clause_db.specs.Clause.{opposite, has_lit, code_of}
 use Rattle.clause_db.specs.Clauses.{LitWithin}
 use Rattle.clause_db.proofs.Literals.{lit-parts, lit_cases, has-push_new, has-push_other}
 use Rattle.trail_prop.specs.Open.{is_open}
-use Rattle.trail_prop.specs.Entries.{code_of, MarksSay}
+use Rattle.trail_prop.specs.Entries.{MarksSay}
 
 codes : (v w : ℕ) (a b : Bool) → 1 ≤ v → 1 ≤ w → (if a then 2 * (v - 1) else 2 * (v - 1) + 1) ≡ (if b then 2 * (w - 1) else 2 * (w - 1) + 1) → (v ≡ w) × (a ≡ b)
 codes v w true true p q e = (omega arith, refl)

@@ -6,13 +6,13 @@ use Rattle.std.proofs.lemmas.List.{get_or_append_left, get_or-set_same, get_or-s
 use Rattle.std.proofs.lemmas.List.Elements.{All-push, All-set, All-weaker}
 use Rattle.clause_db.specs.declared.lit.Lit.{Lit}
 use Rattle.clause_db.specs.Clauses.{LitWithin}
-use Rattle.trail_prop.specs.declared.entry.Entry.{Entry}
-use Rattle.trail_prop.specs.declared.turn.Places.{Places}
+use Rattle.clause_db.specs.Clause.{code_of}
+use Rattle.trail_prop.specs.declared.entry.TrailEntry.{TrailEntry}
+use Rattle.trail_prop.specs.declared.turn.WatchPlaces.{WatchPlaces}
 use Rattle.trail_prop.specs.declared.watches.Watch.{Watch}
-use Rattle.trail_prop.specs.Entries.{code_of}
 use Rattle.trail_prop.specs.Open.{LitsWithin}
 use Rattle.trail_prop.specs.Steps.{onto, relisted}
-use Rattle.trail_prop.specs.Watching.{lit_at, clause_of, watches_at, places_of, IsFixed, IsSafe, watches_of, IsGuarded, IsWatched, WatchFits, WatchView, waits, IsNumber, AreNumbers, IsWatchOf, IsWatchful}
+use Rattle.trail_prop.specs.Watching.{lit_at, clause_of, watches_at, places_of, IsFixed, IsSafe, watches_of, IsGuarded, IsWatched, WatchFits, WatchView, waits, IsNumber, AreClauseNumbers, IsWatchOf, IsWatchful}
 use Rattle.trail_prop.proofs.Counting.{count-push, count-pushed, count-set, count-removed, all-removed, not-same}
 use Rattle.trail_prop.proofs.Known.{code-is, code-below}
 use Rattle.trail_prop.proofs.Safety.{safe-grows, fixed-grows, safe-cut, fixed-cut}
@@ -21,10 +21,10 @@ pub same-or-not : (m n : ℕ) → (m ≡ n) ⊎ (m ≢ n)
 same-or-not m n = grind arith
 
 -- the clause waits, is true for good, or is watched
-abbrev pub Minds : List Entry → ℕ → List (List Watch) → List ℕ → ℕ → List Lit → Places → Type 0
+abbrev pub Minds : List TrailEntry → ℕ → List (List Watch) → List ℕ → ℕ → List Lit → WatchPlaces → Type 0
 Minds entries head lists pending k clause p = (0 < waits (k + 1) pending) ⊎ (IsFixed entries clause ⊎ IsWatched entries head lists (k + 1) clause p)
 
-pub minds-safe : (es es' : List Entry) (head head' : ℕ) (lists : List (List Watch)) (pending : List ℕ) (k : ℕ) (clause : List Lit) (p : Places) → (IsFixed es clause → IsFixed es' clause) → ((i : ℕ) → IsGuarded es head lists (k + 1) clause i → IsSafe es' head' clause (lit_at clause i)) → Minds es head lists pending k clause p → Minds es' head' lists pending k clause p
+pub minds-safe : (es es' : List TrailEntry) (head head' : ℕ) (lists : List (List Watch)) (pending : List ℕ) (k : ℕ) (clause : List Lit) (p : WatchPlaces) → (IsFixed es clause → IsFixed es' clause) → ((i : ℕ) → IsGuarded es head lists (k + 1) clause i → IsSafe es' head' clause (lit_at clause i)) → Minds es head lists pending k clause p → Minds es' head' lists pending k clause p
 minds-safe es es' head head' lists pending k clause p f s m = elim m [
   | inl w ↦ inl w
   | inr r ↦ inr (elim r [
@@ -37,12 +37,12 @@ minds-safe es es' head head' lists pending k clause p f s m = elim m [
   ])
 ]
 
-pub minds-more : (es : List Entry) (head : ℕ) (lists lists' : List (List Watch)) (pending pending' : List ℕ) (k : ℕ) (clause : List Lit) (p p' : Places) → waits (k + 1) pending ≤ waits (k + 1) pending' → ((m : Lit) → watches_of (k + 1) (watches_at lists m) ≤ watches_of (k + 1) (watches_at lists' m)) → p' ≡ p → Minds es head lists pending k clause p → Minds es head lists' pending' k clause p'
+pub minds-more : (es : List TrailEntry) (head : ℕ) (lists lists' : List (List Watch)) (pending pending' : List ℕ) (k : ℕ) (clause : List Lit) (p p' : WatchPlaces) → waits (k + 1) pending ≤ waits (k + 1) pending' → ((m : Lit) → watches_of (k + 1) (watches_at lists m) ≤ watches_of (k + 1) (watches_at lists' m)) → p' ≡ p → Minds es head lists pending k clause p → Minds es head lists' pending' k clause p'
 minds-more es head lists lists' pending pending' k clause p p' w f e m = elim m [
   | inl h ↦ inl (omega arith)
   | inr r ↦ inr (elim r [
     | inl x ↦ inl x
-    | inr g ↦ inr (subst (λ (q : Places). IsWatched es head lists' (k + 1) clause q) (sym e) (record {
+    | inr g ↦ inr (subst (λ (q : WatchPlaces). IsWatched es head lists' (k + 1) clause q) (sym e) (record {
       first = record { within = g.first.within; safe = g.first.safe; held = omega (arith, f (lit_at clause p.first), g.first.held) };
       second = record { within = g.second.within; safe = g.second.safe; held = omega (arith, f (lit_at clause p.second), g.second.held) };
       apart = g.apart;
@@ -51,7 +51,7 @@ minds-more es head lists lists' pending pending' k clause p p' w f e m = elim m 
 ]
 
 -- the trail grows, or is cut
-pub watchful-grown : (v : WatchView) (more : List Entry) → IsWatchful v → IsWatchful (onto v (record { clauses = v.trail.clauses; entries = v.trail.entries ++ more }))
+pub watchful-grown : (v : WatchView) (more : List TrailEntry) → IsWatchful v → IsWatchful (onto v (record { clauses = v.trail.clauses; entries = v.trail.entries ++ more }))
 watchful-grown v more h = record {
   small = h.small;
   within = h.within;
@@ -63,7 +63,7 @@ watchful-grown v more h = record {
   minds = λ k b. let c = clause_of v.trail.clauses.list k in minds-safe v.trail.entries (v.trail.entries ++ more) v.head v.head v.lists v.pending k c (places_of v.places k) (fixed-grows v.trail.entries more c) (λ i g. safe-grows v.trail.entries more v.head c (lit_at c i) h.head g.safe) (h.minds k b);
 }
 
-pub watchful-cut : (v : WatchView) (later gone : List Entry) (level now : ℕ) → IsWatchful v → v.trail.entries ≡ later ++ gone → All (λ (e : Entry). e.level ≤ level) later → All (λ (e : Entry). level < e.level) gone → now ≤ v.head → now ≤ length later → IsWatchful (record { trail = record { clauses = v.trail.clauses; entries = later }; lists = v.lists; places = v.places; pending = v.pending; head = now })
+pub watchful-cut : (v : WatchView) (later gone : List TrailEntry) (level now : ℕ) → IsWatchful v → v.trail.entries ≡ later ++ gone → All (λ (e : TrailEntry). e.level ≤ level) later → All (λ (e : TrailEntry). level < e.level) gone → now ≤ v.head → now ≤ length later → IsWatchful (record { trail = record { clauses = v.trail.clauses; entries = later }; lists = v.lists; places = v.places; pending = v.pending; head = now })
 watchful-cut v later gone level now h e low high m n = record {
   small = h.small;
   within = h.within;
@@ -72,7 +72,7 @@ watchful-cut v later gone level now h e low high m n = record {
   listed = h.listed;
   numbers = h.numbers;
   fits = h.fits;
-  minds = λ k b. let c = clause_of v.trail.clauses.list k in minds-safe v.trail.entries later v.head now v.lists v.pending k c (places_of v.places k) (λ f. fixed-cut later gone level c high (subst (λ (es : List Entry). IsFixed es c) e f)) (λ i g. safe-cut later gone level v.head now c (lit_at c i) low high m n (subst (λ (es : List Entry). IsSafe es v.head c (lit_at c i)) e g.safe)) (h.minds k b);
+  minds = λ k b. let c = clause_of v.trail.clauses.list k in minds-safe v.trail.entries later v.head now v.lists v.pending k c (places_of v.places k) (λ f. fixed-cut later gone level c high (subst (λ (es : List TrailEntry). IsFixed es c) e f)) (λ i g. safe-cut later gone level v.head now c (lit_at c i) low high m n (subst (λ (es : List TrailEntry). IsSafe es v.head c (lit_at c i)) e g.safe)) (h.minds k b);
 }
 
 -- a clause is added
@@ -91,11 +91,11 @@ fits-longer list clause l w f =
       pairs = rw same f.pairs;
     }
 
-pub watchful-added : (v : WatchView) (clause : List Lit) (p : Places) (n : ℕ) → IsWatchful v → LitsWithin v.trail.clauses.vars clause → n ≡ length v.trail.clauses.list + 1 → IsWatchful (record { trail = record { clauses = record { vars = v.trail.clauses.vars; list = v.trail.clauses.list ++ clause ∷ [] }; entries = v.trail.entries }; lists = v.lists; places = v.places ++ p ∷ []; pending = v.pending ++ n ∷ []; head = v.head })
+pub watchful-added : (v : WatchView) (clause : List Lit) (p : WatchPlaces) (n : ℕ) → IsWatchful v → LitsWithin v.trail.clauses.vars clause → n ≡ length v.trail.clauses.list + 1 → IsWatchful (record { trail = record { clauses = record { vars = v.trail.clauses.vars; list = v.trail.clauses.list ++ clause ∷ [] }; entries = v.trail.entries }; lists = v.lists; places = v.places ++ p ∷ []; pending = v.pending ++ n ∷ []; head = v.head })
 watchful-added v clause p n h x e =
     let list = v.trail.clauses.list in
     let longer = length-append list (clause ∷ []) in
-    let more : AreNumbers (length (list ++ clause ∷ [])) v.pending = All-weaker (IsNumber (length list)) (IsNumber (length (list ++ clause ∷ []))) (λ m b. let t = b.to_last in record { from_one = b.from_one; to_last = omega arith }) v.pending h.numbers in
+    let more : AreClauseNumbers (length (list ++ clause ∷ [])) v.pending = All-weaker (IsNumber (length list)) (IsNumber (length (list ++ clause ∷ []))) (λ m b. let t = b.to_last in record { from_one = b.from_one; to_last = omega arith }) v.pending h.numbers in
     record {
       small = h.small;
       within = All-push (λ (c : List Lit). All (LitWithin v.trail.clauses.vars) c) v.trail.clauses.list clause h.within x;

@@ -6,15 +6,15 @@ use Rattle.std.proofs.lemmas.Bool.{false≢true}
 use Rattle.std.proofs.lemmas.List.{get_or_default, get_or-set_same, get_or-set_other}
 use Rattle.std.proofs.lemmas.List.Elements.{All-nil, All-push, All-weaker}
 use Rattle.clause_db.specs.declared.lit.Lit.{Lit}
-use Rattle.clause_db.specs.Clause.{opposite, has_lit}
+use Rattle.clause_db.specs.Clause.{opposite, has_lit, code_of}
 use Rattle.clause_db.specs.Clauses.{Clauses, LitWithin, ClausesWithin}
-use Rattle.trail_prop.specs.declared.entry.Entry.{Entry}
+use Rattle.trail_prop.specs.declared.entry.TrailEntry.{TrailEntry}
 use Rattle.trail_prop.specs.declared.turn.Moved.{Moved}
-use Rattle.trail_prop.specs.declared.turn.Places.{Places}
+use Rattle.trail_prop.specs.declared.turn.WatchPlaces.{WatchPlaces}
 use Rattle.trail_prop.specs.declared.watches.Watch.{Watch}
-use Rattle.trail_prop.specs.Entries.{code_of, lits_of, EachOpens, IsEntry}
-use Rattle.trail_prop.specs.Open.{IsSettled, IsComplete}
-use Rattle.trail_prop.specs.Steps.{IsHeld, Shrinks}
+use Rattle.trail_prop.specs.Entries.{lits_of, EachOpens, IsTrailEntry}
+use Rattle.trail_prop.specs.Open.{IsClauseSettled, IsComplete}
+use Rattle.trail_prop.specs.Steps.{IsWatchHeld, Shrinks}
 use Rattle.trail_prop.specs.Turn.{IsMove, IsOneOf}
 use Rattle.trail_prop.specs.Watching.{lit_at, clause_of, watches_at, places_of, StandsAt, HasTrue, IsFixed, IsSafe, watches_of, IsGuarded, IsWatched, WatchFits, WatchView, waits, IsNumber, IsWatchOf, IsWaiting, AllWait, IsWatchful}
 use Rattle.trail_prop.proofs.Counting.{count-push, count-pushed, take-removed, length-removed, count-removed, found, all-removed, not-same}
@@ -23,27 +23,27 @@ use Rattle.trail_prop.proofs.Minding.{Minds, minds-safe, minds-more, others-stay
 use Rattle.trail_prop.proofs.Safety.{safe-open, safe-step, safe-other, opposite-twice, true-settled, fixed-true, watched-settled}
 
 -- a clause watches another literal
-guard-stays : (es : List Entry) (head : ℕ) (lists : List (List Watch)) (gone : Lit) (ws : List Watch) (n : ℕ) (clause : List Lit) (i : ℕ) → code_of (lit_at clause i) ≢ code_of gone → IsGuarded es head lists n clause i → IsGuarded es head (slice_set lists (code_of gone) ws) n clause i
+guard-stays : (es : List TrailEntry) (head : ℕ) (lists : List (List Watch)) (gone : Lit) (ws : List Watch) (n : ℕ) (clause : List Lit) (i : ℕ) → code_of (lit_at clause i) ≢ code_of gone → IsGuarded es head lists n clause i → IsGuarded es head (slice_set lists (code_of gone) ws) n clause i
 guard-stays es head lists gone ws n clause i apart g = record {
   within = g.within;
   safe = g.safe;
   held = subst (λ (z : List Watch). 0 < watches_of n z) (sym (relisted-other lists gone (lit_at clause i) ws apart)) g.held;
 }
 
-guard-new : (es : List Entry) (head : ℕ) (lists : List (List Watch)) (gone : Lit) (ws : List Watch) (n : ℕ) (clause : List Lit) (i : ℕ) → code_of (lit_at clause i) ≢ code_of gone → i < length clause → has_lit (lits_of es) (opposite (lit_at clause i)) ≡ false → 0 < watches_of n (watches_at lists (lit_at clause i)) → IsGuarded es head (slice_set lists (code_of gone) ws) n clause i
+guard-new : (es : List TrailEntry) (head : ℕ) (lists : List (List Watch)) (gone : Lit) (ws : List Watch) (n : ℕ) (clause : List Lit) (i : ℕ) → code_of (lit_at clause i) ≢ code_of gone → i < length clause → has_lit (lits_of es) (opposite (lit_at clause i)) ≡ false → 0 < watches_of n (watches_at lists (lit_at clause i)) → IsGuarded es head (slice_set lists (code_of gone) ws) n clause i
 guard-new es head lists gone ws n clause i apart b f h = record {
   within = b;
   safe = safe-open es head clause (lit_at clause i) f;
   held = subst (λ (z : List Watch). 0 < watches_of n z) (sym (relisted-other lists gone (lit_at clause i) ws apart)) h;
 }
 
-guard-old : (es : List Entry) (head : ℕ) (lists : List (List Watch)) (n : ℕ) (clause : List Lit) (p : Places) (i : ℕ) → IsOneOf i p → IsWatched es head lists n clause p → IsGuarded es head lists n clause i
+guard-old : (es : List TrailEntry) (head : ℕ) (lists : List (List Watch)) (n : ℕ) (clause : List Lit) (p : WatchPlaces) (i : ℕ) → IsOneOf i p → IsWatched es head lists n clause p → IsGuarded es head lists n clause i
 guard-old es head lists n clause p i o w = elim o [
   | inl e ↦ subst (λ (j : ℕ). IsGuarded es head lists n clause j) (sym e) w.first
   | inr e ↦ subst (λ (j : ℕ). IsGuarded es head lists n clause j) (sym e) w.second
 ]
 
-moved-minds : (vars : ℕ) (es : List Entry) (head : ℕ) (lists : List (List Watch)) (gone : Lit) (ws : List Watch) (pending : List ℕ) (k : ℕ) (clause : List Lit) (p : Places) (m : Moved) → LitWithin vars gone → LitWithin vars m.lit → LitWithin vars m.other → has_lit (lits_of es) (opposite gone) ≡ true → IsMove (lits_of es) clause p gone m → 0 < watches_of (k + 1) (watches_at lists m.lit) → Minds es head lists pending k clause p → Minds es head (slice_set lists (code_of gone) ws) pending k clause m.places
+moved-minds : (vars : ℕ) (es : List TrailEntry) (head : ℕ) (lists : List (List Watch)) (gone : Lit) (ws : List Watch) (pending : List ℕ) (k : ℕ) (clause : List Lit) (p : WatchPlaces) (m : Moved) → LitWithin vars gone → LitWithin vars m.lit → LitWithin vars m.other → has_lit (lits_of es) (opposite gone) ≡ true → IsMove (lits_of es) clause p gone m → 0 < watches_of (k + 1) (watches_at lists m.lit) → Minds es head lists pending k clause p → Minds es head (slice_set lists (code_of gone) ws) pending k clause m.places
 moved-minds vars es head lists gone ws pending k clause p m wg wl wo false' mv h old = elim old [
   | inl w ↦ inl w
   | inr r ↦ inr (elim r [
@@ -63,10 +63,10 @@ moved-minds vars es head lists gone ws pending k clause p m wg wl wo false' mv h
 ]
 
 -- its places are changed alone
-placed-same : (places : List Places) (k : ℕ) (p : Places) → k < length places → places_of (slice_set places k p) k ≡ p
+placed-same : (places : List WatchPlaces) (k : ℕ) (p : WatchPlaces) → k < length places → places_of (slice_set places k p) k ≡ p
 placed-same places k p b = get_or-set_same places k p (record { first = 0; second = 0 }) b
 
-placed-other : (places : List Places) (j k : ℕ) (p : Places) → k ≢ j → places_of (slice_set places j p) k ≡ places_of places k
+placed-other : (places : List WatchPlaces) (j k : ℕ) (p : WatchPlaces) → k ≢ j → places_of (slice_set places j p) k ≡ places_of places k
 placed-other places j k p n = get_or-set_other places j k p (record { first = 0; second = 0 }) n
 
 pub watchful-left : (v : WatchView) (gone : Lit) (at n : ℕ) (d : Watch) (m : Moved) → IsWatchful v → IsWatchOf v gone at n → IsNumber (length v.trail.clauses.list) n → LitWithin v.trail.clauses.vars m.lit → LitWithin v.trail.clauses.vars m.other → has_lit (lits_of v.trail.entries) (opposite gone) ≡ true → IsMove (lits_of v.trail.entries) (clause_of v.trail.clauses.list (n - 1)) (places_of v.places (n - 1)) gone m → 0 < watches_of n (watches_at v.lists m.lit) → IsWatchful (record { trail = v.trail; lists = slice_set v.lists (code_of gone) (swap_remove (watches_at v.lists gone) at d); places = slice_set v.places (n - 1) m.places; pending = v.pending; head = v.head })
@@ -95,7 +95,7 @@ watchful-left v gone at n d m h stands number wl wo f mv hung =
             let mv' = subst (λ (j : ℕ). IsMove (lits_of es) (clause_of v.trail.clauses.list j) (places_of v.places j) gone m) (sym s) mv in
             let hung' = subst (λ (j : ℕ). 0 < watches_of j (watches_at v.lists m.lit)) next hung in
             let now = moved-minds v.trail.clauses.vars es v.head v.lists gone ws' v.pending k (clause_of v.trail.clauses.list k) (places_of v.places k) m w wl wo f mv' hung' (h.minds k t) in
-            let at-k : Minds es v.head (slice_set v.lists (code_of gone) ws') v.pending k (clause_of v.trail.clauses.list k) (places_of (slice_set v.places k m.places) k) = subst (λ (q : Places). Minds es v.head (slice_set v.lists (code_of gone) ws') v.pending k (clause_of v.trail.clauses.list k) q) (sym (placed-same v.places k m.places there)) now in
+            let at-k : Minds es v.head (slice_set v.lists (code_of gone) ws') v.pending k (clause_of v.trail.clauses.list k) (places_of (slice_set v.places k m.places) k) = subst (λ (q : WatchPlaces). Minds es v.head (slice_set v.lists (code_of gone) ws') v.pending k (clause_of v.trail.clauses.list k) q) (sym (placed-same v.places k m.places there)) now in
             subst (λ (j : ℕ). Minds es v.head (slice_set v.lists (code_of gone) ws') v.pending k (clause_of v.trail.clauses.list k) (places_of (slice_set v.places j m.places) k)) s at-k
         | inr o ↦
             let other : k + 1 ≢ n = λ q. o (omega arith) in
@@ -126,7 +126,7 @@ watchful-forgot v at d h b f = record {
   ];
 }
 
-pub watchful-settled : (v : WatchView) (at n d : ℕ) (p : Places) → IsWatchful v → IsWaiting v at n → IsNumber (length v.trail.clauses.list) n → IsWatched v.trail.entries v.head v.lists n (clause_of v.trail.clauses.list (n - 1)) p → IsWatchful (record { trail = v.trail; lists = v.lists; places = slice_set v.places (n - 1) p; pending = swap_remove v.pending at d; head = v.head })
+pub watchful-settled : (v : WatchView) (at n d : ℕ) (p : WatchPlaces) → IsWatchful v → IsWaiting v at n → IsNumber (length v.trail.clauses.list) n → IsWatched v.trail.entries v.head v.lists n (clause_of v.trail.clauses.list (n - 1)) p → IsWatchful (record { trail = v.trail; lists = v.lists; places = slice_set v.places (n - 1) p; pending = swap_remove v.pending at d; head = v.head })
 watchful-settled v at n d p h waits number w =
     let b = waits.place in
     let e : get_or v.pending at d ≡ n = sym (waits.number ∙ get_or_default v.pending at n d b) in
@@ -147,7 +147,7 @@ watchful-settled v at n d p h waits number w =
             let w' : IsWatched v.trail.entries v.head v.lists (k + 1) (clause_of v.trail.clauses.list (n - 1)) p = subst (λ (j : ℕ). IsWatched v.trail.entries v.head v.lists j (clause_of v.trail.clauses.list (n - 1)) p) next w in
             let w'' : IsWatched v.trail.entries v.head v.lists (k + 1) (clause_of v.trail.clauses.list k) p = subst (λ (j : ℕ). IsWatched v.trail.entries v.head v.lists (k + 1) (clause_of v.trail.clauses.list j) p) (sym s) w' in
             let placed : places_of (slice_set v.places (n - 1) p) k ≡ p = subst (λ (j : ℕ). places_of (slice_set v.places j p) k ≡ p) s (placed-same v.places k p there) in
-            inr (inr (subst (λ (q : Places). IsWatched v.trail.entries v.head v.lists (k + 1) (clause_of v.trail.clauses.list k) q) (sym placed) w''))
+            inr (inr (subst (λ (q : WatchPlaces). IsWatched v.trail.entries v.head v.lists (k + 1) (clause_of v.trail.clauses.list k) q) (sym placed) w''))
         | inr o ↦
             let other : get_or v.pending at d ≢ k + 1 = λ q. o (omega arith) in
             minds-more v.trail.entries v.head v.lists v.lists v.pending (swap_remove v.pending at d) k (clause_of v.trail.clauses.list k) (places_of v.places k) (places_of (slice_set v.places (n - 1) p) k) (others-wait v.pending at k d b other) (λ m. omega arith) (placed-other v.places (n - 1) k p o) (h.minds k t)
@@ -155,22 +155,22 @@ watchful-settled v at n d p h waits number w =
     }
 
 -- the entry at the head is passed
-held-true : (v : WatchView) (gone l : Lit) (k : ℕ) → code_of l ≡ code_of gone → 0 < watches_of (k + 1) (watches_at v.lists l) → All (IsHeld v) (watches_at v.lists gone) → HasTrue (lits_of v.trail.entries) (clause_of v.trail.clauses.list k)
+held-true : (v : WatchView) (gone l : Lit) (k : ℕ) → code_of l ≡ code_of gone → 0 < watches_of (k + 1) (watches_at v.lists l) → All (IsWatchHeld v) (watches_at v.lists gone) → HasTrue (lits_of v.trail.entries) (clause_of v.trail.clauses.list k)
 held-true v gone l k e h a =
     let h' : 0 < watches_of (k + 1) (watches_at v.lists gone) = subst (λ (c : ℕ). 0 < watches_of (k + 1) (get_or v.lists c [])) e h in
-    let r = found (λ (w : Watch). w.clause == k + 1) (IsHeld v) (watches_at v.lists gone) h' a in
+    let r = found (λ (w : Watch). w.clause == k + 1) (IsWatchHeld v) (watches_at v.lists gone) h' a in
     let n : r.0.clause ≡ k + 1 = eqb-true r.0.clause (k + 1) r.1 in
     let there : r.0.clause - 1 ≡ k = omega arith in
     subst (λ (j : ℕ). HasTrue (lits_of v.trail.entries) (clause_of v.trail.clauses.list j)) there r.2
 
-pub watchful-advanced : (v : WatchView) (gone : Lit) (level : ℕ) → IsWatchful v → StandsAt v.trail.entries v.head level gone → All (λ (e : Entry). e.level ≤ level) v.trail.entries → All (IsHeld v) (watches_at v.lists gone) → IsWatchful (record { trail = v.trail; lists = v.lists; places = v.places; pending = v.pending; head = v.head + 1 })
+pub watchful-advanced : (v : WatchView) (gone : Lit) (level : ℕ) → IsWatchful v → StandsAt v.trail.entries v.head level gone → All (λ (e : TrailEntry). e.level ≤ level) v.trail.entries → All (IsWatchHeld v) (watches_at v.lists gone) → IsWatchful (record { trail = v.trail; lists = v.lists; places = v.places; pending = v.pending; head = v.head + 1 })
 watchful-advanced v gone level h s low a =
     let es = v.trail.entries in
     let e = s.0 in
     let i = s.1 in
     let here = i.0 in
-    let top : (j : ℕ) (t : Entry) → IsEntry es j t → t.level ≤ e.level = λ j t q.
-    let under : t.level ≤ level = subst (λ (z : Entry). z.level ≤ level) q.1 (low j t q.0) in
+    let top : (j : ℕ) (t : TrailEntry) → IsTrailEntry es j t → t.level ≤ e.level = λ j t q.
+    let under : t.level ≤ level = subst (λ (z : TrailEntry). z.level ≤ level) q.1 (low j t q.0) in
     let up = s.3 in
     omega arith in
     record {
@@ -199,17 +199,17 @@ no-watches (suc n) zero = refl
 no-watches (suc n) (suc c) = no-watches n c
 
 -- once no entry is left, and each clause that waits is settled, all are
-pub watchful-complete : (v : WatchView) → IsWatchful v → EachOpens v.trail.clauses.vars [] v.trail.entries → v.head ≡ length v.trail.entries → All (λ (n : ℕ). IsSettled (lits_of v.trail.entries) (clause_of v.trail.clauses.list (n - 1))) v.pending → IsComplete v.trail.clauses.list (lits_of v.trail.entries)
+pub watchful-complete : (v : WatchView) → IsWatchful v → EachOpens v.trail.clauses.vars [] v.trail.entries → v.head ≡ length v.trail.entries → All (λ (n : ℕ). IsClauseSettled (lits_of v.trail.entries) (clause_of v.trail.clauses.list (n - 1))) v.pending → IsComplete v.trail.clauses.list (lits_of v.trail.entries)
 watchful-complete v h o last a = λ k d b.
     let es = v.trail.entries in
     let known = lits_of es in
     let c = clause_of v.trail.clauses.list k in
-    let settled : IsSettled known c = elim (h.minds k b) [
+    let settled : IsClauseSettled known c = elim (h.minds k b) [
       | inl w ↦
-          let r = found (λ (m : ℕ). m == k + 1) (λ (n : ℕ). IsSettled known (clause_of v.trail.clauses.list (n - 1))) v.pending w a in
+          let r = found (λ (m : ℕ). m == k + 1) (λ (n : ℕ). IsClauseSettled known (clause_of v.trail.clauses.list (n - 1))) v.pending w a in
           let n : r.0 ≡ k + 1 = eqb-true r.0 (k + 1) r.1 in
           let there : r.0 - 1 ≡ k = omega arith in
-          subst (λ (j : ℕ). IsSettled known (clause_of v.trail.clauses.list j)) there r.2
+          subst (λ (j : ℕ). IsClauseSettled known (clause_of v.trail.clauses.list j)) there r.2
       | inr r ↦ elim r [
         | inl f ↦ true-settled v.trail.clauses.vars es c o (fixed-true es c f)
         | inr w ↦
@@ -219,9 +219,9 @@ watchful-complete v h o last a = λ k d b.
             watched-settled v.trail.clauses.vars es c p.first p.second o w.first.within w.second.within w.apart s t
       ]
     ] in
-    subst (λ (z : List Lit). IsSettled known z) (get_or_default v.trail.clauses.list k [] d b) settled
+    subst (λ (z : List Lit). IsClauseSettled known z) (get_or_default v.trail.clauses.list k [] d b) settled
 
-pub watchful-new : (clauses : Clauses) (lists : List (List Watch)) (places : List Places) (pending : List ℕ) → clauses.vars < 2 ^ 32 → ClausesWithin clauses.vars clauses.list → lists ≡ replicate (2 * clauses.vars) [] → length lists ≡ 2 * clauses.vars → length places ≡ length clauses.list → AllWait (length clauses.list) pending → IsWatchful (record { trail = record { clauses = clauses; entries = [] }; lists = lists; places = places; pending = pending; head = 0 })
+pub watchful-new : (clauses : Clauses) (lists : List (List Watch)) (places : List WatchPlaces) (pending : List ℕ) → clauses.vars < 2 ^ 32 → ClausesWithin clauses.vars clauses.list → lists ≡ replicate (2 * clauses.vars) [] → length lists ≡ 2 * clauses.vars → length places ≡ length clauses.list → AllWait (length clauses.list) pending → IsWatchful (record { trail = record { clauses = clauses; entries = [] }; lists = lists; places = places; pending = pending; head = 0 })
 watchful-new clauses lists places pending small x e n p w = record {
   small = small;
   within = x;
@@ -247,7 +247,7 @@ all-wait-more count pending w = (
 )
 
 -- a watch is taken away
-pub shrinks-removed : (v : WatchView) (lists : List (List Watch)) (places : List Places) (pending : List ℕ) (gone : Lit) (at : ℕ) (d : Watch) → code_of gone < length v.lists → at < length (watches_at v.lists gone) → lists ≡ slice_set v.lists (code_of gone) (swap_remove (watches_at v.lists gone) at d) → Shrinks v (record { trail = v.trail; lists = lists; places = places; pending = pending; head = v.head }) gone at
+pub shrinks-removed : (v : WatchView) (lists : List (List Watch)) (places : List WatchPlaces) (pending : List ℕ) (gone : Lit) (at : ℕ) (d : Watch) → code_of gone < length v.lists → at < length (watches_at v.lists gone) → lists ≡ slice_set v.lists (code_of gone) (swap_remove (watches_at v.lists gone) at d) → Shrinks v (record { trail = v.trail; lists = lists; places = places; pending = pending; head = v.head }) gone at
 shrinks-removed v lists places pending gone at d c b e =
     let ws = watches_at v.lists gone in
     let now : watches_at lists gone ≡ swap_remove ws at d = ap (λ (ls : List (List Watch)). watches_at ls gone) e ∙ relisted-same v.lists gone (swap_remove ws at d) c in

@@ -1,54 +1,50 @@
 -- The entries of a trail, and the literals that they make true.
 use Rattle.std.specs.Prelude.{ℕ, ◌≡◌, ◌+◌, ◌*◌, ◌-◌, ◌^◌, ◌<◌, ◌≤◌, length, Bool, true, false, if◌then◌else◌, List, [], ◌∷◌, ◌++◌, map, count_by, is_none, slice_index_or}
 use Rattle.clause_db.specs.declared.lit.Lit.{Lit}
-use Rattle.clause_db.specs.Clause.{has_lit}
+use Rattle.clause_db.specs.Clause.{code_of, has_lit}
 use Rattle.clause_db.specs.Clauses.{LitWithin}
 use Rattle.trail_prop.specs.Open.{is_open}
-use Rattle.trail_prop.specs.declared.entry.Entry.{Entry}
+use Rattle.trail_prop.specs.declared.entry.TrailEntry.{TrailEntry}
 
 -- the literals of the entries, in order
-abbrev pub lits_of : List Entry → List Lit
+abbrev pub lits_of : List TrailEntry → List Lit
 lits_of entries = map (λ e. e.lit) entries
 
 -- an entry that no clause forced
-abbrev pub is_decision : Entry → Bool
+abbrev pub is_decision : TrailEntry → Bool
 is_decision e = is_none e.reason
 
 -- the number of decisions
-abbrev pub level_of : List Entry → ℕ
+abbrev pub level_of : List TrailEntry → ℕ
 level_of entries = count_by is_decision entries
 
 -- each entry's variable is one of 1 to vars, and open before it: in the entries before these and in these
-abbrev pub EachOpens : ℕ → List Entry → List Entry → Type 0
+abbrev pub EachOpens : ℕ → List TrailEntry → List TrailEntry → Type 0
 EachOpens vars before [] = Unit {0}
 EachOpens vars before (e ∷ es) = (LitWithin vars e.lit) × (is_open (lits_of before) e.lit ≡ true) × EachOpens vars (before ++ e ∷ []) es
-
--- the place of a literal's mark
-abbrev pub code_of : Lit → ℕ
-code_of l = if l.positive then 2 * (l.var - 1) else 2 * (l.var - 1) + 1
 
 -- a mark for each literal, which says whether it is known
 abbrev pub MarksSay : ℕ → List Bool → List Lit → Type 0
 MarksSay vars marks known = (l : Lit) → LitWithin vars l → slice_index_or marks (code_of l) false ≡ has_lit known l
 
 -- the entry at a place, and an entry of a variable
-abbrev pub IsEntry : List Entry → ℕ → Entry → Type 0
-IsEntry entries k e = (k < length entries) × (slice_index_or entries k e ≡ e)
+abbrev pub IsTrailEntry : List TrailEntry → ℕ → TrailEntry → Type 0
+IsTrailEntry entries k e = (k < length entries) × (slice_index_or entries k e ≡ e)
 
-abbrev pub IsEntryOf : List Entry → ℕ → Entry → Type 0
-IsEntryOf entries var e = (k : ℕ) × IsEntry entries k e × (e.lit.var ≡ var)
+abbrev pub IsEntryOf : List TrailEntry → ℕ → TrailEntry → Type 0
+IsEntryOf entries var e = (k : ℕ) × IsTrailEntry entries k e × (e.lit.var ≡ var)
 
 -- for each variable that has an entry, the entry's place
-abbrev pub AreIndexed : List ℕ → List Entry → Type 0
-AreIndexed index entries = (k : ℕ) (e : Entry) → IsEntry entries k e → slice_index_or index (e.lit.var - 1) 0 ≡ k
+abbrev pub AreIndexed : List ℕ → List TrailEntry → Type 0
+AreIndexed index entries = (k : ℕ) (e : TrailEntry) → IsTrailEntry entries k e → slice_index_or index (e.lit.var - 1) 0 ≡ k
 
 pub record Assigned : Type 0 where
   pub vars : ℕ
-  pub entries : List Entry
+  pub entries : List TrailEntry
 
 -- what stands in an assignment's type: its entries, a mark for each literal, the place of each variable's entry, and
 -- for how many entries there is room
-pub record AssignmentHolds (vars : ℕ) (entries : List Entry) (marks : List Bool) (index : List ℕ) (capacity : ℕ) : Type 0 where
+pub record AssignmentHolds (vars : ℕ) (entries : List TrailEntry) (marks : List Bool) (index : List ℕ) (capacity : ℕ) : Type 0 where
   -- each entry is of an open variable
   pub opens : EachOpens vars [] entries
   -- the marks say which literals are true

@@ -2,25 +2,25 @@
 use Rattle.std.specs.Prelude.{ℕ, ◌≡◌, ◌≢◌, ◌<◌, ◌≤◌, ◌⊎◌, Bool, true, false, List, length, Option, Some}
 use Rattle.clause_db.specs.declared.lit.Lit.{Lit}
 use Rattle.clause_db.specs.Clause.{opposite, has_lit}
-use Rattle.trail_prop.specs.declared.entry.Entry.{Entry}
-use Rattle.trail_prop.specs.declared.turn.Places.{Places}
-use Rattle.trail_prop.specs.Entries.{lits_of, IsEntry}
+use Rattle.trail_prop.specs.declared.entry.TrailEntry.{TrailEntry}
+use Rattle.trail_prop.specs.declared.turn.WatchPlaces.{WatchPlaces}
+use Rattle.trail_prop.specs.Entries.{lits_of, IsTrailEntry}
 use Rattle.trail_prop.specs.Watching.{IsSafe, lit_at}
 
 -- no entry is of a higher level than the one that made the literal false
-abbrev pub IsLateFalse : List Entry → Lit → Type 0
-IsLateFalse entries l = (k : ℕ) (e : Entry) → IsEntry entries k e → e.lit ≡ opposite l → (j : ℕ) (t : Entry) → IsEntry entries j t → t.level ≤ e.level
+abbrev pub IsLateFalse : List TrailEntry → Lit → Type 0
+IsLateFalse entries l = (k : ℕ) (e : TrailEntry) → IsTrailEntry entries k e → e.lit ≡ opposite l → (j : ℕ) (t : TrailEntry) → IsTrailEntry entries j t → t.level ≤ e.level
 
 -- the literal is not false, or became so late, in a clause that has a true literal
-abbrev pub IsGood : List Entry → Bool → Lit → Type 0
+abbrev pub IsGood : List TrailEntry → Bool → Lit → Type 0
 IsGood entries holds l = (has_lit (lits_of entries) (opposite l) ≡ false) ⊎ ((holds ≡ true) × IsLateFalse entries l)
 
 -- such a place of a clause, whose literal is not this one
-abbrev pub IsGoodPlace : List Entry → Bool → List Lit → Option Lit → ℕ → Type 0
+abbrev pub IsGoodPlace : List TrailEntry → Bool → List Lit → Option Lit → ℕ → Type 0
 IsGoodPlace entries holds clause beside i = (i < length clause) × IsGood entries holds (lit_at clause i) × (Some (lit_at clause i) ≢ beside)
 
 -- two places of the clause with different literals, each safe at any head
-pub record AreGood (entries : List Entry) (clause : List Lit) (p : Places) : Type 0 where
+pub record AreGood (entries : List TrailEntry) (clause : List Lit) (p : WatchPlaces) : Type 0 where
   pub first_within : p.first < length clause
   pub second_within : p.second < length clause
   pub apart : lit_at clause p.first ≢ lit_at clause p.second

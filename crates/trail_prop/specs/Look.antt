@@ -2,12 +2,12 @@
 use Rattle.std.specs.Prelude.{◌≡◌, true, Some, List}
 use Rattle.clause_db.specs.declared.lit.Lit.{Lit}
 use Rattle.clause_db.specs.Forced.{is_false_clause, forced_by}
-use Rattle.trail_prop.specs.Open.{IsSettled}
-use Rattle.trail_prop.specs.declared.look.Look.{Look}
-use Rattle.trail_prop.specs.declared.look.Look.TheVariants.{False, Forces, Settled}
+use Rattle.trail_prop.specs.Open.{IsClauseSettled}
+use Rattle.trail_prop.specs.declared.look.ClauseLook.{ClauseLook}
+use Rattle.trail_prop.specs.declared.look.ClauseLook.TheVariants.{False, Forces, Settled}
 
 -- all its literals are false; it forces this literal; or neither
-abbrev pub LookIs : List Lit → List Lit → Look → Type 0
-LookIs known clause False = is_false_clause known clause ≡ true
-LookIs known clause (Forces l) = forced_by known clause ≡ Some l
-LookIs known clause Settled = IsSettled known clause
+abbrev pub ClauseLookIs : List Lit → List Lit → ClauseLook → Type 0
+ClauseLookIs known clause False = is_false_clause known clause ≡ true
+ClauseLookIs known clause (Forces l) = forced_by known clause ≡ Some l
+ClauseLookIs known clause Settled = IsClauseSettled known clause

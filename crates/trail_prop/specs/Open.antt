@@ -11,17 +11,17 @@ abbrev pub is_open : List Lit → Lit → Bool
 is_open known l = not (has_lit known l) && not (has_lit known (opposite l))
 
 -- what is known of a variable
-abbrev pub value_of : List Lit → ℕ → Option Bool
-value_of known v = if has_lit known (pos_lit v) then Some true else (if has_lit known (neg_lit v) then Some false else None)
+abbrev pub value_known : List Lit → ℕ → Option Bool
+value_known known v = if has_lit known (pos_lit v) then Some true else (if has_lit known (neg_lit v) then Some false else None)
 
 -- the variable of each literal is one of 1 to vars
 abbrev pub LitsWithin : ℕ → List Lit → Type 0
 LitsWithin vars lits = All (LitWithin vars) lits
 
 -- the clause is not false, and forces nothing
-abbrev pub IsSettled : List Lit → List Lit → Type 0
-IsSettled known clause = (is_false_clause known clause ≡ false) × (forced_by known clause ≡ None)
+abbrev pub IsClauseSettled : List Lit → List Lit → Type 0
+IsClauseSettled known clause = (is_false_clause known clause ≡ false) × (forced_by known clause ≡ None)
 
 -- no clause is false, and none forces a literal
 abbrev pub IsComplete : List (List Lit) → List Lit → Type 0
-IsComplete clauses known = All (IsSettled known) clauses
+IsComplete clauses known = All (IsClauseSettled known) clauses

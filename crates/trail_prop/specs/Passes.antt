@@ -2,15 +2,15 @@
 use Rattle.std.specs.Prelude.{ℕ, ◌≡◌, ◌<◌, ◌≤◌, Bool, true, false, length, List, [], slice_index_or}
 use Rattle.clause_db.specs.Clause.{clause_at}
 use Rattle.clause_db.specs.Clauses.{Clauses}
-use Rattle.trail_prop.specs.Open.{IsComplete, IsSettled}
-use Rattle.trail_prop.specs.declared.entry.Entry.{Entry}
-use Rattle.trail_prop.specs.declared.plain.Pass.{Pass}
-use Rattle.trail_prop.specs.declared.plain.Pass.TheVariants.{Found, Quiet, Moved}
+use Rattle.trail_prop.specs.Open.{IsComplete, IsClauseSettled}
+use Rattle.trail_prop.specs.declared.entry.TrailEntry.{TrailEntry}
+use Rattle.trail_prop.specs.declared.plain.PropagationStep.{PropagationStep}
+use Rattle.trail_prop.specs.declared.plain.PropagationStep.TheVariants.{Found, Quiet, Moved}
 use Rattle.trail_prop.specs.Entries.{lits_of}
 use Rattle.trail_prop.specs.Trails.{IsFalseAt, Grows, TrailView}
 
 -- what one pass over the clauses found: a false clause; that none is false and none forces; or that the trail grew
-abbrev pub PassIs : Clauses → List Entry → List Entry → Pass → Type 0
+abbrev pub PassIs : Clauses → List TrailEntry → List TrailEntry → PropagationStep → Type 0
 PassIs clauses earlier later (Found conflict) = IsFalseAt (lits_of later) (clause_at clauses.list conflict.clause)
 PassIs clauses earlier later Quiet = IsComplete clauses.list (lits_of later)
 PassIs clauses earlier later Moved = (length earlier < length later) × (length later ≤ clauses.vars)
@@ -24,7 +24,7 @@ pub record PassKeeps (old new : TrailView) (moved : Bool) (at many : ℕ) : Type
   -- entries are added by force alone
   pub grows : Grows old.entries new.entries
   -- while none is added, none of the clauses before the place is false or forces a literal
-  pub quiet : moved ≡ false → (k : ℕ) → k < at → IsSettled (lits_of new.entries) (slice_index_or new.clauses.list k [])
+  pub quiet : moved ≡ false → (k : ℕ) → k < at → IsClauseSettled (lits_of new.entries) (slice_index_or new.clauses.list k [])
   -- the trail grew where it is said to
   pub moves : moved ≡ true → length old.entries < length new.entries
   -- and then has at most one entry of each variable

@@ -2,16 +2,16 @@
 use Rattle.std.specs.Prelude.{ℕ, ◌≡◌, ◌+◌, ◌-◌, ◌*◌, ◌<◌, ◌≤◌, false, List, Option, Some, None, length, take, slice_set, slice_index_or}
 use Rattle.std.specs.List.{All}
 use Rattle.clause_db.specs.declared.lit.Lit.{Lit}
-use Rattle.clause_db.specs.Clause.{clause_at}
+use Rattle.clause_db.specs.Clause.{clause_at, code_of}
 use Rattle.clause_db.specs.Clauses.{LitWithin}
-use Rattle.trail_prop.specs.declared.entry.Entry.{Entry}
+use Rattle.trail_prop.specs.declared.entry.TrailEntry.{TrailEntry}
 use Rattle.trail_prop.specs.declared.watches.Watch.{Watch}
-use Rattle.trail_prop.specs.declared.plain.Pass.{Pass}
-use Rattle.trail_prop.specs.declared.plain.Pass.TheVariants.{Found, Quiet, Moved}
-use Rattle.trail_prop.specs.declared.propagate.Met.{Met}
-use Rattle.trail_prop.specs.declared.propagate.Met.TheVariants.{False, Stays, Leaves}
-use Rattle.trail_prop.specs.Entries.{lits_of, code_of, IsEntry}
-use Rattle.trail_prop.specs.Open.{IsComplete, IsSettled}
+use Rattle.trail_prop.specs.declared.plain.PropagationStep.{PropagationStep}
+use Rattle.trail_prop.specs.declared.plain.PropagationStep.TheVariants.{Found, Quiet, Moved}
+use Rattle.trail_prop.specs.declared.propagate.WatchMet.{WatchMet}
+use Rattle.trail_prop.specs.declared.propagate.WatchMet.TheVariants.{False, Stays, Leaves}
+use Rattle.trail_prop.specs.Entries.{lits_of, IsTrailEntry}
+use Rattle.trail_prop.specs.Open.{IsComplete, IsClauseSettled}
 use Rattle.trail_prop.specs.Trails.{TrailView, IsFalseAt, Grows}
 use Rattle.trail_prop.specs.Watching.{WatchView, WatchFits, HasTrue, clause_of, watches_at}
 
@@ -23,12 +23,12 @@ abbrev pub relisted : WatchView → Lit → List Watch → WatchView
 relisted v l ws = record { trail = v.trail; lists = slice_set v.lists (code_of l) ws; places = v.places; pending = v.pending; head = v.head }
 
 -- the clause of the watch has a true literal
-abbrev pub IsHeld : WatchView → Watch → Type 0
-IsHeld v w = HasTrue (lits_of v.trail.entries) (clause_of v.trail.clauses.list (w.clause - 1))
+abbrev pub IsWatchHeld : WatchView → Watch → Type 0
+IsWatchHeld v w = HasTrue (lits_of v.trail.entries) (clause_of v.trail.clauses.list (w.clause - 1))
 
 -- the clauses of the first so many watches of the literal each have a true literal
 abbrev pub AreHeld : WatchView → Lit → ℕ → Type 0
-AreHeld v gone at = All (IsHeld v) (take at (watches_at v.lists gone))
+AreHeld v gone at = All (IsWatchHeld v) (take at (watches_at v.lists gone))
 
 -- a watch in the list of a literal that became false, whose turn it is to be met
 pub record IsNextWatch (v : WatchView) (gone : Lit) (at : ℕ) (w : Watch) : Type 0 where
@@ -58,21 +58,21 @@ pub record Shrinks (old new : WatchView) (gone : Lit) (at : ℕ) : Type 0 where
   pub left : length (watches_at new.lists gone) + 1 ≡ length (watches_at old.lists gone)
 
 -- what became of the watch at a place, the ones before it staying as they are
-abbrev pub MetIs : WatchView → WatchView → Lit → ℕ → Met → Type 0
+abbrev pub MetIs : WatchView → WatchView → Lit → ℕ → WatchMet → Type 0
 MetIs old new gone at (False conflict) = IsFalseAt (lits_of new.trail.entries) (clause_at new.trail.clauses.list conflict.clause)
 MetIs old new gone at Stays = AreHeld new gone (at + 1) × (length (watches_at new.lists gone) ≡ length (watches_at old.lists gone))
 MetIs old new gone at Leaves = AreHeld new gone at × (length (watches_at new.lists gone) + 1 ≡ length (watches_at old.lists gone))
 
 -- the entry at the head, if the head is not behind the last
-abbrev pub NextIs : WatchView → Option Entry → Type 0
+abbrev pub NextIs : WatchView → Option TrailEntry → Type 0
 NextIs v None = v.head ≡ length v.trail.entries
-NextIs v (Some e) = IsEntry v.trail.entries v.head e × LitWithin v.trail.clauses.vars e.lit
+NextIs v (Some e) = IsTrailEntry v.trail.entries v.head e × LitWithin v.trail.clauses.vars e.lit
 
 -- a false clause was found; or none is false and none forces; or one more entry is propagated, or on the trail
-abbrev pub StepIs : WatchView → WatchView → Pass → Type 0
-StepIs old new (Found conflict) = IsFalseAt (lits_of new.trail.entries) (clause_at new.trail.clauses.list conflict.clause)
-StepIs old new Quiet = IsComplete new.trail.clauses.list (lits_of new.trail.entries)
-StepIs old new Moved = (length old.trail.entries + old.head < length new.trail.entries + new.head) × (length new.trail.entries + new.head ≤ 2 * new.trail.clauses.vars)
+abbrev pub PropagationStepIs : WatchView → WatchView → PropagationStep → Type 0
+PropagationStepIs old new (Found conflict) = IsFalseAt (lits_of new.trail.entries) (clause_at new.trail.clauses.list conflict.clause)
+PropagationStepIs old new Quiet = IsComplete new.trail.clauses.list (lits_of new.trail.entries)
+PropagationStepIs old new Moved = (length old.trail.entries + old.head < length new.trail.entries + new.head) × (length new.trail.entries + new.head ≤ 2 * new.trail.clauses.vars)
 
 -- what stays so while the watches of a literal are met one by one, up to a place
 pub record VisitKeeps (old new : WatchView) (gone : Lit) (at : ℕ) : Type 0 where
@@ -96,4 +96,4 @@ pub record LooksKeep (old new : WatchView) (at many : ℕ) : Type 0 where
   -- entries are added by force alone
   pub grows : Grows old.trail.entries new.trail.entries
   -- while none is added, none of the clauses before the place is false or forces a literal
-  pub quiet : length new.trail.entries ≡ length old.trail.entries → All (λ (n : ℕ). IsSettled (lits_of new.trail.entries) (clause_of new.trail.clauses.list (n - 1))) (take at new.pending)
+  pub quiet : length new.trail.entries ≡ length old.trail.entries → All (λ (n : ℕ). IsClauseSettled (lits_of new.trail.entries) (clause_of new.trail.clauses.list (n - 1))) (take at new.pending)

@@ -3,20 +3,20 @@ use Rattle.std.specs.Prelude.{ℕ, ◌≡◌, ◌≢◌, ◌<◌, ◌⊎◌, tru
 use Rattle.clause_db.specs.declared.lit.Lit.{Lit}
 use Rattle.clause_db.specs.Clause.{opposite, has_lit}
 use Rattle.clause_db.specs.Forced.{is_false_clause, forced_by}
-use Rattle.trail_prop.specs.declared.turn.Places.{Places}
+use Rattle.trail_prop.specs.declared.turn.WatchPlaces.{WatchPlaces}
 use Rattle.trail_prop.specs.declared.turn.Sides.{Sides}
 use Rattle.trail_prop.specs.declared.turn.Moved.{Moved}
-use Rattle.trail_prop.specs.declared.turn.Turn.{Turn}
-use Rattle.trail_prop.specs.declared.turn.Turn.TheVariants.{Holds, Moves, Leaves, Lost}
+use Rattle.trail_prop.specs.declared.turn.ClauseTurn.{ClauseTurn}
+use Rattle.trail_prop.specs.declared.turn.ClauseTurn.TheVariants.{Holds, Moves, Leaves, Lost}
 use Rattle.trail_prop.specs.Open.{is_open}
 use Rattle.trail_prop.specs.Watching.{lit_at}
 
 -- the place is one of the two
-abbrev pub IsOneOf : ℕ → Places → Type 0
+abbrev pub IsOneOf : ℕ → WatchPlaces → Type 0
 IsOneOf i p = (i ≡ p.first) ⊎ (i ≡ p.second)
 
 -- two places of the clause, the first of which has the literal
-abbrev pub SidesAre : List Lit → Places → Lit → Option Sides → Type 0
+abbrev pub SidesAre : List Lit → WatchPlaces → Lit → Option Sides → Type 0
 SidesAre clause p gone None = Unit {0}
 SidesAre clause p gone (Some s) = (s.mine < length clause) × (s.other < length clause) × (lit_at clause s.mine ≡ gone) × IsOneOf s.other p
 
@@ -27,7 +27,7 @@ pub record LeavesOnly (known clause : List Lit) (l : Lit) : Type 0 where
   pub forces : is_open known l ≡ true → forced_by known clause ≡ Some l
 
 -- the clause may watch the new place, whose literal is not false, and goes on watching one of the old
-pub record IsMove (known clause : List Lit) (p : Places) (gone : Lit) (m : Moved) : Type 0 where
+pub record IsMove (known clause : List Lit) (p : WatchPlaces) (gone : Lit) (m : Moved) : Type 0 where
   pub new_within : m.places.first < length clause
   pub old_within : m.places.second < length clause
   pub lit : m.lit ≡ lit_at clause m.places.first
@@ -37,7 +37,7 @@ pub record IsMove (known clause : List Lit) (p : Places) (gone : Lit) (m : Moved
   pub old : IsOneOf m.places.second p
   pub not_false : has_lit known (opposite m.lit) ≡ false
 
-abbrev pub TurnIs : List Lit → List Lit → Places → Lit → Turn → Type 0
+abbrev pub TurnIs : List Lit → List Lit → WatchPlaces → Lit → ClauseTurn → Type 0
 TurnIs known clause p gone (Holds l) = (has_lit clause l ≡ true) × (has_lit known l ≡ true)
 TurnIs known clause p gone (Moves m) = IsMove known clause p gone m
 TurnIs known clause p gone (Leaves l) = LeavesOnly known clause l × (has_lit known l ≡ false)

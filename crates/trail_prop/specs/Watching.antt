@@ -2,12 +2,12 @@
 use Rattle.std.specs.Prelude.{ℕ, ◌≡◌, ◌≢◌, ◌+◌, ◌-◌, ◌*◌, ◌/◌, ◌%◌, ◌^◌, ◌<◌, ◌≤◌, ◌==◌, ◌⊎◌, true, List, [], ◌∷◌, length, count_by, slice_index_or}
 use Rattle.std.specs.List.{All}
 use Rattle.clause_db.specs.declared.lit.Lit.{Lit}
-use Rattle.clause_db.specs.Clause.{opposite, has_lit, neg_lit}
+use Rattle.clause_db.specs.Clause.{opposite, has_lit, neg_lit, code_of}
 use Rattle.clause_db.specs.Clauses.{LitWithin, ClausesWithin}
-use Rattle.trail_prop.specs.declared.entry.Entry.{Entry}
-use Rattle.trail_prop.specs.declared.turn.Places.{Places}
+use Rattle.trail_prop.specs.declared.entry.TrailEntry.{TrailEntry}
+use Rattle.trail_prop.specs.declared.turn.WatchPlaces.{WatchPlaces}
 use Rattle.trail_prop.specs.declared.watches.Watch.{Watch}
-use Rattle.trail_prop.specs.Entries.{code_of, IsEntry}
+use Rattle.trail_prop.specs.Entries.{IsTrailEntry}
 use Rattle.trail_prop.specs.Trails.{TrailView}
 
 -- the literal of a code
@@ -24,25 +24,25 @@ clause_of list k = slice_index_or list k []
 abbrev pub watches_at : List (List Watch) → Lit → List Watch
 watches_at lists l = slice_index_or lists (code_of l) []
 
-abbrev pub places_of : List Places → ℕ → Places
+abbrev pub places_of : List WatchPlaces → ℕ → WatchPlaces
 places_of places k = slice_index_or places k (record { first = 0; second = 0 })
 
 -- the literal is the opposite of the entry's at the head, and that is of the last level
-abbrev pub StandsAt : List Entry → ℕ → ℕ → Lit → Type 0
-StandsAt entries head level gone = (e : Entry) × IsEntry entries head e × (e.lit ≡ opposite gone) × (level ≤ e.level)
+abbrev pub StandsAt : List TrailEntry → ℕ → ℕ → Lit → Type 0
+StandsAt entries head level gone = (e : TrailEntry) × IsTrailEntry entries head e × (e.lit ≡ opposite gone) × (level ≤ e.level)
 
 -- some literal of the clause is known to be true
 abbrev pub HasTrue : List Lit → List Lit → Type 0
 HasTrue known clause = (l : Lit) × (has_lit clause l ≡ true) × (has_lit known l ≡ true)
 
 -- some literal of the clause is true by an entry of level 0
-abbrev pub IsFixed : List Entry → List Lit → Type 0
-IsFixed entries clause = (j : ℕ) × (t : Entry) × IsEntry entries j t × (has_lit clause t.lit ≡ true) × (t.level ≡ 0)
+abbrev pub IsFixed : List TrailEntry → List Lit → Type 0
+IsFixed entries clause = (j : ℕ) × (t : TrailEntry) × IsTrailEntry entries j t × (has_lit clause t.lit ≡ true) × (t.level ≡ 0)
 
 -- Where an entry before the head made the literal false, some literal of the clause is true by an entry of a level
 -- not above that entry's.
-abbrev pub IsSafe : List Entry → ℕ → List Lit → Lit → Type 0
-IsSafe entries head clause l = (k : ℕ) (e : Entry) → k < head → IsEntry entries k e → e.lit ≡ opposite l → (j : ℕ) × (t : Entry) × IsEntry entries j t × (has_lit clause t.lit ≡ true) × (t.level ≤ e.level)
+abbrev pub IsSafe : List TrailEntry → ℕ → List Lit → Lit → Type 0
+IsSafe entries head clause l = (k : ℕ) (e : TrailEntry) → k < head → IsTrailEntry entries k e → e.lit ≡ opposite l → (j : ℕ) × (t : TrailEntry) × IsTrailEntry entries j t × (has_lit clause t.lit ≡ true) × (t.level ≤ e.level)
 
 -- how many of the watches are of the clause of this number
 abbrev pub watches_of : ℕ → List Watch → ℕ
@@ -56,13 +56,13 @@ pub record IsListed (lists : List (List Watch)) (code at : ℕ) : Type 0 where
   pub place : at < length (slice_index_or lists code [])
 
 -- the clause of this number watches its literal at a place
-pub record IsGuarded (entries : List Entry) (head : ℕ) (lists : List (List Watch)) (n : ℕ) (clause : List Lit) (i : ℕ) : Type 0 where
+pub record IsGuarded (entries : List TrailEntry) (head : ℕ) (lists : List (List Watch)) (n : ℕ) (clause : List Lit) (i : ℕ) : Type 0 where
   pub within : i < length clause
   pub safe : IsSafe entries head clause (lit_at clause i)
   pub held : 0 < watches_of n (watches_at lists (lit_at clause i))
 
 -- it watches two different literals
-pub record IsWatched (entries : List Entry) (head : ℕ) (lists : List (List Watch)) (n : ℕ) (clause : List Lit) (p : Places) : Type 0 where
+pub record IsWatched (entries : List TrailEntry) (head : ℕ) (lists : List (List Watch)) (n : ℕ) (clause : List Lit) (p : WatchPlaces) : Type 0 where
   pub first : IsGuarded entries head lists n clause p.first
   pub second : IsGuarded entries head lists n clause p.second
   pub apart : lit_at clause p.first ≢ lit_at clause p.second
@@ -83,7 +83,7 @@ pub record WatchFits (list : List (List Lit)) (l : Lit) (w : Watch) : Type 0 whe
 pub record WatchView : Type 0 where
   pub trail : TrailView
   pub lists : List (List Watch)
-  pub places : List Places
+  pub places : List WatchPlaces
   pub pending : List ℕ
   pub head : ℕ
 
@@ -119,12 +119,12 @@ abbrev pub IsMinded : WatchView → ℕ → Type 0
 IsMinded v k = (0 < waits (k + 1) v.pending) ⊎ (IsFixed v.trail.entries (clause_of v.trail.clauses.list k) ⊎ IsWatched v.trail.entries v.head v.lists (k + 1) (clause_of v.trail.clauses.list k) (places_of v.places k))
 
 -- each is the number of a clause of so many
-abbrev pub AreNumbers : ℕ → List ℕ → Type 0
-AreNumbers count pending = All (IsNumber count) pending
+abbrev pub AreClauseNumbers : ℕ → List ℕ → Type 0
+AreClauseNumbers count pending = All (IsNumber count) pending
 
 -- all so many clauses wait for a look
 abbrev pub AllWait : ℕ → List ℕ → Type 0
-AllWait count pending = AreNumbers count pending × ((k : ℕ) → k < count → 0 < waits (k + 1) pending)
+AllWait count pending = AreClauseNumbers count pending × ((k : ℕ) → k < count → 0 < waits (k + 1) pending)
 
 pub record IsWatchful (v : WatchView) : Type 0 where
   pub small : v.trail.clauses.vars < 2 ^ 32
@@ -132,6 +132,6 @@ pub record IsWatchful (v : WatchView) : Type 0 where
   pub head : v.head ≤ length v.trail.entries
   pub sized : length v.places ≡ length v.trail.clauses.list
   pub listed : length v.lists ≡ 2 * v.trail.clauses.vars
-  pub numbers : AreNumbers (length v.trail.clauses.list) v.pending
+  pub numbers : AreClauseNumbers (length v.trail.clauses.list) v.pending
   pub fits : (l : Lit) → LitWithin v.trail.clauses.vars l → All (WatchFits v.trail.clauses.list l) (watches_at v.lists l)
   pub minds : (k : ℕ) → k < length v.trail.clauses.list → IsMinded v k

@@ -1,27 +1,27 @@
 //! The literals that are true, in order, and a mark for each.
 
 ghost use Rattle.std.specs.Prelude.{ℕ, ◌≡◌, ◌≢◌, ◌+◌, ◌-◌, ◌*◌, ◌<◌, ◌≤◌, ◌++◌, ◌∷◌, [], length, IfOk, IfSome, OnOk, OnErr, Some, None, true, false, slice_index_or};
-ghost use Rattle.clause_db.specs.Clause.{has_lit};
+ghost use Rattle.clause_db.specs.Clause.{has_lit, code_of};
 ghost use Rattle.clause_db.specs.Clauses.{LitWithin};
 ghost use Rattle.trail_prop.specs.Open.{is_open};
-ghost use Rattle.trail_prop.specs.declared.entry.Entry.{Entry};
-ghost use Rattle.trail_prop.specs.Entries.{lits_of, code_of, HasCode, IsEntry, IsEntryOf};
+ghost use Rattle.trail_prop.specs.declared.entry.TrailEntry.{TrailEntry};
+ghost use Rattle.trail_prop.specs.Entries.{lits_of, HasCode, IsTrailEntry, IsEntryOf};
 
-use crate::entry::Entry;
+use crate::entry::TrailEntry;
 use clause_db::lit::Lit;
 use std::alloc::{AllocError as NoMemory, Global};
 use std::marker::Model;
 
 /// The entries of a trail over variables 1 to `vars`, with room for one of each variable.
 #[derive(Drop)]
-pub struct Assignment {
+pub struct TrueLiterals {
     vars: u32,
-    entries: Vec<Entry>,
+    entries: Vec<TrailEntry>,
     marks: Vec<bool>,
     index: Vec<u32>,
 }
 
-impl Model for Assignment {
+impl Model for TrueLiterals {
     ghost use Rattle.std.specs.Vec.{vec_capacity};
     ghost use Rattle.trail_prop.specs.Entries.{Assigned, AssignmentHolds};
 
@@ -41,9 +41,9 @@ pub fn code(lit: Lit) -> usize
     if lit.positive { at } else { at + 1 }
 }
 
-impl Assignment {
+impl TrueLiterals {
     /// No entry.
-    pub fn new(alloc: Global, vars: u32) -> Result<Assignment, NoMemory>
+    pub fn new(alloc: Global, vars: u32) -> Result<TrueLiterals, NoMemory>
         ensures { IfOk result (λ a. a ≡ record { vars = vars; entries = [] }) }
     {
         let entries = Vec::with_capacity(alloc, vars as usize)?;
@@ -55,7 +55,7 @@ impl Assignment {
         for _ in 0..vars {
             index.push(0)?;
         }
-        Ok(Assignment {
+        Ok(TrueLiterals {
             vars,
             entries,
             marks,
@@ -71,7 +71,7 @@ impl Assignment {
     }
 
     /// The entries in order.
-    pub fn entries(&self) -> &[Entry]
+    pub fn entries(&self) -> &[TrailEntry]
         ensures { result.now ≡ self.now.entries }
     {
         &self.entries
@@ -86,11 +86,11 @@ impl Assignment {
     }
 
     /// The entry of a variable, if it has one.
-    pub fn entry_of(&self, var: u64) -> Option<Entry>
+    pub fn entry_of(&self, var: u64) -> Option<TrailEntry>
         requires from_one { 1 ≤ var }
         requires to_vars { var ≤ self.now.vars }
         ensures found { IfSome result (λ e. IsEntryOf self.now.entries var e) }
-        ensures only { (k : ℕ) (e : Entry) → IsEntry self.now.entries k e → e.lit.var ≡ var → result ≡ Some e }
+        ensures only { (k : ℕ) (e : TrailEntry) → IsTrailEntry self.now.entries k e → e.lit.var ≡ var → result ≡ Some e }
     {
         let at = self.index[(var - 1) as usize] as usize;
         if at >= self.entries.len() {
@@ -104,7 +104,7 @@ impl Assignment {
     }
 
     /// Puts an entry of an open variable after the last.
-    pub fn push(&mut self, entry: Entry)
+    pub fn push(&mut self, entry: TrailEntry)
         requires within { LitWithin self.old.vars entry.lit }
         requires opens { is_open (lits_of self.old.entries) entry.lit ≡ true }
         ensures { self.new ≡ record { vars = self.old.vars; entries = self.old.entries ++ entry ∷ [] } }
@@ -118,7 +118,7 @@ impl Assignment {
     }
 
     /// Takes the last entry away.
-    pub fn pop(&mut self) -> Entry
+    pub fn pop(&mut self) -> TrailEntry
         requires { 0 < length self.old.entries }
         ensures vars { self.new.vars ≡ self.old.vars }
         ensures entries { self.old.entries ≡ self.new.entries ++ result ∷ [] }

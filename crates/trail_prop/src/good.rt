@@ -7,13 +7,13 @@ ghost use Rattle.trail_prop.specs.Good.{IsGood, IsGoodPlace, AreGood};
 ghost use Rattle.trail_prop.specs.Open.{LitsWithin};
 ghost use Rattle.trail_prop.specs.Watching.{HasTrue};
 
-use crate::assignment::Assignment;
+use crate::assignment::TrueLiterals;
 use crate::plain::PlainTrail;
-use crate::turn::Places;
+use crate::turn::WatchPlaces;
 use clause_db::lit::Lit;
 
 /// Whether some literal of the clause is true.
-pub fn has_true(assigned: &Assignment, clause: &[Lit]) -> bool
+pub fn has_true(assigned: &TrueLiterals, clause: &[Lit]) -> bool
     requires { LitsWithin assigned.now.vars clause.now }
     ensures { result ≡ true → HasTrue (lits_of assigned.now.entries) clause.now }
 {
@@ -55,12 +55,12 @@ fn good_place(plain: &PlainTrail, clause: &[Lit], holds: bool, beside: Option<Li
 }
 
 /// Two places of the clause that may be watched.
-pub fn good_places(plain: &PlainTrail, clause: &[Lit]) -> Option<Places>
+pub fn good_places(plain: &PlainTrail, clause: &[Lit]) -> Option<WatchPlaces>
     requires { LitsWithin plain.now.clauses.vars clause.now }
     ensures { IfSome result (AreGood plain.now.entries clause.now) }
 {
     let holds = has_true(plain.assigned(), clause);
     let first = good_place(plain, clause, holds, None)?;
     let second = good_place(plain, clause, holds, Some(clause[first]))?;
-    Some(Places { first, second })
+    Some(WatchPlaces { first, second })
 }

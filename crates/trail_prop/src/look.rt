@@ -3,35 +3,35 @@
 ghost use Rattle.std.specs.Prelude.{◌≡◌};
 ghost use Rattle.trail_prop.specs.Open.{LitsWithin};
 ghost use Rattle.trail_prop.specs.Entries.{lits_of};
-ghost use Rattle.trail_prop.specs.Look.{LookIs};
+ghost use Rattle.trail_prop.specs.Look.{ClauseLookIs};
 
-use crate::assignment::Assignment;
+use crate::assignment::TrueLiterals;
 use clause_db::lit::Lit;
 
 /// What a clause says where some literals are true: it is false, it forces a literal, or neither.
 #[derive(Clone, Copy, Debug, PartialEq, Eq)]
-pub enum Look {
+pub enum ClauseLook {
     False,
     Forces(Lit),
     Settled,
 }
 
 /// What a clause says where the literals of an assignment are true.
-pub fn look_at(assigned: &Assignment, clause: &[Lit]) -> Look
+pub fn look_at(assigned: &TrueLiterals, clause: &[Lit]) -> ClauseLook
     requires { LitsWithin assigned.now.vars clause.now }
-    ensures { LookIs (lits_of assigned.now.entries) clause.now result }
+    ensures { ClauseLookIs (lits_of assigned.now.entries) clause.now result }
 {
     let mut open: Option<Lit> = None;
     for lit in clause {
         if !assigned.is_true(lit.opposite()) {
             if open.is_some() || assigned.is_true(*lit) {
-                return Look::Settled;
+                return ClauseLook::Settled;
             }
             open = Some(*lit);
         }
     }
     match open {
-        None => Look::False,
-        Some(lit) => Look::Forces(lit),
+        None => ClauseLook::False,
+        Some(lit) => ClauseLook::Forces(lit),
     }
 }

@@ -4,15 +4,15 @@ ghost use Rattle.std.specs.Prelude.{ℕ, ◌≡◌, ◌+◌, ◌-◌, ◌<◌, �
 ghost use Rattle.std.specs.List.{All};
 ghost use Rattle.clause_db.specs.Clause.{clause_at};
 ghost use Rattle.clause_db.specs.Clauses.{LitWithin, ClausesWithin};
-ghost use Rattle.trail_prop.specs.Open.{LitsWithin, value_of, IsComplete};
-ghost use Rattle.trail_prop.specs.declared.entry.Entry.{Entry};
+ghost use Rattle.trail_prop.specs.Open.{LitsWithin, value_known, IsComplete};
+ghost use Rattle.trail_prop.specs.declared.entry.TrailEntry.{TrailEntry};
 ghost use Rattle.trail_prop.specs.Entries.{lits_of, level_of};
 ghost use Rattle.trail_prop.specs.Trails.{IsTrail, IsFalseAt, Grows, forced_at, is_up_to, AboveIs, IsCut};
 ghost use Rattle.trail_prop.specs.Passes.{PassIs};
 
-use crate::assignment::Assignment;
-use crate::entry::{Conflict, Entry};
-use crate::look::{Look, look_at};
+use crate::assignment::TrueLiterals;
+use crate::entry::{Conflict, TrailEntry};
+use crate::look::{ClauseLook, look_at};
 use clause_db::list::ClauseList;
 use clause_db::lit::Lit;
 use std::alloc::{AllocError as NoMemory, Global};
@@ -22,7 +22,7 @@ use std::marker::Model;
 #[derive(Drop)]
 pub struct PlainTrail {
     clauses: ClauseList,
-    assigned: Assignment,
+    assigned: TrueLiterals,
     level: u32,
 }
 
@@ -38,14 +38,14 @@ impl Model for PlainTrail {
 
 /// What a part of propagation found: a false clause; that none is false and none forces; or that there is more to do.
 #[derive(Clone, Copy, Debug, PartialEq, Eq)]
-pub enum Pass {
+pub enum PropagationStep {
     Found(Conflict),
     Quiet,
     Moved,
 }
 
 /// Whether the last entry is above a level.
-fn is_above(assigned: &Assignment, level: u32) -> bool
+fn is_above(assigned: &TrueLiterals, level: u32) -> bool
     ensures { AboveIs level assigned.now.entries result }
 {
     let entries = assigned.entries();
@@ -58,7 +58,7 @@ fn is_above(assigned: &Assignment, level: u32) -> bool
 }
 
 /// Takes away the last entries while they are above a level.
-fn cut_above(assigned: &mut Assignment, level: u32)
+fn cut_above(assigned: &mut TrueLiterals, level: u32)
     ensures vars { assigned.new.vars ≡ assigned.old.vars }
     ensures cut { IsCut level assigned.old.entries assigned.new.entries }
 {
@@ -73,7 +73,7 @@ impl PlainTrail {
         requires { ClausesWithin clauses.vars clauses.list }
         ensures { IfOk result (λ t. t ≡ record { clauses = clauses; entries = [] }) }
     {
-        let assigned = Assignment::new(alloc, clauses.vars())?;
+        let assigned = TrueLiterals::new(alloc, clauses.vars())?;
         Ok(PlainTrail {
             clauses,
             assigned,
@@ -90,14 +90,14 @@ impl PlainTrail {
     }
 
     /// The literals that are true.
-    pub fn assigned(&self) -> &Assignment
+    pub fn assigned(&self) -> &TrueLiterals
         ensures { result.now ≡ record { vars = self.now.clauses.vars; entries = self.now.entries } }
     {
         &self.assigned
     }
 
     /// The entries in order.
-    pub fn entries(&self) -> &[Entry]
+    pub fn entries(&self) -> &[TrailEntry]
         ensures entries { result.now ≡ self.now.entries }
         ensures trail { IsTrail self.now.clauses self.now.entries }
     {
@@ -107,14 +107,14 @@ impl PlainTrail {
     /// The number of decisions.
     pub fn level(&self) -> u32
         ensures level { result ≡ level_of self.now.entries }
-        ensures top { All (λ (e : Entry). e.level ≤ level_of self.now.entries) self.now.entries }
+        ensures top { All (λ (e : TrailEntry). e.level ≤ level_of self.now.entries) self.now.entries }
     {
         self.level
     }
 
     /// What is known of a variable.
     pub fn value(&self, var: u64) -> Option<bool>
-        ensures { result ≡ value_of (lits_of self.now.entries) var }
+        ensures { result ≡ value_known (lits_of self.now.entries) var }
     {
         if var == 0 || var > self.assigned.vars() as u64 {
             return None;
@@ -149,11 +149,11 @@ impl PlainTrail {
     /// Opens a level with an open literal.
     pub fn decide(&mut self, lit: Lit)
         requires within { LitWithin self.old.clauses.vars lit }
-        requires opens { value_of (lits_of self.old.entries) lit.var ≡ None }
+        requires opens { value_known (lits_of self.old.entries) lit.var ≡ None }
         ensures { self.new ≡ record { clauses = self.old.clauses; entries = self.old.entries ++ record { lit = lit; level = level_of self.old.entries + 1; reason = None } ∷ [] } }
     {
         self.level += 1;
-        self.assigned.push(Entry {
+        self.assigned.push(TrailEntry {
             lit,
             level: self.level,
             reason: None,
@@ -166,7 +166,7 @@ impl PlainTrail {
         ensures pushed { self.new ≡ record { clauses = self.old.clauses; entries = self.old.entries ++ record { lit = lit; level = level_of self.old.entries; reason = Some clause } ∷ [] } }
         ensures room { length self.new.entries ≤ self.new.clauses.vars }
     {
-        self.assigned.push(Entry {
+        self.assigned.push(TrailEntry {
             lit,
             level: self.level,
             reason: Some(clause),
@@ -174,7 +174,7 @@ impl PlainTrail {
     }
 
     /// Looks once at each clause.
-    fn pass(&mut self) -> Pass
+    fn pass(&mut self) -> PropagationStep
         ensures clauses { self.new.clauses ≡ self.old.clauses }
         ensures grows { Grows self.old.entries self.new.entries }
         ensures found { PassIs self.new.clauses self.old.entries self.new.entries result }
@@ -182,17 +182,21 @@ impl PlainTrail {
         let mut moved = false;
         for at in 0..self.clauses.len() {
             match look_at(&self.assigned, self.clauses.get(at + 1)) {
-                Look::False => {
-                    return Pass::Found(Conflict { clause: at + 1 });
+                ClauseLook::False => {
+                    return PropagationStep::Found(Conflict { clause: at + 1 });
                 }
-                Look::Forces(lit) => {
+                ClauseLook::Forces(lit) => {
                     self.force(lit, at + 1);
                     moved = true;
                 }
-                Look::Settled => {}
+                ClauseLook::Settled => {}
             }
         }
-        if moved { Pass::Moved } else { Pass::Quiet }
+        if moved {
+            PropagationStep::Moved
+        } else {
+            PropagationStep::Quiet
+        }
     }
 
     /// Puts every literal on the trail that a clause forces, until a clause is false or none forces any more.
@@ -204,9 +208,9 @@ impl PlainTrail {
     {
         loop {
             match self.pass() {
-                Pass::Found(conflict) => return Some(conflict),
-                Pass::Quiet => return None,
-                Pass::Moved => {}
+                PropagationStep::Found(conflict) => return Some(conflict),
+                PropagationStep::Quiet => return None,
+                PropagationStep::Moved => {}
             }
         }
     }

@@ -10,13 +10,13 @@ ghost use Rattle.trail_prop.specs.Trails.{IsFalseAt, Grows};
 ghost use Rattle.trail_prop.specs.Turn.{IsMove, LeavesOnly};
 ghost use Rattle.trail_prop.specs.Good.{AreGood};
 ghost use Rattle.trail_prop.specs.Watching.{IsWatchful, IsNumber, IsWaiting, watches_at, clause_of, places_of, StandsAt};
-ghost use Rattle.trail_prop.specs.Steps.{AreHeld, IsNextWatch, IsNextLong, MetIs, StepIs};
+ghost use Rattle.trail_prop.specs.Steps.{AreHeld, IsNextWatch, IsNextLong, MetIs, PropagationStepIs};
 
 use crate::entry::Conflict;
 use crate::good::{good_places, has_true};
-use crate::look::{Look, look_at};
-use crate::plain::Pass;
-use crate::turn::{Moved, Places, Turn, turn_of};
+use crate::look::{ClauseLook, look_at};
+use crate::plain::PropagationStep;
+use crate::turn::{ClauseTurn, Moved, WatchPlaces, turn_of};
 use crate::watches::Watch;
 use crate::watching::Watching;
 use clause_db::lit::Lit;
@@ -24,7 +24,7 @@ use std::alloc::AllocError as NoMemory;
 
 /// What became of a watch in the list of a literal that is false now.
 #[derive(Clone, Copy, Debug, PartialEq, Eq)]
-pub enum Met {
+pub enum WatchMet {
     False(Conflict),
     Stays,
     Leaves,
@@ -39,19 +39,19 @@ pub fn propagate(watching: &mut Watching) -> Result<Option<Conflict>, NoMemory>
 {
     loop {
         match step(watching)? {
-            Pass::Found(conflict) => return Ok(Some(conflict)),
-            Pass::Quiet => return Ok(None),
-            Pass::Moved => {}
+            PropagationStep::Found(conflict) => return Ok(Some(conflict)),
+            PropagationStep::Quiet => return Ok(None),
+            PropagationStep::Moved => {}
         }
     }
 }
 
 // Propagates the entry at the head, or looks at the clauses that wait. Where the entry is not of the last level, which
 // is where a decision came before propagation was complete, looks at all clauses.
-fn step(watching: &mut Watching) -> Result<Pass, NoMemory>
+fn step(watching: &mut Watching) -> Result<PropagationStep, NoMemory>
     ensures clauses { watching.new.trail.clauses ≡ watching.old.trail.clauses }
     ensures grows { Grows watching.old.trail.entries watching.new.trail.entries }
-    ensures step { IfOk result (StepIs watching.old watching.new) }
+    ensures step { IfOk result (PropagationStepIs watching.old watching.new) }
 {
     let Some(entry) = watching.next() else {
         return review(watching);
@@ -63,39 +63,39 @@ fn step(watching: &mut Watching) -> Result<Pass, NoMemory>
 }
 
 // Looks at all clauses.
-fn scan(watching: &mut Watching) -> Pass
+fn scan(watching: &mut Watching) -> PropagationStep
     ensures clauses { watching.new.trail.clauses ≡ watching.old.trail.clauses }
     ensures grows { Grows watching.old.trail.entries watching.new.trail.entries }
-    ensures step { StepIs watching.old watching.new result }
+    ensures step { PropagationStepIs watching.old watching.new result }
 {
     match watching.scan() {
-        Some(conflict) => return Pass::Found(conflict),
-        None => return Pass::Quiet,
+        Some(conflict) => return PropagationStep::Found(conflict),
+        None => return PropagationStep::Quiet,
     }
 }
 
 // Meets each watch of the literal that the entry at the head made false, and passes the entry.
-fn visit(watching: &mut Watching, gone: Lit) -> Result<Pass, NoMemory>
+fn visit(watching: &mut Watching, gone: Lit) -> Result<PropagationStep, NoMemory>
     requires within { LitWithin watching.old.trail.clauses.vars gone }
     requires stands { StandsAt watching.old.trail.entries watching.old.head (level_of watching.old.trail.entries) gone }
     ensures clauses { watching.new.trail.clauses ≡ watching.old.trail.clauses }
     ensures grows { Grows watching.old.trail.entries watching.new.trail.entries }
-    ensures step { IfOk result (StepIs watching.old watching.new) }
+    ensures step { IfOk result (PropagationStepIs watching.old watching.new) }
 {
     let mut at = 0;
     while at < watching.count(gone) {
         match meet(watching, gone, at)? {
-            Met::False(conflict) => return Ok(Pass::Found(conflict)),
-            Met::Stays => at += 1,
-            Met::Leaves => {}
+            WatchMet::False(conflict) => return Ok(PropagationStep::Found(conflict)),
+            WatchMet::Stays => at += 1,
+            WatchMet::Leaves => {}
         }
     }
     watching.advance(gone);
-    Ok(Pass::Moved)
+    Ok(PropagationStep::Moved)
 }
 
 // Looks at the clause of a watch, unless the literal that the watch names is true.
-fn meet(watching: &mut Watching, gone: Lit, at: usize) -> Result<Met, NoMemory>
+fn meet(watching: &mut Watching, gone: Lit, at: usize) -> Result<WatchMet, NoMemory>
     requires within { LitWithin watching.old.trail.clauses.vars gone }
     requires place { at < length (watches_at watching.old.lists gone) }
     requires gone { has_lit (lits_of watching.old.trail.entries) (opposite gone) ≡ true }
@@ -108,7 +108,7 @@ fn meet(watching: &mut Watching, gone: Lit, at: usize) -> Result<Met, NoMemory>
     let watch = watching.watch(gone, at);
     let blocker = watch.blocker();
     if watching.plain().assigned().is_true(blocker) {
-        return Ok(Met::Stays);
+        return Ok(WatchMet::Stays);
     }
     if watch.pair {
         return Ok(follow(watching, gone, at, watch, blocker));
@@ -117,7 +117,7 @@ fn meet(watching: &mut Watching, gone: Lit, at: usize) -> Result<Met, NoMemory>
 }
 
 // Forces the one literal of a clause that may be open, the others being false.
-fn follow(watching: &mut Watching, gone: Lit, at: usize, watch: Watch, lit: Lit) -> Met
+fn follow(watching: &mut Watching, gone: Lit, at: usize, watch: Watch, lit: Lit) -> WatchMet
     requires within { LitWithin watching.old.trail.clauses.vars lit }
     requires next { IsNextWatch watching.old gone at watch }
     requires only { LeavesOnly (lits_of watching.old.trail.entries) (clause_of watching.old.trail.clauses.list (watch.clause - 1)) lit }
@@ -129,14 +129,19 @@ fn follow(watching: &mut Watching, gone: Lit, at: usize, watch: Watch, lit: Lit)
 {
     let number = watch.clause as u64;
     if watching.plain().assigned().is_true(lit.opposite()) {
-        return Met::False(Conflict { clause: number });
+        return WatchMet::False(Conflict { clause: number });
     }
     watching.force(lit, number);
-    Met::Stays
+    WatchMet::Stays
 }
 
 // Looks at a clause of more than two literals.
-fn meet_long(watching: &mut Watching, gone: Lit, at: usize, watch: Watch) -> Result<Met, NoMemory>
+fn meet_long(
+    watching: &mut Watching,
+    gone: Lit,
+    at: usize,
+    watch: Watch,
+) -> Result<WatchMet, NoMemory>
     requires next { IsNextLong watching.old gone at watch }
     requires gone { has_lit (lits_of watching.old.trail.entries) (opposite gone) ≡ true }
     ensures clauses { watching.new.trail.clauses ≡ watching.old.trail.clauses }
@@ -148,21 +153,21 @@ fn meet_long(watching: &mut Watching, gone: Lit, at: usize, watch: Watch) -> Res
     let clause = watching.plain().clauses().get(number);
     let places = watching.places(number);
     match turn_of(watching.plain().assigned(), clause, places, gone) {
-        Turn::Holds(other) => {
+        ClauseTurn::Holds(other) => {
             watching.put(gone, at, watch.blocked_by(other));
-            return Ok(Met::Stays);
+            return Ok(WatchMet::Stays);
         }
-        Turn::Moves(moved) => return rewatch(watching, gone, at, watch, moved),
-        Turn::Leaves(other) => return Ok(keep_on(watching, gone, at, watch, other)),
-        Turn::Lost => {
+        ClauseTurn::Moves(moved) => return rewatch(watching, gone, at, watch, moved),
+        ClauseTurn::Leaves(other) => return Ok(keep_on(watching, gone, at, watch, other)),
+        ClauseTurn::Lost => {
             watching.shelve(gone, at, number)?;
-            return Ok(Met::Leaves);
+            return Ok(WatchMet::Leaves);
         }
     }
 }
 
 // Names the literal of a clause that may be open in its watch, and forces it.
-fn keep_on(watching: &mut Watching, gone: Lit, at: usize, watch: Watch, other: Lit) -> Met
+fn keep_on(watching: &mut Watching, gone: Lit, at: usize, watch: Watch, other: Lit) -> WatchMet
     requires next { IsNextLong watching.old gone at watch }
     requires other { LitWithin watching.old.trail.clauses.vars other }
     requires watchful { IsWatchful watching.old }
@@ -185,7 +190,7 @@ fn rewatch(
     at: usize,
     watch: Watch,
     moved: Moved,
-) -> Result<Met, NoMemory>
+) -> Result<WatchMet, NoMemory>
     requires next { IsNextLong watching.old gone at watch }
     requires watchful { IsWatchful watching.old }
     requires lit { LitWithin watching.old.trail.clauses.vars moved.lit }
@@ -198,15 +203,15 @@ fn rewatch(
 {
     watching.hang(moved.lit, watch.blocked_by(moved.other))?;
     watching.leave(gone, at, watch.clause as u64, moved);
-    Ok(Met::Leaves)
+    Ok(WatchMet::Leaves)
 }
 
 // Looks at each clause that waits, and then has each that can be watched watch two literals.
-fn review(watching: &mut Watching) -> Result<Pass, NoMemory>
+fn review(watching: &mut Watching) -> Result<PropagationStep, NoMemory>
     requires { watching.old.head ≡ length watching.old.trail.entries }
     ensures clauses { watching.new.trail.clauses ≡ watching.old.trail.clauses }
     ensures grows { Grows watching.old.trail.entries watching.new.trail.entries }
-    ensures step { IfOk result (StepIs watching.old watching.new) }
+    ensures step { IfOk result (PropagationStepIs watching.old watching.new) }
 {
     let pass = look_again(watching);
     take_up_all(watching)?;
@@ -214,27 +219,27 @@ fn review(watching: &mut Watching) -> Result<Pass, NoMemory>
 }
 
 // Looks at each clause that waits.
-fn look_again(watching: &mut Watching) -> Pass
+fn look_again(watching: &mut Watching) -> PropagationStep
     requires { watching.old.head ≡ length watching.old.trail.entries }
     ensures clauses { watching.new.trail.clauses ≡ watching.old.trail.clauses }
     ensures head { watching.new.head ≡ watching.old.head }
     ensures grows { Grows watching.old.trail.entries watching.new.trail.entries }
-    ensures step { StepIs watching.old watching.new result }
+    ensures step { PropagationStepIs watching.old watching.new result }
 {
     let before = watching.plain().entries().len();
     for at in 0..watching.pending() {
         let number = watching.waiting(at);
         let plain = watching.plain();
         match look_at(plain.assigned(), plain.clauses().get(number)) {
-            Look::False => return Pass::Found(Conflict { clause: number }),
-            Look::Forces(lit) => watching.force(lit, number),
-            Look::Settled => {}
+            ClauseLook::False => return PropagationStep::Found(Conflict { clause: number }),
+            ClauseLook::Forces(lit) => watching.force(lit, number),
+            ClauseLook::Settled => {}
         }
     }
     if watching.plain().entries().len() > before {
-        Pass::Moved
+        PropagationStep::Moved
     } else {
-        Pass::Quiet
+        PropagationStep::Quiet
     }
 }
 
@@ -277,7 +282,7 @@ fn watch_two(
     watching: &mut Watching,
     at: usize,
     number: u64,
-    places: Places,
+    places: WatchPlaces,
 ) -> Result<bool, NoMemory>
     requires waits { IsWaiting watching.old at number }
     requires number { IsNumber (length watching.old.trail.clauses.list) number }

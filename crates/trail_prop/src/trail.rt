@@ -3,12 +3,12 @@
 ghost use Rattle.std.specs.Prelude.{ℕ, ◌≡◌, ◌+◌, ◌≤◌, ◌++◌, ◌∷◌, [], filter, IfOk, IfSome, IfNone, OnOk, OnErr, None, Some};
 ghost use Rattle.clause_db.specs.Clause.{clause_at};
 ghost use Rattle.clause_db.specs.Clauses.{LitWithin, ClausesWithin};
-ghost use Rattle.trail_prop.specs.declared.entry.Entry.{Entry};
-ghost use Rattle.trail_prop.specs.Entries.{lits_of, level_of, IsEntry, IsEntryOf};
-ghost use Rattle.trail_prop.specs.Open.{LitsWithin, value_of, IsComplete};
+ghost use Rattle.trail_prop.specs.declared.entry.TrailEntry.{TrailEntry};
+ghost use Rattle.trail_prop.specs.Entries.{lits_of, level_of, IsTrailEntry, IsEntryOf};
+ghost use Rattle.trail_prop.specs.Open.{LitsWithin, value_known, IsComplete};
 ghost use Rattle.trail_prop.specs.Trails.{IsTrail, IsFalseAt, Grows, is_up_to};
 
-use crate::entry::{Conflict, Entry};
+use crate::entry::{Conflict, TrailEntry};
 use crate::propagate::propagate;
 use crate::watching::Watching;
 use clause_db::list::ClauseList;
@@ -52,7 +52,7 @@ impl Trail {
 
     /// The entries in order: each with the number of decisions up to it, and the number of the clause that forced it by
     /// the entries before.
-    pub fn entries(&self) -> &[Entry]
+    pub fn entries(&self) -> &[TrailEntry]
         ensures entries { result.now ≡ self.now.entries }
         ensures trail { IsTrail self.now.clauses self.now.entries }
     {
@@ -69,17 +69,17 @@ impl Trail {
     /// Whether a variable is true or false, if that is known; none of a number that is no variable. It is one look into
     /// an array.
     pub fn value(&self, var: u64) -> Option<bool>
-        ensures { result ≡ value_of (lits_of self.now.entries) var }
+        ensures { result ≡ value_known (lits_of self.now.entries) var }
     {
         self.watching.plain().value(var)
     }
 
     /// The entry of a variable, if it has one. It is one look into an array.
-    pub fn entry_of(&self, var: u64) -> Option<Entry>
+    pub fn entry_of(&self, var: u64) -> Option<TrailEntry>
         requires from_one { 1 ≤ var }
         requires to_vars { var ≤ self.now.clauses.vars }
         ensures found { IfSome result (λ e. IsEntryOf self.now.entries var e) }
-        ensures only { (k : ℕ) (e : Entry) → IsEntry self.now.entries k e → e.lit.var ≡ var → result ≡ Some e }
+        ensures only { (k : ℕ) (e : TrailEntry) → IsTrailEntry self.now.entries k e → e.lit.var ≡ var → result ≡ Some e }
     {
         self.watching.plain().assigned().entry_of(var)
     }
@@ -97,7 +97,7 @@ impl Trail {
     /// Opens a level with a literal whose variable has no value. It takes no memory.
     pub fn decide(&mut self, lit: Lit)
         requires within { LitWithin self.old.clauses.vars lit }
-        requires opens { value_of (lits_of self.old.entries) lit.var ≡ None }
+        requires opens { value_known (lits_of self.old.entries) lit.var ≡ None }
         ensures { self.new ≡ record { clauses = self.old.clauses; entries = self.old.entries ++ record { lit = lit; level = level_of self.old.entries + 1; reason = None } ∷ [] } }
     {
         self.watching.decide(lit);

@@ -7,22 +7,22 @@ ghost use Rattle.trail_prop.specs.Open.{LitsWithin};
 ghost use Rattle.trail_prop.specs.Find.{FindIs};
 ghost use Rattle.trail_prop.specs.Turn.{SidesAre, TurnIs};
 
-use crate::assignment::Assignment;
+use crate::assignment::TrueLiterals;
 use clause_db::lit::Lit;
 
 /// The places of the two literals that a clause watches.
 #[derive(Clone, Copy, Debug, PartialEq, Eq)]
-pub struct Places {
+pub struct WatchPlaces {
     pub first: usize,
     pub second: usize,
 }
 
-impl Places {
+impl WatchPlaces {
     /// No place in particular, for a clause that is not watched.
-    pub fn none() -> Places
+    pub fn none() -> WatchPlaces
         ensures { result ≡ record { first = 0; second = 0 } }
     {
-        Places {
+        WatchPlaces {
             first: 0,
             second: 0,
         }
@@ -39,7 +39,7 @@ pub struct Sides {
 /// The places that a clause watches from now on, the new one first, and the literals there.
 #[derive(Clone, Copy, Debug, PartialEq, Eq)]
 pub struct Moved {
-    pub places: Places,
+    pub places: WatchPlaces,
     pub lit: Lit,
     pub other: Lit,
 }
@@ -47,7 +47,7 @@ pub struct Moved {
 /// What a clause does: its other watched literal is true; it watches another literal; all its literals but the other
 /// watched one are false; or it can't be watched.
 #[derive(Clone, Copy, Debug, PartialEq, Eq)]
-pub enum Turn {
+pub enum ClauseTurn {
     Holds(Lit),
     Moves(Moved),
     Leaves(Lit),
@@ -55,7 +55,7 @@ pub enum Turn {
 }
 
 // Which of the two places has this literal.
-fn sides_of(clause: &[Lit], places: Places, gone: Lit) -> Option<Sides>
+fn sides_of(clause: &[Lit], places: WatchPlaces, gone: Lit) -> Option<Sides>
     ensures { SidesAre clause.now places gone result }
 {
     if places.first >= clause.len() || places.second >= clause.len() {
@@ -77,7 +77,7 @@ fn sides_of(clause: &[Lit], places: Places, gone: Lit) -> Option<Sides>
 }
 
 // A place of the clause, other than these two, whose literal is not false.
-fn find_place(assigned: &Assignment, clause: &[Lit], sides: Sides) -> Option<usize>
+fn find_place(assigned: &TrueLiterals, clause: &[Lit], sides: Sides) -> Option<usize>
     requires { LitsWithin assigned.now.vars clause.now }
     ensures { FindIs (lits_of assigned.now.entries) clause.now sides.mine sides.other result }
 {
@@ -90,30 +90,35 @@ fn find_place(assigned: &Assignment, clause: &[Lit], sides: Sides) -> Option<usi
 }
 
 /// What a clause does that watches these places, now that this literal is false.
-pub fn turn_of(assigned: &Assignment, clause: &[Lit], places: Places, gone: Lit) -> Turn
+pub fn turn_of(
+    assigned: &TrueLiterals,
+    clause: &[Lit],
+    places: WatchPlaces,
+    gone: Lit,
+) -> ClauseTurn
     requires within { LitsWithin assigned.now.vars clause.now }
     requires gone { has_lit (lits_of assigned.now.entries) (opposite gone) ≡ true }
     ensures { TurnIs (lits_of assigned.now.entries) clause.now places gone result }
 {
     let Some(sides) = sides_of(clause, places, gone) else {
-        return Turn::Lost;
+        return ClauseTurn::Lost;
     };
     let other = clause[sides.other];
     if other == gone {
-        return Turn::Lost;
+        return ClauseTurn::Lost;
     }
     if assigned.is_true(other) {
-        return Turn::Holds(other);
+        return ClauseTurn::Holds(other);
     }
     let Some(at) = find_place(assigned, clause, sides) else {
-        return Turn::Leaves(other);
+        return ClauseTurn::Leaves(other);
     };
     let lit = clause[at];
     if lit == other {
-        return Turn::Lost;
+        return ClauseTurn::Lost;
     }
-    Turn::Moves(Moved {
-        places: Places {
+    ClauseTurn::Moves(Moved {
+        places: WatchPlaces {
             first: at,
             second: sides.other,
         },

@@ -5,16 +5,16 @@ ghost use Rattle.std.specs.List.{All};
 ghost use Rattle.clause_db.specs.Clause.{clause_at, opposite, has_lit};
 ghost use Rattle.clause_db.specs.Clauses.{LitWithin, ClausesWithin};
 ghost use Rattle.trail_prop.specs.Entries.{lits_of, level_of};
-ghost use Rattle.trail_prop.specs.Open.{LitsWithin, value_of, IsComplete};
+ghost use Rattle.trail_prop.specs.Open.{LitsWithin, value_known, IsComplete};
 ghost use Rattle.trail_prop.specs.Trails.{forced_at, IsFalseAt, Grows, is_up_to};
 ghost use Rattle.trail_prop.specs.Turn.{IsMove};
 ghost use Rattle.trail_prop.specs.Watching.{WatchFits, IsNumber, IsWatchOf, IsWaiting, IsWatched, IsFixed, IsWatchful, watches_at, watches_of, waits, clause_of, places_of, AllWait, StandsAt};
-ghost use Rattle.trail_prop.specs.Steps.{onto, relisted, Shrinks, IsHeld, NextIs};
+ghost use Rattle.trail_prop.specs.Steps.{onto, relisted, Shrinks, IsWatchHeld, NextIs};
 
 use crate::assignment::code;
-use crate::entry::{Conflict, Entry};
+use crate::entry::{Conflict, TrailEntry};
 use crate::plain::PlainTrail;
-use crate::turn::{Moved, Places};
+use crate::turn::{Moved, WatchPlaces};
 use crate::watches::{Watch, Watches};
 use clause_db::list::ClauseList;
 use clause_db::lit::Lit;
@@ -27,7 +27,7 @@ use std::marker::Model;
 pub struct Watching {
     plain: PlainTrail,
     watches: Watches,
-    places: Vec<Places>,
+    places: Vec<WatchPlaces>,
     pending: Vec<u64>,
     head: usize,
 }
@@ -54,12 +54,12 @@ fn all_numbers(alloc: Global, count: u64) -> Result<Vec<u64>, NoMemory>
 }
 
 // Places for so many clauses, none of which is watched yet.
-fn no_places(alloc: Global, count: u64) -> Result<Vec<Places>, NoMemory>
+fn no_places(alloc: Global, count: u64) -> Result<Vec<WatchPlaces>, NoMemory>
     ensures { IfOk result (λ places. length places.items ≡ count) }
 {
     let mut places = Vec::new(alloc);
     for _ in 0..count {
-        places.push(Places::none())?;
+        places.push(WatchPlaces::none())?;
     }
     Ok(places)
 }
@@ -93,7 +93,7 @@ impl Watching {
     }
 
     /// The entry at the head, if not all are propagated.
-    pub fn next(&self) -> Option<Entry>
+    pub fn next(&self) -> Option<TrailEntry>
         ensures { NextIs self.now result }
     {
         let entries = self.plain.entries();
@@ -123,7 +123,7 @@ impl Watching {
     }
 
     /// The places that the clause of a number watches, if it does.
-    pub fn places(&self, number: u64) -> Places
+    pub fn places(&self, number: u64) -> WatchPlaces
         requires { IsNumber (length self.now.trail.clauses.list) number }
         ensures { result ≡ places_of self.now.places (number - 1) }
     {
@@ -155,7 +155,7 @@ impl Watching {
         self.places.reserve(1)?;
         self.pending.reserve(1)?;
         self.plain.add(clause)?;
-        self.places.push_reserved(Places::none());
+        self.places.push_reserved(WatchPlaces::none());
         self.pending.push_reserved(self.plain.clauses().len());
         Ok(())
     }
@@ -163,7 +163,7 @@ impl Watching {
     /// Opens a level with a literal whose variable has no value.
     pub fn decide(&mut self, lit: Lit)
         requires within { LitWithin self.old.trail.clauses.vars lit }
-        requires opens { value_of (lits_of self.old.trail.entries) lit.var ≡ None }
+        requires opens { value_known (lits_of self.old.trail.entries) lit.var ≡ None }
         ensures { self.new.trail ≡ record { clauses = self.old.trail.clauses; entries = self.old.trail.entries ++ record { lit = lit; level = level_of self.old.trail.entries + 1; reason = None } ∷ [] } }
     {
         self.plain.decide(lit);
@@ -202,7 +202,7 @@ impl Watching {
     /// Passes the entry at the head, once each clause that watches its opposite has a true literal.
     pub fn advance(&mut self, gone: Lit)
         requires stands { StandsAt self.old.trail.entries self.old.head (level_of self.old.trail.entries) gone }
-        requires held { All (IsHeld self.old) (watches_at self.old.lists gone) }
+        requires held { All (IsWatchHeld self.old) (watches_at self.old.lists gone) }
         ensures trail { self.new.trail ≡ self.old.trail }
         ensures head { self.new.head ≡ self.old.head + 1 }
         ensures room { length self.new.trail.entries + self.new.head ≤ 2 * self.new.trail.clauses.vars }
@@ -271,7 +271,7 @@ impl Watching {
     }
 
     /// Has a clause wait no longer that is watched from now on.
-    pub fn settle(&mut self, at: usize, number: u64, places: Places)
+    pub fn settle(&mut self, at: usize, number: u64, places: WatchPlaces)
         requires waits { IsWaiting self.old at number }
         requires number { IsNumber (length self.old.trail.clauses.list) number }
         requires watched { IsWatched self.old.trail.entries self.old.head self.old.lists number (clause_of self.old.trail.clauses.list (number - 1)) places }

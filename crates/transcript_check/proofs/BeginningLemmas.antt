@@ -6,7 +6,7 @@ use Rattle.pack_defs.specs.declared.order.Order.{Order}
 use Rattle.pack_defs.specs.Book.{BookView}
 use Rattle.pack_defs.specs.ClockRule.{ClockTest, clock_tests}
 use Rattle.cert_types.specs.declared.answer.Place.{Place}
-use Rattle.lrat_text.specs.Lines.{whole_lines}
+use Rattle.lrat_text.specs.Lines.{ended_lines}
 use Rattle.auction_core.specs.declared.record.Shown.{Shown}
 use Rattle.auction_core.specs.declared.prefix.Prefix.{Prefix}
 use Rattle.auction_core.specs.declared.prefix.ShownWhy.TheVariants.{Order as WrongTest}
@@ -14,14 +14,14 @@ use Rattle.auction_core.specs.declared.transcript.Transcript.{Transcript}
 use Rattle.auction_core.specs.declared.transcript.TranscriptStep.{TranscriptStep}
 use Rattle.auction_core.specs.State.{CoreState, settled, test_of}
 use Rattle.auction_core.specs.Backed.{after_start}
-use Rattle.auction_core.specs.NotShown.{NotShown, at_test, end_fault, is_test, next_asked, not_kept, not_shown, not_shown_at, start_fault, step_fault, step_or, steps_fault, within}
+use Rattle.auction_core.specs.NotShown.{NotShown, at_test, fault_at_end, is_test, next_asked, not_kept, not_shown, not_shown_at, start_fault, step_fault, step_fault_or, steps_fault, within_steps}
 use Rattle.auction_core.proofs.KeptLemmas.{within-behind}
 use Rattle.auction_core.proofs.WalkLemmas.{step_or-parts}
 use Rattle.transcript_text.specs.declared.error.TextErr.{TextErr}
 use Rattle.transcript_text.specs.declared.error.TextErr.TheVariants.{Version, BadLine, Truncated, NoMemory}
 use Rattle.transcript_text.specs.PrefixReading.{IsPrefixOf, StepsThere, goes_on_there, if_there, nothing_there, order_there, prefix_of, start_there, steps_there, transcript_there}
 use Rattle.transcript_text.specs.Reading.{start_at, transcript_of, version_at}
-use Rattle.transcript_text.specs.Steps.{◌>>=◌}
+use Rattle.pack_defs.specs.Steps.{◌>>=◌}
 use Rattle.transcript_text.proofs.PrefixLaws.{prefix-first}
 
 -- ---- the first steps of steps without a fault
@@ -38,7 +38,7 @@ if-none true step o e = (refl, e)
 if-none false step o e = absurd (no-test step e)
 
 -- what is missing behind these steps is not within them
-end-behind : (k : ℕ) (ts : List ClockTest) → within k (end_fault (k + 1) ts) ≡ None
+end-behind : (k : ℕ) (ts : List ClockTest) → within_steps k (fault_at_end (k + 1) ts) ≡ None
 end-behind k [] = refl
 end-behind k (t ∷ ts) = within-behind k WrongTest
 
@@ -46,8 +46,8 @@ and-none : (k : ℕ) → k ≡ k + 0
 and-none k = omega arith
 
 -- nor behind these and no more
-end-there : (k : ℕ) (ts : List ClockTest) → within (k + 0) (end_fault (k + 1) ts) ≡ None
-end-there k ts = subst (λ m. within m (end_fault (k + 1) ts) ≡ None) (and-none k) (end-behind k ts)
+end-there : (k : ℕ) (ts : List ClockTest) → within_steps (k + 0) (fault_at_end (k + 1) ts) ≡ None
+end-there k ts = subst (λ m. within_steps m (fault_at_end (k + 1) ts) ≡ None) (and-none k) (end-behind k ts)
 
 shift : (k l : ℕ) → (k + 1) + l ≡ k + suc l
 shift k l = omega arith
@@ -58,7 +58,7 @@ none-before n = omega arith
 -- of steps without a fault no first ones have one within them
 first-steps : (sc : Scenario) (book : BookView) (n k : ℕ) (state : CoreState) (ts : List ClockTest) (xs : List TranscriptStep)
     → steps_fault sc book (k + 1) state ts xs ≡ None
-    → within (k + length (take n xs)) (steps_fault sc book (k + 1) state ts (take n xs)) ≡ None
+    → within_steps (k + length (take n xs)) (steps_fault sc book (k + 1) state ts (take n xs)) ≡ None
 unfolding steps_fault
 first-steps sc book zero k state ts xs e = end-there k (next_asked state.clock ts)
 first-steps sc book (suc n) k state ts [] e = end-there k (next_asked state.clock ts)
@@ -72,28 +72,28 @@ first-steps sc book (suc n) k state ts (x ∷ xs) e =
     first = take n xs
 
     go : (left : List ClockTest) → at_test sc book (k + 1) state x left (λ rest. steps_fault sc book (k + 1 + 1) next rest xs) ≡ None
-        → ((us : List ClockTest) → steps_fault sc book (k + 1 + 1) next us xs ≡ None → within (k + 1 + length first) (steps_fault sc book (k + 1 + 1) next us first) ≡ None)
-        → within (k + suc (length first)) (at_test sc book (k + 1) state x left (λ rest. steps_fault sc book (k + 1 + 1) next rest first)) ≡ None
+        → ((us : List ClockTest) → steps_fault sc book (k + 1 + 1) next us xs ≡ None → within_steps (k + 1 + length first) (steps_fault sc book (k + 1 + 1) next us first) ≡ None)
+        → within_steps (k + suc (length first)) (at_test sc book (k + 1) state x left (λ rest. steps_fault sc book (k + 1 + 1) next rest first)) ≡ None
     go [] f more = absurd (no-test (k + 1) f)
     go (t ∷ us) f more =
-        let test = if-none (is_test t x) (k + 1) (step_or (k + 1) (step_fault sc book state x) (steps_fault sc book (k + 1 + 1) next us xs)) f in
+        let test = if-none (is_test t x) (k + 1) (step_fault_or (k + 1) (step_fault sc book state x) (steps_fault sc book (k + 1 + 1) next us xs)) f in
         let both = step_or-parts (k + 1) (step_fault sc book state x) (steps_fault sc book (k + 1 + 1) next us xs) test.1 in
         let found : Option NotShown = steps_fault sc book (k + 1 + 1) next us first in
-        ap (λ (b : Bool). within (k + suc (length first)) (if b then step_or (k + 1) (step_fault sc book state x) found else not_shown_at (k + 1) WrongTest)) test.0
-        ∙ (ap (λ (o : Option Place). within (k + suc (length first)) (step_or (k + 1) o found)) both.0
-        ∙ subst (λ m. within m found ≡ None) (shift k (length first)) (more us both.1))
+        ap (λ (b : Bool). within_steps (k + suc (length first)) (if b then step_fault_or (k + 1) (step_fault sc book state x) found else not_shown_at (k + 1) WrongTest)) test.0
+        ∙ (ap (λ (o : Option Place). within_steps (k + suc (length first)) (step_fault_or (k + 1) o found)) both.0
+        ∙ subst (λ m. within_steps m found ≡ None) (shift k (length first)) (more us both.1))
 
 -- the same with the start before them
 first-part : (sc : Scenario) (book : BookView) (n : ℕ) (t : Transcript) → not_shown sc book t ≡ None
-    → within (length (take n t.steps)) (not_shown sc book (record { order = t.order; start = t.start; steps = take n t.steps })) ≡ None
+    → within_steps (length (take n t.steps)) (not_shown sc book (record { order = t.order; start = t.start; steps = take n t.steps })) ≡ None
 unfolding not_shown
 first-part sc book n t e =
     let first : CoreState = after_start sc t.order t.start in
     let tests : List ClockTest = clock_tests sc t.order in
     let parts = step_or-parts 0 (start_fault sc book t.start) (steps_fault sc book 1 first tests t.steps) e in
     let found : Option NotShown = steps_fault sc book 1 first tests (take n t.steps) in
-    ap (λ (o : Option Place). within (length (take n t.steps)) (step_or 0 o found)) parts.0
-    ∙ subst (λ m. within m found ≡ None) (none-before (length (take n t.steps))) (first-steps sc book n 0 first tests t.steps parts.1)
+    ap (λ (o : Option Place). within_steps (length (take n t.steps)) (step_fault_or 0 o found)) parts.0
+    ∙ subst (λ m. within_steps m found ≡ None) (none-before (length (take n t.steps))) (first-steps sc book n 0 first tests t.steps parts.1)
 
 -- ---- what is kept
 
@@ -107,7 +107,7 @@ there-clean sc book t own true e h =
     ap (not_shown sc book) (same-transcript own t h.order h.start (ap (λ (p : Prefix). p.steps) (h.all refl))) ∙ e
 there-clean sc book t own false e h =
     let part : Transcript = record { order = t.order; start = t.start; steps = take (length own.steps) t.steps } in
-    ap (λ (x : Transcript). within (length x.steps) (not_shown sc book x)) (same-transcript own part h.order h.start h.steps)
+    ap (λ (x : Transcript). within_steps (length x.steps) (not_shown sc book x)) (same-transcript own part h.order h.start h.steps)
     ∙ first-part sc book (length own.steps) t e
 
 nothing-clean : (sc : Scenario) (book : BookView) → not_kept sc book nothing_there ≡ None
@@ -141,7 +141,7 @@ pub prefix-cases : (P : Prefix → Type 0) (sc : Scenario) (book : BookView) (te
     → So P (prefix_of sc book text)
 unfolding prefix_of start_there goes_on_there
 prefix-cases P sc book text none ordered there =
-    if-so P nothing_there (version_at (whole_lines text)) _ none
+    if-so P nothing_there (version_at (ended_lines text)) _ none
     (λ version. if-so P (order_there version.0) (start_at sc version.1) _ (ordered version.0)
     (λ start. steps-so P version.0 start.0 (steps_there sc book (length start.1.left) 0 start.1) there))
 

@@ -15,7 +15,7 @@ use Rattle.auction_core.specs.declared.transcript.TranscriptStep.{TranscriptStep
 use Rattle.auction_core.specs.State.{CoreState, settled, test_of}
 use Rattle.auction_core.specs.Backed.{IsBacked, IsCarriedThrough, IsEnded, after_start, undecided_of}
 use Rattle.auction_core.specs.LogNumbers.{AreNumbered, steps_in}
-use Rattle.auction_core.specs.NotShown.{at_test, is_test, next_asked, not_shown, start_fault, step_fault, step_or, steps_fault}
+use Rattle.auction_core.specs.NotShown.{at_test, is_test, next_asked, not_shown, start_fault, step_fault, step_fault_or, steps_fault}
 use Rattle.auction_core.specs.Rule.{IsAuction}
 use Rattle.auction_core.proofs.Done.{AreListed, asked-apart, listed-shown}
 use Rattle.auction_core.proofs.StepLemmas.{step-shown}
@@ -97,7 +97,7 @@ numbered sc book step state ts (x ∷ xs) e =
         → AreNumbered sc book state (x ∷ xs)
     go [] f more = absurd (no-test step f)
     go (t ∷ us) f more =
-        let test = if-none (is_test t x) step (step_or step (step_fault sc book state x) (steps_fault sc book (step + 1) next us xs)) f in
+        let test = if-none (is_test t x) step (step_fault_or step (step_fault sc book state x) (steps_fault sc book (step + 1) next us xs)) f in
         let parts = step_or-parts step (step_fault sc book state x) (steps_fault sc book (step + 1) next us xs) test.1 in
         ((step-shown sc book state x parts.0).1, more us parts.1)
 

@@ -3,13 +3,14 @@ use Rattle.std.proofs.Common.{◌≡◌, ◌≤◌, ◌+◌, ◌∙◌, ℕ, zer
 use Rattle.pack_defs.specs.declared.scenario.Scenario.{Scenario}
 use Rattle.pack_defs.specs.declared.order.Order.{Order}
 use Rattle.auction_core.specs.declared.record.Shown.{Shown}
-use Rattle.lrat_text.specs.Lines.{is_whole, whole_lines}
+use Rattle.lrat_text.specs.Lines.{is_whole, ended_lines}
 use Rattle.pack_defs.specs.Book.{BookView}
 use Rattle.transcript_text.specs.declared.error.TextErr.{TextErr}
 use Rattle.transcript_text.specs.declared.error.TextErr.TheVariants.{Version, BadLine, Truncated, NoMemory}
 use Rattle.auction_core.specs.declared.transcript.Transcript.{Transcript}
 use Rattle.auction_core.specs.declared.transcript.TranscriptStep.{TranscriptStep}
-use Rattle.transcript_text.specs.Steps.{◌>>=◌, Fails, Gives}
+use Rattle.pack_defs.specs.Steps.{◌>>=◌}
+use Rattle.transcript_text.specs.Steps.{Fails, Gives}
 use Rattle.transcript_text.specs.Fields.{LinesLeft}
 use Rattle.transcript_text.specs.Reading.{next_step, start_at, step_or, steps_at, text_end, transcript_of, version_at}
 use Rattle.transcript_text.specs.Pieces.{IsAtEnd, ReadsOn, StepsSoFar, begins, ended_by, ends_or_goes_on, goes_on, opened_at, stopped, with_lines}
@@ -178,9 +179,9 @@ fault-read sc book begun lines whole why read = subst (λ (ls : LinesLeft). Fail
 abbrev begun-with : Order → Shown × LinesLeft → Result (Transcript × LinesLeft) TextErr
 begun-with order start = Ok (record { order = order; start = start.0; steps = [] }, start.1)
 
-transcript-opened : (sc : Scenario) (book : BookView) (text : List ℕ) → transcript_of sc book text ≡ (opened_at sc (whole_lines text) >>= λ o. goes_on sc book o.0 (is_whole text) o.1)
+transcript-opened : (sc : Scenario) (book : BookView) (text : List ℕ) → transcript_of sc book text ≡ (opened_at sc (ended_lines text) >>= λ o. goes_on sc book o.0 (is_whole text) o.1)
 unfolding transcript_of opened_at goes_on
-transcript-opened sc book text = go (version_at (whole_lines text))
+transcript-opened sc book text = go (version_at (ended_lines text))
   where
     from : (order : Order) (r : Result (Shown × LinesLeft) TextErr)
         → (r >>= λ start. steps_at sc book (length start.1.left) 0 start.1 >>= λ steps. text_end (is_whole text) steps.1 >>= λ u. Ok (record { order = order; start = start.0; steps = steps.0 }))
@@ -211,17 +212,17 @@ begins-opened sc book whole lines = go (version_at lines)
     go (Err e) = refl
 
 pub opened-gives : (sc : Scenario) (book : BookView) (text : List ℕ) (begun : Transcript) (lines : LinesLeft) (whole : Bool) (result : Result Transcript TextErr)
-    → opened_at sc (whole_lines text) ≡ Ok (begun, lines) → whole ≡ is_whole text → Gives (λ (t : Transcript). t) (goes_on sc book begun whole lines) result → Gives (λ (t : Transcript). t) (transcript_of sc book text) result
+    → opened_at sc (ended_lines text) ≡ Ok (begun, lines) → whole ≡ is_whole text → Gives (λ (t : Transcript). t) (goes_on sc book begun whole lines) result → Gives (λ (t : Transcript). t) (transcript_of sc book text) result
 opened-gives sc book text begun lines whole result e w h =
     let all : transcript_of sc book text ≡ goes_on sc book begun whole lines =
     transcript-opened sc book text ∙ ap (λ (r : Result (Transcript × LinesLeft) TextErr). r >>= λ o. goes_on sc book o.0 (is_whole text) o.1) e ∙ ap (λ (b : Bool). goes_on sc book begun b lines) (sym w) in
     subst (λ (r : Result Transcript TextErr). Gives (λ (t : Transcript). t) r result) (sym all) h
 
-pub opened-fails : (sc : Scenario) (book : BookView) (text : List ℕ) (why : TextErr) → Fails why (opened_at sc (whole_lines text)) → Fails why (transcript_of sc book text)
-opened-fails sc book text why h = stops (λ o. goes_on sc book o.0 (is_whole text) o.1) why (opened_at sc (whole_lines text)) (transcript_of sc book text) (transcript-opened sc book text) h
+pub opened-fails : (sc : Scenario) (book : BookView) (text : List ℕ) (why : TextErr) → Fails why (opened_at sc (ended_lines text)) → Fails why (transcript_of sc book text)
+opened-fails sc book text why h = stops (λ o. goes_on sc book o.0 (is_whole text) o.1) why (opened_at sc (ended_lines text)) (transcript_of sc book text) (transcript-opened sc book text) h
 
-pub transcript-begins : (sc : Scenario) (book : BookView) (text : List ℕ) → transcript_of sc book text ≡ begins sc book (is_whole text) (whole_lines text)
-transcript-begins sc book text = transcript-opened sc book text ∙ sym (begins-opened sc book (is_whole text) (whole_lines text))
+pub transcript-begins : (sc : Scenario) (book : BookView) (text : List ℕ) → transcript_of sc book text ≡ begins sc book (is_whole text) (ended_lines text)
+transcript-begins sc book text = transcript-opened sc book text ∙ sym (begins-opened sc book (is_whole text) (ended_lines text))
 
 -- the whole is read from where the first lines end, or is refused by their fault
 pub begins-from : (sc : Scenario) (book : BookView) (lines : List (List ℕ)) (begun : Transcript) (rest : LinesLeft) (whole : Bool) (more : List (List ℕ))

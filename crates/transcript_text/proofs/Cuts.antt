@@ -2,33 +2,33 @@
 use Rattle.std.proofs.Common.{◌≡◌, ◌<◌, ◌≤◌, ◌-◌, ◌==◌, ◌&&◌, ◌∙◌, ℕ, zero, suc, Bool, true, false, List, [], ◌∷◌, ◌++◌, refl, sym, ap, subst, append_assoc, append-nil, arith, take, drop, length, if◌then◌else◌}
 use Rattle.std.proofs.lemmas.List.{drop_all, length-drop, take-append-drop, take_all}
 use Rattle.pack_defs.specs.Lists.{is_empty}
-use Rattle.lrat_text.specs.Lines.{whole_lines, is_whole, onto_first}
+use Rattle.lrat_text.specs.Lines.{ended_lines, is_whole, onto_first_line}
 use Rattle.transcript_text.specs.Pieces.{HasLinesOf}
 
 onto-append : (c : ℕ) (b : Bool) (lines more : List (List ℕ)) → (b ≡ false → is_empty lines ≡ false)
-    → (if b then [] ∷ (lines ++ more) else onto_first c (lines ++ more)) ≡ (if b then [] ∷ lines else onto_first c lines) ++ more
+    → (if b then [] ∷ (lines ++ more) else onto_first_line c (lines ++ more)) ≡ (if b then [] ∷ lines else onto_first_line c lines) ++ more
 onto-append c true lines more some = refl
 onto-append c false [] more some = absurd cc (some refl)
 onto-append c false (line ∷ lines) more some = refl
 
 -- a text that ends with its last line has one, unless it is empty
-some-line : (c : ℕ) (text : List ℕ) → is_whole (c ∷ text) ≡ true → is_empty (whole_lines (c ∷ text)) ≡ false
-unfolding is_whole whole_lines
+some-line : (c : ℕ) (text : List ℕ) → is_whole (c ∷ text) ≡ true → is_empty (ended_lines (c ∷ text)) ≡ false
+unfolding is_whole ended_lines
 some-line c [] w = rw w refl
-some-line c (d ∷ rest) w = go (c == 10) (whole_lines (d ∷ rest)) (some-line d rest w)
+some-line c (d ∷ rest) w = go (c == 10) (ended_lines (d ∷ rest)) (some-line d rest w)
   where
-    go : (b : Bool) (lines : List (List ℕ)) → is_empty lines ≡ false → is_empty (if b then [] ∷ lines else onto_first c lines) ≡ false
+    go : (b : Bool) (lines : List (List ℕ)) → is_empty lines ≡ false → is_empty (if b then [] ∷ lines else onto_first_line c lines) ≡ false
     go true lines h = refl
     go false [] h = h
     go false (line ∷ lines) h = refl
 
-pub lines-append : (text more : List ℕ) → is_whole text ≡ true → whole_lines (text ++ more) ≡ whole_lines text ++ whole_lines more
-unfolding is_whole whole_lines
+pub lines-append : (text more : List ℕ) → is_whole text ≡ true → ended_lines (text ++ more) ≡ ended_lines text ++ ended_lines more
+unfolding is_whole ended_lines
 lines-append [] more w = refl
 lines-append (c ∷ []) more w = rw w refl
 lines-append (c ∷ d ∷ rest) more w =
-    ap (λ (lines : List (List ℕ)). if c == 10 then [] ∷ lines else onto_first c lines) (lines-append (d ∷ rest) more w)
-    ∙ onto-append c (c == 10) (whole_lines (d ∷ rest)) (whole_lines more) (λ e. some-line d rest w)
+    ap (λ (lines : List (List ℕ)). if c == 10 then [] ∷ lines else onto_first_line c lines) (lines-append (d ∷ rest) more w)
+    ∙ onto-append c (c == 10) (ended_lines (d ∷ rest)) (ended_lines more) (λ e. some-line d rest w)
 
 pub whole-append : (text more : List ℕ) → is_whole text ≡ true → is_whole (text ++ more) ≡ is_whole more
 unfolding is_whole
@@ -38,8 +38,8 @@ whole-append (c ∷ []) (d ∷ more) w = refl
 whole-append (c ∷ d ∷ rest) more w = whole-append (d ∷ rest) more w
 
 -- the end of a text is looked for a byte further to the left
-pub no-line-before : (end : ℕ) (text : List ℕ) → end < length text → is_whole (take (suc end) text) ≡ false → whole_lines (drop (suc end) text) ≡ [] → whole_lines (drop end text) ≡ []
-unfolding is_whole whole_lines
+pub no-line-before : (end : ℕ) (text : List ℕ) → end < length text → is_whole (take (suc end) text) ≡ false → ended_lines (drop (suc end) text) ≡ [] → ended_lines (drop end text) ≡ []
+unfolding is_whole ended_lines
 no-line-before zero (c ∷ rest) less w h = rw (w, h) refl
 no-line-before (suc end) (c ∷ d ∷ rest) less w h = no-line-before end (d ∷ rest) (omega (arith, less)) w h
 no-line-before (suc end) (c ∷ []) less w h = absurd (omega (arith, less))
@@ -50,39 +50,39 @@ unfolding is_whole
 some-end zero text w = absurd cc w
 some-end (suc end) text w = omega arith
 
-pub no-line-sooner : (end : ℕ) (text : List ℕ) → end ≤ length text → is_whole (take end text) ≡ false → whole_lines (drop end text) ≡ [] → whole_lines (drop (end - 1) text) ≡ []
+pub no-line-sooner : (end : ℕ) (text : List ℕ) → end ≤ length text → is_whole (take end text) ≡ false → ended_lines (drop end text) ≡ [] → ended_lines (drop (end - 1) text) ≡ []
 no-line-sooner zero text le w h = h
 no-line-sooner (suc end) text le w h =
     let same : end ≡ suc end - 1 = omega arith in
-    subst (λ (e : ℕ). whole_lines (drop e text) ≡ []) same (no-line-before end text (omega (arith, le)) w h)
+    subst (λ (e : ℕ). ended_lines (drop e text) ≡ []) same (no-line-before end text (omega (arith, le)) w h)
 
-pub none-behind : (text : List ℕ) → whole_lines (drop (length text) text) ≡ []
-unfolding whole_lines
-none-behind text = ap whole_lines (drop_all (length text) text (omega arith))
+pub none-behind : (text : List ℕ) → ended_lines (drop (length text) text) ≡ []
+unfolding ended_lines
+none-behind text = ap ended_lines (drop_all (length text) text (omega arith))
 
-pub lines-of-part : (end : ℕ) (text : List ℕ) → is_whole (take end text) ≡ true → whole_lines (drop end text) ≡ [] → whole_lines (take end text) ≡ whole_lines text
+pub lines-of-part : (end : ℕ) (text : List ℕ) → is_whole (take end text) ≡ true → ended_lines (drop end text) ≡ [] → ended_lines (take end text) ≡ ended_lines text
 lines-of-part end text w h =
-    sym (ap whole_lines (sym (take-append-drop end text)) ∙ lines-append (take end text) (drop end text) w ∙ ap (λ (ls : List (List ℕ)). whole_lines (take end text) ++ ls) h ∙ append-nil (whole_lines (take end text)))
+    sym (ap ended_lines (sym (take-append-drop end text)) ∙ lines-append (take end text) (drop end text) w ∙ ap (λ (ls : List (List ℕ)). ended_lines (take end text) ++ ls) h ∙ append-nil (ended_lines (take end text)))
 
 pub to-the-end : (k : ℕ) (text : List ℕ) → take (length text - k) (drop k text) ≡ drop k text
 to-the-end k text = take_all (length text - k) (drop k text) (omega (arith, length-drop k text))
 
 -- ---- the whole part of a text, and other bytes behind it
 
-pub kept-lines : (text part behind kept : List ℕ) → is_whole part ≡ true → whole_lines part ≡ whole_lines text → kept ≡ part ++ behind → HasLinesOf text behind kept
+pub kept-lines : (text part behind kept : List ℕ) → is_whole part ≡ true → ended_lines part ≡ ended_lines text → kept ≡ part ++ behind → HasLinesOf text behind kept
 kept-lines text part behind kept w l e = record {
-  lines = λ more. ap (λ (k : List ℕ). whole_lines (k ++ more)) e ∙ ap whole_lines (append_assoc part behind more) ∙ lines-append part (behind ++ more) w ∙ ap (λ (ls : List (List ℕ)). ls ++ whole_lines (behind ++ more)) l;
+  lines = λ more. ap (λ (k : List ℕ). ended_lines (k ++ more)) e ∙ ap ended_lines (append_assoc part behind more) ∙ lines-append part (behind ++ more) w ∙ ap (λ (ls : List (List ℕ)). ls ++ ended_lines (behind ++ more)) l;
   end = λ more. ap (λ (k : List ℕ). is_whole (k ++ more)) e ∙ ap is_whole (append_assoc part behind more) ∙ whole-append part (behind ++ more) w;
 }
 
 -- bytes behind the last line of a transcript are a fault, whatever comes behind them
-pub some-bytes : (c : ℕ) (text : List ℕ) → (is_empty (whole_lines (c ∷ text)) && is_whole (c ∷ text)) ≡ false
+pub some-bytes : (c : ℕ) (text : List ℕ) → (is_empty (ended_lines (c ∷ text)) && is_whole (c ∷ text)) ≡ false
 some-bytes c text = go (is_whole (c ∷ text)) refl
   where
     last : (b : Bool) → (b && false) ≡ false
     last true = refl
     last false = refl
 
-    go : (b : Bool) → is_whole (c ∷ text) ≡ b → (is_empty (whole_lines (c ∷ text)) && b) ≡ false
+    go : (b : Bool) → is_whole (c ∷ text) ≡ b → (is_empty (ended_lines (c ∷ text)) && b) ≡ false
     go true e = ap (λ b. b && true) (some-line c text e)
-    go false e = last (is_empty (whole_lines (c ∷ text)))
+    go false e = last (is_empty (ended_lines (c ∷ text)))

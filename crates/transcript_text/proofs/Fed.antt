@@ -3,13 +3,14 @@ use Rattle.std.proofs.Common.{◌≡◌, ◌<◌, ◌∙◌, ◌==◌, ℕ, Bool
 use Rattle.std.proofs.lemmas.List.{take-append-drop}
 use Rattle.pack_defs.specs.declared.scenario.Scenario.{Scenario}
 use Rattle.pack_defs.specs.Book.{BookView}
-use Rattle.lrat_text.specs.Lines.{is_whole, whole_lines}
+use Rattle.lrat_text.specs.Lines.{is_whole, ended_lines}
 use Rattle.transcript_text.specs.declared.error.TextErr.{TextErr}
 use Rattle.transcript_text.specs.declared.error.TextErr.TheVariants.{Version, BadLine, Truncated, NoMemory}
 use Rattle.transcript_text.specs.declared.reader.Stage.{Stage}
 use Rattle.transcript_text.specs.declared.reader.Stage.TheVariants.{Opening, Steps, Whole, Refused}
 use Rattle.auction_core.specs.declared.transcript.Transcript.{Transcript}
-use Rattle.transcript_text.specs.Steps.{◌>>=◌, Fails, Gives}
+use Rattle.pack_defs.specs.Steps.{◌>>=◌}
+use Rattle.transcript_text.specs.Steps.{Fails, Gives}
 use Rattle.transcript_text.specs.Fields.{LinesLeft}
 use Rattle.transcript_text.specs.Reading.{transcript_of}
 use Rattle.transcript_text.specs.Pieces.{HasLinesOf, HasRead, IsStageBy, ReadSoFar, ReadsOn, ReadsSame, SaysSame, StepsSoFar, comes_to, ended_by, ends_or_goes_on, goes_on, opened_at, said_by, with_lines}
@@ -75,41 +76,41 @@ opening-says sc book asked lines behind begun (Err e') p e h = tt
 
 -- a text in two parts, of which the first ends with its last line
 said-apart : (sc : Scenario) (book : BookView) (read : ReadSoFar) (text part behind : List ℕ) → text ≡ part ++ behind → is_whole part ≡ true
-    → said_by sc book read text ≡ comes_to sc book read.stage (is_whole behind) (with_lines (record { number = read.number; left = whole_lines part }) (whole_lines behind))
+    → said_by sc book read text ≡ comes_to sc book read.stage (is_whole behind) (with_lines (record { number = read.number; left = ended_lines part }) (ended_lines behind))
 said-apart sc book read text part behind e w =
     ap (λ (bytes : List ℕ). said_by sc book read bytes) e
-    ∙ ap (λ (b : Bool). comes_to sc book read.stage b (record { number = read.number; left = whole_lines (part ++ behind) })) (whole-append part behind w)
+    ∙ ap (λ (b : Bool). comes_to sc book read.stage b (record { number = read.number; left = ended_lines (part ++ behind) })) (whole-append part behind w)
     ∙ ap (λ (ls : List (List ℕ)). comes_to sc book read.stage (is_whole behind) (record { number = read.number; left = ls })) (lines-append part behind w)
 
-said-with : (sc : Scenario) (book : BookView) (read : ReadSoFar) (rest : LinesLeft) (text behind more : List ℕ) → rest ≡ record { number = read.number; left = whole_lines text } → HasLinesOf text behind read.left
-    → said_by sc book read (read.left ++ more) ≡ comes_to sc book read.stage (is_whole (behind ++ more)) (with_lines rest (whole_lines (behind ++ more)))
+said-with : (sc : Scenario) (book : BookView) (read : ReadSoFar) (rest : LinesLeft) (text behind more : List ℕ) → rest ≡ record { number = read.number; left = ended_lines text } → HasLinesOf text behind read.left
+    → said_by sc book read (read.left ++ more) ≡ comes_to sc book read.stage (is_whole (behind ++ more)) (with_lines rest (ended_lines (behind ++ more)))
 said-with sc book read rest text behind more is h =
-    ap (λ (b : Bool). comes_to sc book read.stage b (record { number = read.number; left = whole_lines (read.left ++ more) })) (h.end more)
+    ap (λ (b : Bool). comes_to sc book read.stage b (record { number = read.number; left = ended_lines (read.left ++ more) })) (h.end more)
     ∙ ap (λ (ls : List (List ℕ)). comes_to sc book read.stage (is_whole (behind ++ more)) (record { number = read.number; left = ls })) (h.lines more)
-    ∙ sym (ap (λ (ls : LinesLeft). comes_to sc book read.stage (is_whole (behind ++ more)) (with_lines ls (whole_lines (behind ++ more)))) is)
+    ∙ sym (ap (λ (ls : LinesLeft). comes_to sc book read.stage (is_whole (behind ++ more)) (with_lines ls (ended_lines (behind ++ more)))) is)
 
 pub reads-same : (sc : Scenario) (book : BookView) (old new : ReadSoFar) (lines rest : LinesLeft) (part text : List ℕ) → part ≡ take (length part) old.left → is_whole part ≡ true
-    → lines ≡ record { number = old.number; left = whole_lines part } → SaysSame sc book old.stage lines new.stage rest → rest ≡ record { number = new.number; left = whole_lines text }
+    → lines ≡ record { number = old.number; left = ended_lines part } → SaysSame sc book old.stage lines new.stage rest → rest ≡ record { number = new.number; left = ended_lines text }
     → HasLinesOf text (drop (length part) old.left) new.left → ReadsSame sc book old new
 reads-same sc book old new lines rest part text front w are same is kept = λ more.
     let behind = drop (length part) old.left in
     let apart : old.left ++ more ≡ part ++ (behind ++ more) =
     ap (λ (bytes : List ℕ). bytes ++ more) (sym (take-append-drop (length part) old.left) ∙ ap (λ (bytes : List ℕ). bytes ++ behind) (sym front)) ∙ append_assoc part behind more in
     said-apart sc book old (old.left ++ more) part (behind ++ more) apart w
-    ∙ sym (ap (λ (ls : LinesLeft). comes_to sc book old.stage (is_whole (behind ++ more)) (with_lines ls (whole_lines (behind ++ more)))) are)
-    ∙ same (is_whole (behind ++ more)) (whole_lines (behind ++ more))
+    ∙ sym (ap (λ (ls : LinesLeft). comes_to sc book old.stage (is_whole (behind ++ more)) (with_lines ls (ended_lines (behind ++ more)))) are)
+    ∙ same (is_whole (behind ++ more)) (ended_lines (behind ++ more))
     ∙ sym (said-with sc book new rest text behind more is kept)
 
 pub refused-said : (sc : Scenario) (book : BookView) (read : ReadSoFar) (why : TextErr) (bytes : List ℕ) → read.stage ≡ Refused why → said_by sc book read bytes ≡ Err why
 unfolding comes_to
-refused-said sc book read why bytes is = ap (λ (s : Stage). comes_to sc book s (is_whole bytes) (record { number = read.number; left = whole_lines bytes })) is
+refused-said sc book read why bytes is = ap (λ (s : Stage). comes_to sc book s (is_whole bytes) (record { number = read.number; left = ended_lines bytes })) is
 
 pub behind-said : (sc : Scenario) (book : BookView) (read : ReadSoFar) (t : Transcript) (more : List ℕ) → read.stage ≡ Whole t → 0 < length read.left → said_by sc book read (read.left ++ more) ≡ Err (BadLine read.number)
 unfolding comes_to
 behind-said sc book read t more is some =
-    ap (λ (s : Stage). comes_to sc book s (is_whole (read.left ++ more)) (record { number = read.number; left = whole_lines (read.left ++ more) })) is ∙ go read.left some
+    ap (λ (s : Stage). comes_to sc book s (is_whole (read.left ++ more)) (record { number = read.number; left = ended_lines (read.left ++ more) })) is ∙ go read.left some
   where
-    go : (left : List ℕ) → 0 < length left → comes_to sc book (Whole t) (is_whole (left ++ more)) (record { number = read.number; left = whole_lines (left ++ more) }) ≡ Err (BadLine read.number)
+    go : (left : List ℕ) → 0 < length left → comes_to sc book (Whole t) (is_whole (left ++ more)) (record { number = read.number; left = ended_lines (left ++ more) }) ≡ Err (BadLine read.number)
     go [] h = absurd (omega (arith, h))
     go (c ∷ left) h = ap (λ (b : Bool). (if b then Ok tt else Err (BadLine read.number)) >>= λ u. Ok t) (some-bytes c (left ++ more))
 
@@ -123,7 +124,7 @@ pub has-none : (sc : Scenario) (book : BookView) (read : ReadSoFar) → read.sta
 unfolding comes_to
 has-none sc book read is empty = record {
   says = λ more. transcript-begins sc book more
-      ∙ sym (ap (λ (s : Stage). comes_to sc book s (is_whole more) (record { number = read.number; left = whole_lines more })) is)
+      ∙ sym (ap (λ (s : Stage). comes_to sc book s (is_whole more) (record { number = read.number; left = ended_lines more })) is)
       ∙ sym (ap (λ (left : List ℕ). said_by sc book read (left ++ more)) empty);
 }
 
@@ -141,10 +142,10 @@ has-fault sc book bytes old new why h fault is = record { says = λ more. h.says
 -- ---- the end
 
 says-all : (sc : Scenario) (book : BookView) (bytes : List ℕ) (read : ReadSoFar) (stage : Stage) → HasRead sc book bytes read → read.stage ≡ stage
-    → transcript_of sc book bytes ≡ comes_to sc book stage (is_whole read.left) (record { number = read.number; left = whole_lines read.left })
+    → transcript_of sc book bytes ≡ comes_to sc book stage (is_whole read.left) (record { number = read.number; left = ended_lines read.left })
 says-all sc book bytes read stage h is =
     ap (transcript_of sc book) (sym (append-nil bytes)) ∙ h.says [] ∙ ap (said_by sc book read) (append-nil read.left)
-    ∙ ap (λ (s : Stage). comes_to sc book s (is_whole read.left) (record { number = read.number; left = whole_lines read.left })) is
+    ∙ ap (λ (s : Stage). comes_to sc book s (is_whole read.left) (record { number = read.number; left = ended_lines read.left })) is
 
 err-fails : {A : Type 0} (r : Result A TextErr) (why : TextErr) → r ≡ Err why → Fails why r
 err-fails r Version e = e
@@ -153,11 +154,11 @@ err-fails r Truncated e = e
 err-fails r NoMemory e = tt
 
 says-now : (sc : Scenario) (book : BookView) (bytes : List ℕ) (read : ReadSoFar) (stage : Stage) (whole : Bool) (lines : LinesLeft) (text again : List ℕ) → HasRead sc book bytes read → read.stage ≡ stage
-    → lines ≡ record { number = read.number; left = whole_lines text } → text ≡ read.left → whole ≡ is_whole again → again ≡ read.left → transcript_of sc book bytes ≡ comes_to sc book stage whole lines
+    → lines ≡ record { number = read.number; left = ended_lines text } → text ≡ read.left → whole ≡ is_whole again → again ≡ read.left → transcript_of sc book bytes ≡ comes_to sc book stage whole lines
 says-now sc book bytes read stage whole lines text again h is l t w a =
     says-all sc book bytes read stage h is
-    ∙ ap (λ (b : Bool). comes_to sc book stage b (record { number = read.number; left = whole_lines read.left })) (sym (w ∙ ap is_whole a))
-    ∙ ap (λ (ls : LinesLeft). comes_to sc book stage whole ls) (sym (l ∙ ap (λ (xs : List ℕ). record { number = read.number; left = whole_lines xs }) t))
+    ∙ ap (λ (b : Bool). comes_to sc book stage b (record { number = read.number; left = ended_lines read.left })) (sym (w ∙ ap is_whole a))
+    ∙ ap (λ (ls : LinesLeft). comes_to sc book stage whole ls) (sym (l ∙ ap (λ (xs : List ℕ). record { number = read.number; left = ended_lines xs }) t))
 
 pub opening-ends : (sc : Scenario) (book : BookView) (bytes text : List ℕ) (read : ReadSoFar) (result : Result Transcript TextErr) → HasRead sc book bytes read → read.stage ≡ Opening → text ≡ read.left
     → Gives (λ (t : Transcript). t) (transcript_of sc book text) result → Gives (λ (t : Transcript). t) (transcript_of sc book bytes) result
@@ -166,14 +167,14 @@ opening-ends sc book bytes text read result h is t =
     subst (λ (r : Result Transcript TextErr). Gives (λ (t : Transcript). t) r result) (ap (transcript_of sc book) t ∙ transcript-begins sc book read.left ∙ sym (says-all sc book bytes read Opening h is))
 
 pub steps-end-so : (sc : Scenario) (book : BookView) (bytes : List ℕ) (read : ReadSoFar) (begun : Transcript) (whole : Bool) (lines : LinesLeft) (text again : List ℕ) (result : Result Transcript TextErr) → HasRead sc book bytes read
-    → read.stage ≡ Steps begun → lines ≡ record { number = read.number; left = whole_lines text } → text ≡ read.left → whole ≡ is_whole again → again ≡ read.left
+    → read.stage ≡ Steps begun → lines ≡ record { number = read.number; left = ended_lines text } → text ≡ read.left → whole ≡ is_whole again → again ≡ read.left
     → Gives (λ (t : Transcript). t) (goes_on sc book begun whole lines) result → Gives (λ (t : Transcript). t) (transcript_of sc book bytes) result
 unfolding comes_to
 steps-end-so sc book bytes read begun whole lines text again result h is l t w a =
     subst (λ (r : Result Transcript TextErr). Gives (λ (t : Transcript). t) r result) (sym (says-now sc book bytes read (Steps begun) whole lines text again h is l t w a))
 
 pub whole-ends : (sc : Scenario) (book : BookView) (bytes : List ℕ) (read : ReadSoFar) (begun : Transcript) (whole : Bool) (lines : LinesLeft) (text again : List ℕ) (result : Result Transcript TextErr) → HasRead sc book bytes read
-    → read.stage ≡ Whole begun → lines ≡ record { number = read.number; left = whole_lines text } → text ≡ read.left → whole ≡ is_whole again → again ≡ read.left
+    → read.stage ≡ Whole begun → lines ≡ record { number = read.number; left = ended_lines text } → text ≡ read.left → whole ≡ is_whole again → again ≡ read.left
     → Gives (λ (t : Transcript). t) (ended_by whole (record { begun = begun; rest = lines; ended = true })) result → Gives (λ (t : Transcript). t) (transcript_of sc book bytes) result
 unfolding comes_to ended_by
 whole-ends sc book bytes read begun whole lines text again result h is l t w a =

@@ -9,15 +9,15 @@ use Rattle.std.proofs.lemmas.Slice.Eq.{bytes_eq-Decides}
 use Rattle.pack_defs.specs.declared.scenario.Scenario.{Scenario}
 use Rattle.pack_defs.specs.Lists.{is_empty}
 use Rattle.std.specs.Fmt.{digits}
-use Rattle.lrat_text.specs.Lines.{whole_lines, line_of, onto_first}
+use Rattle.lrat_text.specs.Lines.{ended_lines, line_of, onto_first_line}
 use Rattle.lrat_text.proofs.LineLemmas.{IsWord, IsField, AreFields, fields-line, fields-again}
 use Rattle.lrat_text.proofs.NumberLemmas.{decimal-field, natural-again}
-use Rattle.transcript_text.specs.Fields.{LinesLeft, FieldsLeft, next_line, is_plain, plain_number, number_at, station_at, channel_at, worker_at, exactly_at, station_above, word_at, line_end, is_above, greatest_u32}
+use Rattle.transcript_text.specs.Fields.{LinesLeft, FieldsLeft, next_line, is_plainly_spelled, plain_number, number_at, station_at, channel_at, worker_at, exactly_at, station_above, word_at, line_end, is_above, greatest_u32}
 use Rattle.transcript_text.specs.Spelled.{IsStation, IsChannel, IsWorker}
 
 -- the whole lines of a text, of which the first is the n-th
 abbrev pub lines_at : ℕ → List ℕ → LinesLeft
-lines_at n text = record { number = n; left = whole_lines text }
+lines_at n text = record { number = n; left = ended_lines text }
 
 -- these fields of the n-th line
 abbrev pub fields_at : ℕ → List (List ℕ) → FieldsLeft
@@ -30,19 +30,19 @@ pub line-again : (n : ℕ) (field : List ℕ) (fields : List (List ℕ)) (rest :
 line-again n field fields rest h = rw (fields-line (field ∷ fields) rest h, fields-again field fields h) refl
 
 -- a text has no fewer whole lines with more before it
-pub no-fewer : (xs ys : List ℕ) → length (whole_lines ys) ≤ length (whole_lines (xs ++ ys))
-unfolding whole_lines
+pub no-fewer : (xs ys : List ℕ) → length (ended_lines ys) ≤ length (ended_lines (xs ++ ys))
+unfolding ended_lines
 no-fewer [] ys = omega arith
-no-fewer (c ∷ xs) ys = go (c == 10) (whole_lines (xs ++ ys)) (no-fewer xs ys)
+no-fewer (c ∷ xs) ys = go (c == 10) (ended_lines (xs ++ ys)) (no-fewer xs ys)
   where
-    go : (b : Bool) (lines : List (List ℕ)) → length (whole_lines ys) ≤ length lines → length (whole_lines ys) ≤ length (if b then [] ∷ lines else onto_first c lines)
+    go : (b : Bool) (lines : List (List ℕ)) → length (ended_lines ys) ≤ length lines → length (ended_lines ys) ≤ length (if b then [] ∷ lines else onto_first_line c lines)
     go true lines h = omega (arith, h)
     go false [] h = h
     go false (line ∷ lines) h = h
 
 -- and fewer without its first line
 pub fewer : (field : List ℕ) (fields : List (List ℕ)) (xs ys : List ℕ) → AreFields (field ∷ fields)
-    → length (whole_lines ys) < length (whole_lines (line_of (field ∷ fields) ++ (xs ++ ys)))
+    → length (ended_lines ys) < length (ended_lines (line_of (field ∷ fields) ++ (xs ++ ys)))
 fewer field fields xs ys h = rw (fields-line (field ∷ fields) (xs ++ ys) h) (omega (arith, no-fewer xs ys))
 
 -- ---- words
@@ -73,7 +73,7 @@ end-again n = refl
 
 -- ---- numbers
 
-pub plain : (field : List ℕ) → 0 < length field → (48 < get_or field 0 0) → is_plain field ≡ true
+pub plain : (field : List ℕ) → 0 < length field → (48 < get_or field 0 0) → is_plainly_spelled field ≡ true
 plain [] h big = absurd (omega arith)
 plain (c ∷ []) h big = refl
 plain (c ∷ d ∷ rest) h big = rw (ne_eqb c 45 (λ e. absurd (omega (arith, big, e))), ne_eqb c 48 (λ e. absurd (omega (arith, big, e)))) refl
@@ -82,22 +82,22 @@ not-nil : (field : List ℕ) → is_empty field ≡ false → 0 < length field
 not-nil [] e = absurd cc
 not-nil (c ∷ field) e = omega arith
 
-zero-plain : is_plain (decimal 0) ≡ true
+zero-plain : is_plainly_spelled (decimal 0) ≡ true
 unfolding digits
 zero-plain = refl
 
-pub decimal-plain : (k : ℕ) → k < 2 ^ 64 → is_plain (decimal k) ≡ true
+pub decimal-plain : (k : ℕ) → k < 2 ^ 64 → is_plainly_spelled (decimal k) ≡ true
 decimal-plain k small = elim (cases_eq k 0) [
   | inl e ↦ rw e zero-plain
   | inr ne ↦ plain (decimal k) (not-nil (decimal k) (decimal-field k small).1) (first_decimal k (omega (arith, ne)) small)
 ]
 
-minus : (field : List ℕ) → 0 < length field → (48 < get_or field 0 0) → is_plain (45 ∷ field) ≡ true
+minus : (field : List ℕ) → 0 < length field → (48 < get_or field 0 0) → is_plainly_spelled (45 ∷ field) ≡ true
 minus [] h big = absurd (omega arith)
 minus (d ∷ rest) h big = rw (ne_eqb d 48 (λ e. absurd (omega (arith, big, e)))) refl
 
 -- a number from 1 behind a minus sign
-pub minus-plain : (k : ℕ) → 1 ≤ k → k < 2 ^ 64 → is_plain (45 ∷ decimal k) ≡ true
+pub minus-plain : (k : ℕ) → 1 ≤ k → k < 2 ^ 64 → is_plainly_spelled (45 ∷ decimal k) ≡ true
 minus-plain k low small = minus (decimal k) (not-nil (decimal k) (decimal-field k small).1) (first_decimal k low small)
 
 pub plain-again : (most k : ℕ) → k ≤ most → k < 2 ^ 64 → plain_number most (decimal k) ≡ Some k

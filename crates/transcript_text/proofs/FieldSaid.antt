@@ -8,14 +8,14 @@ use Rattle.std.proofs.lemmas.Slice.Eq.{bytes_eq-Decides}
 use Rattle.pack_defs.specs.Lists.{is_empty, is_in}
 use Rattle.pack_defs.specs.declared.scenario.Scenario.{Scenario}
 use Rattle.pack_defs.specs.Scenario.{facilities}
-use Rattle.lrat_text.specs.Lines.{fields_of, is_space, joined, line_of, onto_piece, pieces}
+use Rattle.lrat_text.specs.Lines.{fields_of, is_space, with_spaces, line_of, onto_piece, pieces}
 use Rattle.lrat_text.specs.LogReading.{field_of, natural}
 use Rattle.lrat_text.specs.LogText.{greatest}
 use Rattle.lrat_text.specs.OneSpelling.{has_no_nought, is_shortest}
 use Rattle.lrat_text.proofs.OneSpelling.{IsNatural, IsWrittenAs, ended, natural-is, word-of-natural, written, empty-is}
 use Rattle.transcript_text.specs.declared.error.TextErr.{TextErr}
 use Rattle.transcript_text.specs.declared.error.TextErr.TheVariants.{BadLine, Truncated}
-use Rattle.transcript_text.specs.Fields.{FieldsLeft, LinesLeft, channel_at, exactly_at, found_or, greatest_u32, is_above, is_plain, line_end, next_field, next_line, number_at, plain_field, plain_number, station_above, station_at, word_at, worker_at}
+use Rattle.transcript_text.specs.Fields.{FieldsLeft, LinesLeft, channel_at, exactly_at, found_or, greatest_u32, is_above, is_plainly_spelled, line_end, next_field, next_line, number_at, plain_field, plain_number, station_above, station_at, word_at, worker_at}
 use Rattle.transcript_text.proofs.CursorLemmas.{some-piece}
 use Rattle.transcript_text.proofs.Rising.{after-ok}
 
@@ -36,20 +36,20 @@ if-ok false x y e h = absurd (err-ok e y h)
 
 -- ---- lines
 
-joined-none : (ps : List (List ℕ)) → is_empty ps ≡ false → joined ([] ∷ ps) ≡ 32 ∷ joined ps
-unfolding joined
+joined-none : (ps : List (List ℕ)) → is_empty ps ≡ false → with_spaces ([] ∷ ps) ≡ 32 ∷ with_spaces ps
+unfolding with_spaces
 joined-none [] h = absurd cc
 joined-none (p ∷ ps) h = refl
 
-joined-onto : (c : ℕ) (ps : List (List ℕ)) → is_empty ps ≡ false → joined (onto_piece c ps) ≡ c ∷ joined ps
-unfolding joined
+joined-onto : (c : ℕ) (ps : List (List ℕ)) → is_empty ps ≡ false → with_spaces (onto_piece c ps) ≡ c ∷ with_spaces ps
+unfolding with_spaces
 joined-onto c [] h = absurd cc
 joined-onto c (p ∷ []) h = refl
 joined-onto c (p ∷ q ∷ ps) h = refl
 
 -- the fields of a line, joined, are the line
-pub joined-fields : (line : List ℕ) → joined (fields_of line) ≡ line
-unfolding pieces joined
+pub joined-fields : (line : List ℕ) → with_spaces (fields_of line) ≡ line
+unfolding pieces with_spaces
 joined-fields [] = refl
 joined-fields (c ∷ line) = elim (cases_eq c 32) [
   | inl e ↦ rw (eq-eqb c 32 e) (joined-none (pieces is_space line) (some-piece is_space line) ∙ ap (λ (r : List ℕ). 32 ∷ r) (joined-fields line) ∙ ap (λ (x : ℕ). x ∷ line) (sym e))
@@ -95,7 +95,7 @@ end-said line u e = empty-is line.fields (if-ok (is_empty line.fields) tt u (Bad
 -- ---- numbers
 
 -- a plain spelling is the shortest one
-pub plain-shortest : (field : List ℕ) → is_plain field ≡ true → is_shortest field ≡ true
+pub plain-shortest : (field : List ℕ) → is_plainly_spelled field ≡ true → is_shortest field ≡ true
 unfolding is_shortest
 plain-shortest [] h = absurd cc
 plain-shortest (c ∷ []) h = elim (cases_eq c 45) [
@@ -122,9 +122,9 @@ natural-greatest most n word le is =
 -- a number that was read, in its one spelling
 pub plain-number-said : (most n : ℕ) (field : List ℕ) → most ≤ greatest → plain_number most field ≡ Some n → field ≡ decimal n
 unfolding plain_number
-plain-number-said most n field le e = go (is_plain field) refl e
+plain-number-said most n field le e = go (is_plainly_spelled field) refl e
   where
-    go : (b : Bool) → is_plain field ≡ b → (if b then natural most field else None) ≡ Some n → field ≡ decimal n
+    go : (b : Bool) → is_plainly_spelled field ≡ b → (if b then natural most field else None) ≡ Some n → field ≡ decimal n
     go false p h = absurd cc
     go true p h =
         let is = natural-is most field n h in
@@ -182,8 +182,8 @@ exactly-said n line rest le e =
 -- what a field of a log's line says is written so
 pub plain-field-said : (field : List ℕ) → IsWrittenAs field (plain_field field)
 unfolding plain_field
-plain-field-said field = go (is_plain field) refl
+plain-field-said field = go (is_plainly_spelled field) refl
   where
-    go : (b : Bool) → is_plain field ≡ b → IsWrittenAs field (if b then field_of field else None)
+    go : (b : Bool) → is_plainly_spelled field ≡ b → IsWrittenAs field (if b then field_of field else None)
     go false p = tt
     go true p = written field (plain-shortest field p)

@@ -7,7 +7,8 @@ use Rattle.rup_check.specs.declared.line.Line.{Line}
 use Rattle.lrat_text.specs.declared.field.Field.TheVariants.{End, Number}
 use Rattle.transcript_text.specs.declared.error.TextErr.{TextErr}
 use Rattle.transcript_text.specs.declared.error.TextErr.TheVariants.{Version, BadLine, Truncated, NoMemory}
-use Rattle.transcript_text.specs.Steps.{◌>>=◌, Fails}
+use Rattle.pack_defs.specs.Steps.{◌>>=◌}
+use Rattle.transcript_text.specs.Steps.{Fails}
 use Rattle.transcript_text.specs.Fields.{LinesLeft, FieldsLeft, next_line, plain_field, station_above}
 use Rattle.transcript_text.specs.LogLines.{lits_at, hints_at, hints_or, log_at, log_line, numbered_line, and_left, entries_at, entry_at, entry_line, moves_at, station_field, stations_at}
 use Rattle.std.specs.Prelude.{codes}

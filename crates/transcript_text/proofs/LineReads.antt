@@ -13,7 +13,7 @@ use Rattle.lrat_text.proofs.NumberLemmas.{decimal-field, lit-again, number-again
 use Rattle.lrat_text.proofs.LogLemmas.{lits-fields, zero-fields}
 use Rattle.transcript_text.specs.declared.error.TextErr.{TextErr}
 use Rattle.transcript_text.specs.Spelling.{entry_text, at_lines}
-use Rattle.transcript_text.specs.Fields.{LinesLeft, plain_field, is_plain, is_above, next_line}
+use Rattle.transcript_text.specs.Fields.{LinesLeft, plain_field, is_plainly_spelled, is_above, next_line}
 use Rattle.transcript_text.specs.LogLines.{lits_at, hints_at, log_line, log_at, entry_at, entries_at, moves_at, stations_at}
 use Rattle.transcript_text.specs.Spelled.{IsEntry, AreEntries, AreStations, IsHint, AreLines}
 use Rattle.transcript_text.proofs.FieldReads.{lines_at, fields_at, line-again, literal, word-again, end-again, decimal-plain, minus-plain, number-again, above-again, channel-again}
@@ -74,10 +74,10 @@ stations-fields sc above (s ∷ ss) h = (decimal-field s (omega (arith, h.0.0.1)
 
 -- ---- logs
 
-lit-plain : (l : Lit) → IsLitSpelled l → is_plain (lit_text l) ≡ true
+lit-plain : (l : Lit) → IsLitSpelled l → is_plainly_spelled (lit_text l) ≡ true
 lit-plain l h = go l.positive refl
   where
-    go : (b : Bool) → l.positive ≡ b → is_plain (lit_text l) ≡ true
+    go : (b : Bool) → l.positive ≡ b → is_plainly_spelled (lit_text l) ≡ true
     go true e = rw e (decimal-plain l.var (omega (arith, h.1)))
     go false e = rw e (minus-plain l.var h.0 (omega (arith, h.1)))
 

@@ -13,7 +13,7 @@ use Rattle.lrat_text.specs.LogText.{greatest, lit_text, log_fields, log_text, ze
 use Rattle.lrat_text.proofs.OneSpelling.{IsWrittenAs, empty-is, positive-text}
 use Rattle.transcript_text.specs.declared.error.TextErr.{TextErr}
 use Rattle.transcript_text.specs.declared.error.TextErr.TheVariants.{BadLine}
-use Rattle.transcript_text.specs.Steps.{◌>>=◌}
+use Rattle.pack_defs.specs.Steps.{◌>>=◌}
 use Rattle.transcript_text.specs.Spelling.{entry_text}
 use Rattle.transcript_text.specs.Fields.{FieldsLeft, LinesLeft, channel_at, line_end, next_line, number_at, plain_field, station_above, word_at}
 use Rattle.transcript_text.specs.LogLines.{entries_at, entry_at, hints_at, hints_or, lits_at, lits_or, log_at, log_line, moves_at, stations_at}

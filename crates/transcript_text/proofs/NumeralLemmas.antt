@@ -12,7 +12,7 @@ use Rattle.lrat_text.specs.LogReading.{natural, field_of, signed_of}
 use Rattle.lrat_text.specs.LogText.{greatest}
 use Rattle.lrat_text.proofs.DigitLemmas.{all-within}
 use Rattle.lrat_text.proofs.SplitLemmas.{piece-at, one-piece}
-use Rattle.transcript_text.specs.Fields.{IsNumeral, is_plain, plain_field}
+use Rattle.transcript_text.specs.Fields.{IsNumeral, is_plainly_spelled, plain_field}
 use Rattle.transcript_text.proofs.FieldReads.{plain}
 
 -- a digit is no greater byte than that of 9
@@ -77,7 +77,7 @@ unsigned [] n h = absurd (omega (arith, h.0))
 unsigned (c ∷ ds) n h =
     rw (plain (c ∷ ds) h.0 h.1, ne_eqb c 45 (λ e. absurd (omega (arith, e, h.1))), h.3, ne_eqb n 0 (λ e. absurd (omega (arith, e, h.4)))) refl
 
-minus-plain : (ds : List ℕ) → 0 < length ds → 48 < get_or ds 0 0 → is_plain (45 ∷ ds) ≡ true
+minus-plain : (ds : List ℕ) → 0 < length ds → 48 < get_or ds 0 0 → is_plainly_spelled (45 ∷ ds) ≡ true
 minus-plain [] some big = absurd (omega (arith, some))
 minus-plain (d ∷ ds) some big = rw (ne_eqb d 48 (λ e. absurd (omega (arith, e, big)))) refl
 

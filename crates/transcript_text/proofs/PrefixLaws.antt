@@ -7,7 +7,7 @@ use Rattle.pack_defs.specs.declared.scenario.Scenario.{Scenario}
 use Rattle.pack_defs.specs.declared.order.Order.{Order}
 use Rattle.pack_defs.specs.Book.{BookView}
 use Rattle.auction_core.specs.declared.record.Shown.{Shown}
-use Rattle.lrat_text.specs.Lines.{is_whole, onto_first, whole_lines}
+use Rattle.lrat_text.specs.Lines.{is_whole, onto_first_line, ended_lines}
 use Rattle.transcript_text.specs.declared.error.TextErr.{TextErr}
 use Rattle.transcript_text.specs.declared.error.TextErr.TheVariants.{Version, BadLine, Truncated, NoMemory}
 use Rattle.auction_core.specs.declared.prefix.Prefix.{Prefix}
@@ -17,7 +17,7 @@ use Rattle.transcript_text.specs.Fields.{LinesLeft}
 use Rattle.transcript_text.specs.Pieces.{with_lines}
 use Rattle.transcript_text.specs.PrefixReading.{IsPrefixOf, StepsThere, goes_on_there, if_there, no_more, nothing_there, order_there, prefix_of, start_there, steps_there, there_or, transcript_there}
 use Rattle.transcript_text.specs.Reading.{next_step, start_at, step_or, steps_at, text_end, transcript_of, version_at}
-use Rattle.transcript_text.specs.Steps.{◌>>=◌}
+use Rattle.pack_defs.specs.Steps.{◌>>=◌}
 use Rattle.transcript_text.proofs.FieldSaid.{err-ok, if-ok, ok-same}
 use Rattle.transcript_text.proofs.Rising.{after-ok}
 use Rattle.transcript_text.proofs.Stays.{Stays, next-step-stays, start-stays, version-stays}
@@ -64,7 +64,7 @@ steps-never sc book (suc most) n lines =
 pub prefix-never : (sc : Scenario) (book : BookView) (text : List ℕ) → prefix_of sc book text ≢ Err Truncated
 unfolding prefix_of start_there goes_on_there
 prefix-never sc book text =
-    if-there-never nothing_there (version_at (whole_lines text)) _
+    if-there-never nothing_there (version_at (ended_lines text)) _
     (λ version. if-there-never (order_there version.0) (start_at sc version.1) _
     (λ start. then-never (steps_there sc book (length start.1.left) 0 start.1) _ (steps-never sc book (length start.1.left) 0 start.1) (λ more. ok-never _)))
 
@@ -96,7 +96,7 @@ steps-all sc book (suc most) n lines x e none = go (next_step sc book n lines) (
 pub prefix-all : (sc : Scenario) (book : BookView) (text : List ℕ) (t : Transcript) → transcript_of sc book text ≡ Ok t → prefix_of sc book text ≡ Ok (transcript_there t true)
 unfolding transcript_of prefix_of start_there goes_on_there
 prefix-all sc book text t e =
-    let version = after-ok (version_at (whole_lines text)) _ t e in
+    let version = after-ok (version_at (ended_lines text)) _ t e in
     let start = after-ok (start_at sc version.0.1) _ t version.2 in
     let steps = after-ok (steps_at sc book (length start.0.1.left) 0 start.0.1) _ t start.2 in
     let u = after-ok (text_end (is_whole text) steps.0.1) _ t steps.2 in
@@ -111,19 +111,19 @@ prefix-all sc book text t e =
 
 -- the lines behind those of the first bytes
 lines_behind : List ℕ → List ℕ → List (List ℕ)
-lines_behind [] after = whole_lines after
+lines_behind [] after = ended_lines after
 lines_behind (c ∷ before) after =
-    if c == 10 then lines_behind before after else (if is_empty (whole_lines before) then onto_first c (lines_behind before after) else lines_behind before after)
+    if c == 10 then lines_behind before after else (if is_empty (ended_lines before) then onto_first_line c (lines_behind before after) else lines_behind before after)
 
-lines-apart : (before after : List ℕ) → whole_lines (before ++ after) ≡ whole_lines before ++ lines_behind before after
-unfolding whole_lines lines_behind
+lines-apart : (before after : List ℕ) → ended_lines (before ++ after) ≡ ended_lines before ++ lines_behind before after
+unfolding ended_lines lines_behind
 lines-apart [] after = refl
 lines-apart (c ∷ before) after =
-    ap (λ (ls : List (List ℕ)). if c == 10 then [] ∷ ls else onto_first c ls) (lines-apart before after) ∙ go (c == 10) (whole_lines before) (lines_behind before after)
+    ap (λ (ls : List (List ℕ)). if c == 10 then [] ∷ ls else onto_first_line c ls) (lines-apart before after) ∙ go (c == 10) (ended_lines before) (lines_behind before after)
   where
     go : (b : Bool) (ls more : List (List ℕ))
-        → (if b then [] ∷ (ls ++ more) else onto_first c (ls ++ more))
-        ≡ (if b then [] ∷ ls else onto_first c ls) ++ (if b then more else (if is_empty ls then onto_first c more else more))
+        → (if b then [] ∷ (ls ++ more) else onto_first_line c (ls ++ more))
+        ≡ (if b then [] ∷ ls else onto_first_line c ls) ++ (if b then more else (if is_empty ls then onto_first_line c more else more))
     go true ls more = refl
     go false [] more = refl
     go false (l ∷ ls) more = refl
@@ -264,5 +264,5 @@ named sc book whole lines more t e = go (version_at lines) (version_at (lines ++
 pub prefix-first : (sc : Scenario) (book : BookView) (before after : List ℕ) (t : Transcript) → transcript_of sc book (before ++ after) ≡ Ok t → MatchResult (prefix_of sc book before) (λ kept. IsPrefixOf kept t) (λ why. ⊥)
 unfolding transcript_of prefix_of
 prefix-first sc book before after t e =
-    named sc book (is_whole (before ++ after)) (whole_lines before) (lines_behind before after) t
+    named sc book (is_whole (before ++ after)) (ended_lines before) (lines_behind before after) t
     (sym (ap (λ (ls : List (List ℕ)). version_at ls >>= λ version. from_start sc book (is_whole (before ++ after)) version) (lines-apart before after)) ∙ e)

@@ -6,7 +6,7 @@ use Rattle.pack_defs.specs.declared.scenario.Scenario.{Scenario}
 use Rattle.pack_defs.specs.declared.order.Order.{Order}
 use Rattle.pack_defs.specs.Book.{BookView}
 use Rattle.auction_core.specs.declared.record.Shown.{Shown}
-use Rattle.lrat_text.specs.Lines.{onto_first, whole_lines}
+use Rattle.lrat_text.specs.Lines.{onto_first_line, ended_lines}
 use Rattle.lrat_text.specs.LogText.{greatest}
 use Rattle.lrat_text.proofs.OneSpelling.{ended}
 use Rattle.transcript_text.specs.declared.error.TextErr.{TextErr}
@@ -38,18 +38,18 @@ begins-of front middle text h k = record { behind = h.behind ++ k.behind; is = k
 
 -- ---- a text begins with its whole lines
 
-lines-begin : (text : List ℕ) → Begins (ended (whole_lines text)) text
-unfolding whole_lines
+lines-begin : (text : List ℕ) → Begins (ended (ended_lines text)) text
+unfolding ended_lines
 lines-begin [] = begins-none []
 lines-begin (c ∷ rest) = go (c == 10) refl (lines-begin rest)
   where
-    onto : (lines : List (List ℕ)) → Begins (ended lines) rest → Begins (ended (onto_first c lines)) (c ∷ rest)
+    onto : (lines : List (List ℕ)) → Begins (ended lines) rest → Begins (ended (onto_first_line c lines)) (c ∷ rest)
     onto [] h = begins-none (c ∷ rest)
     onto (line ∷ lines) h = record { behind = h.behind; is = ap (λ (t : List ℕ). c ∷ t) h.is }
 
-    go : (b : Bool) → (c == 10) ≡ b → Begins (ended (whole_lines rest)) rest → Begins (ended (if b then [] ∷ whole_lines rest else onto_first c (whole_lines rest))) (c ∷ rest)
-    go true e h = record { behind = h.behind; is = ap (λ (t : List ℕ). c ∷ t) h.is ∙ ap (λ (d : ℕ). d ∷ (ended (whole_lines rest) ++ h.behind)) (eqb-true c 10 e) }
-    go false e h = onto (whole_lines rest) h
+    go : (b : Bool) → (c == 10) ≡ b → Begins (ended (ended_lines rest)) rest → Begins (ended (if b then [] ∷ ended_lines rest else onto_first_line c (ended_lines rest))) (c ∷ rest)
+    go true e h = record { behind = h.behind; is = ap (λ (t : List ℕ). c ∷ t) h.is ∙ ap (λ (d : ℕ). d ∷ (ended (ended_lines rest) ++ h.behind)) (eqb-true c 10 e) }
+    go false e h = onto (ended_lines rest) h
 
 -- ---- steps
 
@@ -157,5 +157,5 @@ pub prefix-said : (sc : Scenario) (book : BookView) (text : List ℕ) (kept : Pr
 unfolding prefix_of
 prefix-said sc book text kept le e =
     let front : List ℕ = prefix_spelling book kept in
-    let all = begins-of front (ended (whole_lines text)) text (prefix-begins sc book (whole_lines text) kept le e) (lines-begin text) in
+    let all = begins-of front (ended (ended_lines text)) text (prefix-begins sc book (ended_lines text) kept le e) (lines-begin text) in
     ap (λ (t : List ℕ). take (length front) t) all.is ∙ take_at front all.behind (length front) refl

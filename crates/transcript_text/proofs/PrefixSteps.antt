@@ -4,7 +4,7 @@ use Rattle.pack_defs.specs.declared.scenario.Scenario.{Scenario}
 use Rattle.pack_defs.specs.declared.order.Order.{Order}
 use Rattle.pack_defs.specs.Book.{BookView}
 use Rattle.auction_core.specs.declared.record.Shown.{Shown}
-use Rattle.lrat_text.specs.Lines.{whole_lines}
+use Rattle.lrat_text.specs.Lines.{ended_lines}
 use Rattle.transcript_text.specs.declared.error.TextErr.{TextErr}
 use Rattle.transcript_text.specs.declared.error.TextErr.TheVariants.{Version, BadLine, Truncated, NoMemory}
 use Rattle.auction_core.specs.declared.prefix.Prefix.{Prefix}
@@ -14,7 +14,8 @@ use Rattle.transcript_text.specs.Fields.{LinesLeft}
 use Rattle.transcript_text.specs.Pieces.{stopped}
 use Rattle.transcript_text.specs.PrefixReading.{AreStepsThere, StepsThere, goes_on_there, if_there, kept_at, no_more, nothing_there, order_there, prefix_of, start_there, steps_there, there_by, there_or, transcript_there}
 use Rattle.transcript_text.specs.Reading.{next_step, start_at, text_end, version_at}
-use Rattle.transcript_text.specs.Steps.{◌>>=◌, Fails, Gives}
+use Rattle.pack_defs.specs.Steps.{◌>>=◌}
+use Rattle.transcript_text.specs.Steps.{Fails, Gives}
 use Rattle.transcript_text.proofs.Ahead.{with-none, with_step}
 use Rattle.transcript_text.proofs.StepLoop.{Fewer, next-truncated, step-fewer}
 
@@ -136,13 +137,13 @@ unfolding start_there
 start-kept sc book order lines why kept result h k e =
     subst (Gives (λ (p : Prefix). p) (start_there sc book order lines)) (sym (e ∙ ap (λ (p : Prefix). kept_at p why) k)) (kept-gives (order_there order) (start_at sc lines) _ why h)
 
-pub prefix-gives : (sc : Scenario) (book : BookView) (text : List ℕ) (order : Order) (lines : LinesLeft) (result : Result Prefix TextErr) → version_at (whole_lines text) ≡ Ok (order, lines)
+pub prefix-gives : (sc : Scenario) (book : BookView) (text : List ℕ) (order : Order) (lines : LinesLeft) (result : Result Prefix TextErr) → version_at (ended_lines text) ≡ Ok (order, lines)
     → Gives (λ (p : Prefix). p) (start_there sc book order lines) result → Gives (λ (p : Prefix). p) (prefix_of sc book text) result
 unfolding prefix_of
-prefix-gives sc book text order lines result e h = there-gives nothing_there (version_at (whole_lines text)) _ (order, lines) result e h
+prefix-gives sc book text order lines result e h = there-gives nothing_there (version_at (ended_lines text)) _ (order, lines) result e h
 
-pub prefix-kept : (sc : Scenario) (book : BookView) (text : List ℕ) (why : TextErr) (kept : Prefix) (result : Result Prefix TextErr) → Fails why (version_at (whole_lines text))
+pub prefix-kept : (sc : Scenario) (book : BookView) (text : List ℕ) (why : TextErr) (kept : Prefix) (result : Result Prefix TextErr) → Fails why (version_at (ended_lines text))
     → kept ≡ nothing_there → result ≡ kept_at kept why → Gives (λ (p : Prefix). p) (prefix_of sc book text) result
 unfolding prefix_of
 prefix-kept sc book text why kept result h k e =
-    subst (Gives (λ (p : Prefix). p) (prefix_of sc book text)) (sym (e ∙ ap (λ (p : Prefix). kept_at p why) k)) (kept-gives nothing_there (version_at (whole_lines text)) _ why h)
+    subst (Gives (λ (p : Prefix). p) (prefix_of sc book text)) (sym (e ∙ ap (λ (p : Prefix). kept_at p why) k)) (kept-gives nothing_there (version_at (ended_lines text)) _ why h)

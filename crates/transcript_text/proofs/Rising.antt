@@ -7,7 +7,7 @@ use Rattle.pack_defs.specs.ChannelMap.{IsAscending}
 use Rattle.pack_defs.specs.declared.scenario.Scenario.{Scenario}
 use Rattle.transcript_text.specs.declared.error.TextErr.{TextErr}
 use Rattle.transcript_text.specs.declared.error.TextErr.TheVariants.{BadLine}
-use Rattle.transcript_text.specs.Steps.{◌>>=◌}
+use Rattle.pack_defs.specs.Steps.{◌>>=◌}
 use Rattle.transcript_text.specs.Fields.{LinesLeft, FieldsLeft, next_line, word_at, station_at, station_above, channel_at, line_end, is_above}
 use Rattle.transcript_text.specs.LogLines.{entry_at, entries_at, stations_at}
 

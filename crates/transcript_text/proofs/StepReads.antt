@@ -9,7 +9,7 @@ use Rattle.rup_check.specs.declared.line.Line.{Line}
 use Rattle.cert_types.specs.declared.answer.Receipt.{Receipt}
 use Rattle.cert_types.specs.declared.answer.Receipt.TheVariants.{Lines, Moves}
 use Rattle.cert_types.specs.declared.answer.Refutation.TheVariants.{Dead as DeadPair}
-use Rattle.lrat_text.specs.Lines.{whole_lines, line_of}
+use Rattle.lrat_text.specs.Lines.{ended_lines, line_of}
 use Rattle.lrat_text.specs.LogText.{greatest, log_text, lit_text, zero_field}
 use Rattle.lrat_text.proofs.LineLemmas.{IsField, AreFields}
 use Rattle.lrat_text.proofs.NumberLemmas.{decimal-field}
@@ -20,7 +20,7 @@ use Rattle.auction_core.specs.declared.transcript.TranscriptStep.{TranscriptStep
 use Rattle.transcript_text.specs.Spelling.{entry_text, receipt_text, receipts_text}
 use Rattle.transcript_text.specs.Fields.{greatest_u32, most_counted}
 use Rattle.transcript_text.specs.LogLines.{moves_at}
-use Rattle.transcript_text.specs.Reading.{found_log, numbered_log, some_log, lines_receipt, moves_receipt, receipt_count, receipt_at, receipts_at, test_at, fit_head, same_head, none_head, log_head, dead_head, outside_head, undecided_head, end_head, head_at, step_at, next_step}
+use Rattle.transcript_text.specs.Reading.{found_log, numbered_log, some_log, lines_receipt, moves_receipt, receipt_count, receipt_at, receipts_at, step_test_at, fit_head, same_head, none_head, log_head, dead_head, outside_head, undecided_head, end_head, head_at, step_at, next_step}
 use Rattle.transcript_text.specs.Spelled.{IsStation, IsWorker, IsLog, IsReceipt, AreReceiptsSpelled, IsRefutation}
 use Rattle.transcript_text.proofs.FieldReads.{lines_at, fields_at, line-again, fewer, literal, word-again, end-again, number-again, exactly-again, station-again, channel-again, worker-again}
 use Rattle.transcript_text.proofs.LineReads.{Reads, moves-again, log-again, first-again}
@@ -100,8 +100,8 @@ receipts-again sc worker n (x ∷ xs) (f ∷ firsts) rest small h =
 -- ---- the first line of a step
 
 test-again : (sc : Scenario) (n : ℕ) (t : StepTest) (fields : List (List ℕ)) → t.round ≤ greatest_u32 → IsStation sc t.station
-    → test_at sc (fields_at n (decimal t.round ∷ decimal t.station ∷ fields)) ≡ Ok (t, fields_at n fields)
-unfolding test_at
+    → step_test_at sc (fields_at n (decimal t.round ∷ decimal t.station ∷ fields)) ≡ Ok (t, fields_at n fields)
+unfolding step_test_at
 test-again sc n t fields le h =
     rw (number-again greatest_u32 n t.round (decimal t.station ∷ fields) le (omega (arith, le)), station-again sc n t.station fields h) refl
 
@@ -163,7 +163,7 @@ end-head sc steps n = rw (word-again n (decimal steps) [], end-again n) refl
 pub record IsRead (sc : Scenario) (book : BookView) (steps n : ℕ) (text rest : List ℕ) (x : TranscriptStep) : Type 0 where
   pub number : ℕ
   pub read : next_step sc book steps (lines_at n (text ++ rest)) ≡ Ok (Some x, lines_at number rest)
-  pub less : length (whole_lines rest) < length (whole_lines (text ++ rest))
+  pub less : length (ended_lines rest) < length (ended_lines (text ++ rest))
 
 pub two : (round station : ℕ) (more : List (List ℕ)) → round ≤ greatest_u32 → station ≤ greatest_u32 → AreFields more → AreFields (decimal round ∷ decimal station ∷ more)
 two round station more hr hs h = (decimal-field round (omega (arith, hr)), (decimal-field station (omega (arith, hs)), h))
@@ -182,5 +182,5 @@ from-parts sc book steps n field fields more rest head x h head-is step =
     record {
       number = step.0;
       read = ap (λ text. next_step sc book steps (lines_at n text)) regroup ∙ rw (line-again n field fields (more ++ rest) h, head-is, step.1) refl;
-      less = subst (λ (text : List ℕ). length (whole_lines rest) < length (whole_lines text)) (sym regroup) (fewer field fields more rest h);
+      less = subst (λ (text : List ℕ). length (ended_lines rest) < length (ended_lines text)) (sym regroup) (fewer field fields more rest h);
     }

@@ -16,7 +16,7 @@ use Rattle.transcript_text.specs.declared.head.Head.TheVariants.{Fit, Same, NoCh
 use Rattle.transcript_text.specs.Spelling.{entry_text, receipt_text, receipts_text}
 use Rattle.transcript_text.specs.Fields.{FieldsLeft, LinesLeft, channel_at, count_at, exactly_at, greatest_u32, line_end, most_counted, next_field, next_line, number_at, station_at, word_at, worker_at}
 use Rattle.transcript_text.specs.LogLines.{log_at, moves_at}
-use Rattle.transcript_text.specs.Reading.{FoundLog, FoundReceipt, dead_head, end_head, fit_head, found_log, head_at, head_by, lines_receipt, log_head, moves_receipt, none_head, numbered_log, outside_head, receipt_at, receipt_by, receipt_count, receipts_at, same_head, some_log, test_at, undecided_head}
+use Rattle.transcript_text.specs.Reading.{FoundLog, FoundReceipt, dead_head, end_head, fit_head, found_log, head_at, head_by, lines_receipt, log_head, moves_receipt, none_head, numbered_log, outside_head, receipt_at, receipt_by, receipt_count, receipts_at, same_head, some_log, step_test_at, undecided_head}
 use Rattle.transcript_text.proofs.FieldSaid.{channel-said, end-said, err-ok, exactly-said, field-said, left_text, next-said, number-said, ok-same, same-bytes-said, station-said, word-said, worker-said}
 use Rattle.transcript_text.proofs.LineSaid.{IsListSaid, log-said, moves-said}
 use Rattle.transcript_text.proofs.Rising.{after-ok}
@@ -140,8 +140,8 @@ head_fields sc steps End = codes "end" ∷ decimal steps ∷ []
 abbrev IsHeadSaid : Scenario → ℕ → List ℕ → FieldsLeft → Head → Type 0
 IsHeadSaid sc steps word line head = word ∷ line.fields ≡ head_fields sc steps head
 
-test-said : (sc : Scenario) (line : FieldsLeft) (x : StepTest × FieldsLeft) → test_at sc line ≡ Ok x → line.fields ≡ decimal x.0.round ∷ decimal x.0.station ∷ x.1.fields
-unfolding test_at
+test-said : (sc : Scenario) (line : FieldsLeft) (x : StepTest × FieldsLeft) → step_test_at sc line ≡ Ok x → line.fields ≡ decimal x.0.round ∷ decimal x.0.station ∷ x.1.fields
+unfolding step_test_at
 test-said sc line x e =
     let r = after-ok (number_at greatest_u32 line) _ x e in
     let s = after-ok (station_at sc r.0.1) _ x r.2 in
@@ -151,7 +151,7 @@ test-said sc line x e =
     ∙ ap (λ (y : StepTest × FieldsLeft). decimal y.0.round ∷ decimal y.0.station ∷ y.1.fields) same
 
 -- a test, and a last number
-counted-said : (sc : Scenario) (word : List ℕ) (line : FieldsLeft) (t : StepTest × FieldsLeft) (k : ℕ × FieldsLeft) (u : Unit {0}) → test_at sc line ≡ Ok t → count_at t.1 ≡ Ok k → line_end k.1 ≡ Ok u
+counted-said : (sc : Scenario) (word : List ℕ) (line : FieldsLeft) (t : StepTest × FieldsLeft) (k : ℕ × FieldsLeft) (u : Unit {0}) → step_test_at sc line ≡ Ok t → count_at t.1 ≡ Ok k → line_end k.1 ≡ Ok u
     → word ∷ line.fields ≡ word ∷ decimal t.0.round ∷ decimal t.0.station ∷ decimal k.0 ∷ []
 counted-said sc word line t k u et ek eu =
     ap (λ (f : List (List ℕ)). word ∷ f) (test-said sc line t et)
@@ -159,7 +159,7 @@ counted-said sc word line t k u et ek eu =
     ∙ ap (λ (f : List (List ℕ)). word ∷ decimal t.0.round ∷ decimal t.0.station ∷ decimal k.0 ∷ f) (end-said k.1 u eu)
 
 -- a test and no more
-bare-said : (sc : Scenario) (word : List ℕ) (line : FieldsLeft) (t : StepTest × FieldsLeft) (u : Unit {0}) → test_at sc line ≡ Ok t → line_end t.1 ≡ Ok u
+bare-said : (sc : Scenario) (word : List ℕ) (line : FieldsLeft) (t : StepTest × FieldsLeft) (u : Unit {0}) → step_test_at sc line ≡ Ok t → line_end t.1 ≡ Ok u
     → word ∷ line.fields ≡ word ∷ decimal t.0.round ∷ decimal t.0.station ∷ []
 bare-said sc word line t u et eu =
     ap (λ (f : List (List ℕ)). word ∷ f) (test-said sc line t et)
@@ -168,7 +168,7 @@ bare-said sc word line t u et eu =
 fit-said : (sc : Scenario) (steps : ℕ) (line : FieldsLeft) (head : Head) → fit_head sc line ≡ Ok head → IsHeadSaid sc steps (codes "fit") line head
 unfolding fit_head
 fit-said sc steps line head e =
-    let t = after-ok (test_at sc line) _ head e in
+    let t = after-ok (step_test_at sc line) _ head e in
     let k = after-ok (count_at t.0.1) _ head t.2 in
     let u = after-ok (line_end k.0.1) _ head k.2 in
     subst (IsHeadSaid sc steps (codes "fit") line) (ok-same (Fit t.0.0 k.0.0) head u.2) (counted-said sc (codes "fit") line t.0 k.0 u.0 t.1 k.1 u.1)
@@ -176,21 +176,21 @@ fit-said sc steps line head e =
 same-said : (sc : Scenario) (steps : ℕ) (line : FieldsLeft) (head : Head) → same_head sc line ≡ Ok head → IsHeadSaid sc steps (codes "same") line head
 unfolding same_head
 same-said sc steps line head e =
-    let t = after-ok (test_at sc line) _ head e in
+    let t = after-ok (step_test_at sc line) _ head e in
     let u = after-ok (line_end t.0.1) _ head t.2 in
     subst (IsHeadSaid sc steps (codes "same") line) (ok-same (Same t.0.0) head u.2) (bare-said sc (codes "same") line t.0 u.0 t.1 u.1)
 
 none-said : (sc : Scenario) (steps : ℕ) (line : FieldsLeft) (head : Head) → none_head sc line ≡ Ok head → IsHeadSaid sc steps (codes "none") line head
 unfolding none_head
 none-said sc steps line head e =
-    let t = after-ok (test_at sc line) _ head e in
+    let t = after-ok (step_test_at sc line) _ head e in
     let u = after-ok (line_end t.0.1) _ head t.2 in
     subst (IsHeadSaid sc steps (codes "none") line) (ok-same (NoChannel t.0.0) head u.2) (bare-said sc (codes "none") line t.0 u.0 t.1 u.1)
 
 log-head-said : (sc : Scenario) (steps : ℕ) (line : FieldsLeft) (head : Head) → log_head sc line ≡ Ok head → IsHeadSaid sc steps (codes "log") line head
 unfolding log_head
 log-head-said sc steps line head e =
-    let t = after-ok (test_at sc line) _ head e in
+    let t = after-ok (step_test_at sc line) _ head e in
     let w = after-ok (worker_at sc t.0.1) _ head t.2 in
     let k = after-ok (count_at w.0.1) _ head w.2 in
     let u = after-ok (line_end k.0.1) _ head k.2 in
@@ -203,7 +203,7 @@ log-head-said sc steps line head e =
 dead-said : (sc : Scenario) (steps : ℕ) (line : FieldsLeft) (head : Head) → dead_head sc line ≡ Ok head → IsHeadSaid sc steps (codes "dead") line head
 unfolding dead_head
 dead-said sc steps line head e =
-    let t = after-ok (test_at sc line) _ head e in
+    let t = after-ok (step_test_at sc line) _ head e in
     let w = after-ok (worker_at sc t.0.1) _ head t.2 in
     let f = after-ok (station_at sc w.0.1) _ head w.2 in
     let a = after-ok (channel_at f.0.1) _ head f.2 in
@@ -223,7 +223,7 @@ dead-said sc steps line head e =
 outside-said : (sc : Scenario) (steps : ℕ) (line : FieldsLeft) (head : Head) → outside_head sc line ≡ Ok head → IsHeadSaid sc steps (codes "outside") line head
 unfolding outside_head
 outside-said sc steps line head e =
-    let t = after-ok (test_at sc line) _ head e in
+    let t = after-ok (step_test_at sc line) _ head e in
     let k = after-ok (count_at t.0.1) _ head t.2 in
     let u = after-ok (line_end k.0.1) _ head k.2 in
     subst (IsHeadSaid sc steps (codes "outside") line) (ok-same (Outside t.0.0 k.0.0) head u.2) (counted-said sc (codes "outside") line t.0 k.0 u.0 t.1 k.1 u.1)
@@ -231,7 +231,7 @@ outside-said sc steps line head e =
 undecided-said : (sc : Scenario) (steps : ℕ) (line : FieldsLeft) (head : Head) → length sc.workers ≤ greatest → undecided_head sc line ≡ Ok head → IsHeadSaid sc steps (codes "undecided") line head
 unfolding undecided_head
 undecided-said sc steps line head le e =
-    let t = after-ok (test_at sc line) _ head e in
+    let t = after-ok (step_test_at sc line) _ head e in
     let r = after-ok (exactly_at (length sc.workers) t.0.1) _ head t.2 in
     let u = after-ok (line_end r.0) _ head r.2 in
     subst (IsHeadSaid sc steps (codes "undecided") line) (ok-same (Undecided t.0.0) head u.2)

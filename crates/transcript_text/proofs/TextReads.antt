@@ -14,7 +14,7 @@ use Rattle.cert_types.specs.declared.answer.Refutation.TheVariants.{Proof, Dead 
 use Rattle.cert_types.specs.declared.outside.OutsideProof.{OutsideProof}
 use Rattle.auction_core.specs.declared.record.Shown.{Shown}
 use Rattle.auction_core.specs.declared.record.Shown.TheVariants.{Empty, Fits, Same as LikeBefore, NoChannel as WithoutChannel, Refuted, Outside as ByOutside, Undecided as LeftOpen}
-use Rattle.lrat_text.specs.Lines.{whole_lines, is_whole, line_of, joined}
+use Rattle.lrat_text.specs.Lines.{ended_lines, is_whole, line_of, with_spaces}
 use Rattle.lrat_text.specs.LogText.{log_text}
 use Rattle.lrat_text.proofs.LineLemmas.{IsField, AreFields}
 use Rattle.lrat_text.proofs.NumberLemmas.{decimal-field}
@@ -22,7 +22,7 @@ use Rattle.transcript_text.specs.declared.head.StepTest.{StepTest}
 use Rattle.transcript_text.specs.declared.head.Head.TheVariants.{Fit, Same, NoChannel, Log as LogHead, Dead, Outside, Undecided}
 use Rattle.auction_core.specs.declared.transcript.Transcript.{Transcript}
 use Rattle.auction_core.specs.declared.transcript.TranscriptStep.{TranscriptStep}
-use Rattle.transcript_text.specs.Steps.{◌>>=◌}
+use Rattle.pack_defs.specs.Steps.{◌>>=◌}
 use Rattle.auction_core.specs.LogNumbers.{clauses_in}
 use Rattle.transcript_text.specs.Spelling.{at_lines, head_line, outside_text, receipts_text, refuted_text, shown_text, step_text, start_text, version_text, end_text, spelling}
 use Rattle.transcript_text.specs.Fields.{greatest_u32, most_counted}
@@ -198,7 +198,7 @@ steps-text book k [] = line_of (codes "end" ∷ decimal k ∷ []) ++ []
 steps-text book k (x ∷ xs) = step_text book x ++ steps-text book (k + 1) xs
 
 steps-read : (sc : Scenario) (book : BookView) (most k n : ℕ) (xs : List TranscriptStep) → length sc.workers < 2 ^ 32 → k + length xs < 2 ^ 64 → AllByRecursion (IsStepSpelled sc book) xs
-    → length (whole_lines (steps-text book k xs)) ≤ most
+    → length (ended_lines (steps-text book k xs)) ≤ most
     → Reads (steps_at sc book most k (lines_at n (steps-text book k xs))) xs []
 unfolding steps_at
 steps-read sc book zero k n [] workers small h le =
@@ -260,15 +260,15 @@ whole-behind (c ∷ d ∷ xs) ys h = ((whole-behind (d ∷ xs) ys h).0, omega ar
 
 line-whole : (fields : List (List ℕ)) → EndsWhole (line_of fields)
 unfolding is_whole
-line-whole fields = whole-behind (joined fields) (10 ∷ []) (refl, omega arith)
+line-whole fields = whole-behind (with_spaces fields) (10 ∷ []) (refl, omega arith)
 
-version-again : (order : Order) (rest : List ℕ) → version_at (whole_lines (version_text order ++ rest)) ≡ Ok (order, lines_at 2 rest)
-unfolding whole_lines joined version_text order_of
+version-again : (order : Order) (rest : List ℕ) → version_at (ended_lines (version_text order ++ rest)) ≡ Ok (order, lines_at 2 rest)
+unfolding ended_lines with_spaces version_text order_of
 version-again ByFacility rest = refl
 version-again ByVolume rest = refl
 
 nothing-left : (t : Transcript) (m : ℕ) → (text_end true (lines_at m []) >>= λ u. Ok (record { order = t.order; start = t.start; steps = t.steps })) ≡ Ok t
-unfolding whole_lines
+unfolding ended_lines
 nothing-left t m = refl
 
 -- a transcript that is written is read again as itself
@@ -282,9 +282,9 @@ transcript-again sc book t h =
     ap (λ (m : ℕ). flat_map (step_text book) t.steps ++ line_of (codes "end" ∷ decimal m ∷ [])) zero-k ∙ regrouped book 0 t.steps in
     let start = start-read sc 2 t.start (flat_map (step_text book) t.steps ++ last) h.start in
     let count = h.count in
-    let steps = steps-read sc book (length (whole_lines (steps-text book 0 t.steps))) 0 start.0 t.steps h.workers (omega (arith, count)) h.steps (omega arith) in
-    let steps' : steps_at sc book (length (whole_lines (flat_map (step_text book) t.steps ++ last))) 0 (lines_at start.0 (flat_map (step_text book) t.steps ++ last)) ≡ Ok (t.steps, lines_at steps.0 []) =
-    subst (λ (text : List ℕ). steps_at sc book (length (whole_lines text)) 0 (lines_at start.0 text) ≡ Ok (t.steps, lines_at steps.0 [])) (sym steps-is) steps.1 in
+    let steps = steps-read sc book (length (ended_lines (steps-text book 0 t.steps))) 0 start.0 t.steps h.workers (omega (arith, count)) h.steps (omega arith) in
+    let steps' : steps_at sc book (length (ended_lines (flat_map (step_text book) t.steps ++ last))) 0 (lines_at start.0 (flat_map (step_text book) t.steps ++ last)) ≡ Ok (t.steps, lines_at steps.0 []) =
+    subst (λ (text : List ℕ). steps_at sc book (length (ended_lines text)) 0 (lines_at start.0 text) ≡ Ok (t.steps, lines_at steps.0 [])) (sym steps-is) steps.1 in
     let whole = whole-behind (version_text t.order) (start_text t.start ++ (flat_map (step_text book) t.steps ++ last))
     (whole-behind (start_text t.start) (flat_map (step_text book) t.steps ++ last) (whole-behind (flat_map (step_text book) t.steps) last (line-whole (codes "end" ∷ decimal k ∷ [])))) in
     rw (version-again t.order (start_text t.start ++ (flat_map (step_text book) t.steps ++ last)), start.1, steps', whole.0) (nothing-left t steps.0)

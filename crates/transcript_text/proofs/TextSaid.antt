@@ -12,7 +12,7 @@ use Rattle.pack_defs.specs.declared.scenario.Scenario.{Scenario}
 use Rattle.cert_types.specs.declared.answer.Refutation.TheVariants.{Proof as LogProof, Dead as DeadPair}
 use Rattle.auction_core.specs.declared.record.Shown.{Shown}
 use Rattle.auction_core.specs.declared.record.Shown.TheVariants.{Empty, Fits, Same as LikeBefore, NoChannel as WithoutChannel, Refuted, Outside as ByOutside, Undecided as LeftOpen}
-use Rattle.lrat_text.specs.Lines.{is_whole, joined, line_of, whole_lines}
+use Rattle.lrat_text.specs.Lines.{is_whole, with_spaces, line_of, ended_lines}
 use Rattle.lrat_text.specs.LogText.{greatest, log_text}
 use Rattle.lrat_text.proofs.OneSpelling.{ended, whole-text}
 use Rattle.transcript_text.specs.declared.error.TextErr.{TextErr}
@@ -199,7 +199,7 @@ start-said sc lines x e =
 -- ---- the whole
 
 order-said : (line : List ℕ) (order : Order) → order_of line ≡ Some order → line ++ 10 ∷ [] ≡ version_text order
-unfolding order_of version_text joined
+unfolding order_of version_text with_spaces
 order-said line order e = go (bytes_eq line (codes "transcript 1")) (bytes_eq line (codes "transcript 2")) refl refl e
   where
     named : {one other : Order} → Some one ≡ Some other → one ≡ other
@@ -231,7 +231,7 @@ empty-left (line ∷ lines) e = absurd cc
 pub transcript-said : (sc : Scenario) (book : BookView) (text : List ℕ) (t : Transcript) → length sc.workers ≤ greatest → transcript_of sc book text ≡ Ok t → text ≡ spelling book t
 unfolding transcript_of spelling
 transcript-said sc book text t le e =
-    let version = after-ok (version_at (whole_lines text)) _ t e in
+    let version = after-ok (version_at (ended_lines text)) _ t e in
     let start = after-ok (start_at sc version.0.1) _ t version.2 in
     let steps = after-ok (steps_at sc book (length start.0.1.left) 0 start.0.1) _ t start.2 in
     let u = after-ok (text_end (is_whole text) steps.0.1) _ t steps.2 in
@@ -246,6 +246,6 @@ transcript-said sc book text t le e =
     ∙ ap (λ (n : ℕ). (flat_map (step_text book) steps.0.0 ++ end_text n) ++ left_text steps.0.1) count
     ∙ ap (λ (r : List ℕ). all ++ r) none ∙ append-nil all in
     sym (whole-text text parts.1)
-    ∙ version-said (whole_lines text) version.0 version.1
+    ∙ version-said (ended_lines text) version.0 version.1
     ∙ ap (λ (r : List ℕ). version_text version.0.0 ++ r) (start-said sc version.0.1 start.0 start.1 ∙ ap (λ (r : List ℕ). start_text start.0.0 ++ r) said)
     ∙ ap (spelling book) same

@@ -17,14 +17,14 @@ three = auction_of_three (learner 1000 ∷ [])
 abbrev pub step : ℕ → ℕ → Shown → TranscriptStep
 step round station shown = record { step = record { round = round; station = station; shown = shown }; firsts = [] }
 
-abbrev pub fitted : ℕ → ℕ → ℕ → TranscriptStep
-fitted round station channel = step round station (Fits ((station, channel) ∷ []))
+abbrev pub fitted_step : ℕ → ℕ → ℕ → TranscriptStep
+fitted_step round station channel = step round station (Fits ((station, channel) ∷ []))
 
 abbrev pub three_transcript : Transcript
 three_transcript = record {
   order = ByFacility;
   start = Empty;
-  steps = fitted 1 1 14 ∷ fitted 1 2 14 ∷ fitted 1 3 15 ∷ fitted 2 1 15
+  steps = fitted_step 1 1 14 ∷ fitted_step 1 2 14 ∷ fitted_step 1 3 15 ∷ fitted_step 2 1 15
       ∷ step 2 3 (Refuted 0 (Proof (1 ∷ 2 ∷ 3 ∷ []) (log (not_one ∷ the_end ∷ [])))) ∷ [];
 }
 

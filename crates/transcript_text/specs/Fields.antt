@@ -10,7 +10,7 @@ use Rattle.lrat_text.specs.LogReading.{natural, field_of}
 use Rattle.lrat_text.specs.LogText.{greatest}
 use Rattle.transcript_text.specs.declared.error.TextErr.{TextErr}
 use Rattle.transcript_text.specs.declared.error.TextErr.TheVariants.{BadLine, Truncated}
-use Rattle.transcript_text.specs.Steps.{◌>>=◌}
+use Rattle.pack_defs.specs.Steps.{◌>>=◌}
 
 -- the whole lines that are left of a text, and the number of the first of them
 pub record LinesLeft : Type 0 where
@@ -54,18 +54,18 @@ word_at word line = do
   if bytes_eq field.0 word then Ok field.1 else Err (BadLine line.number)
 
 -- a number as it is spelled in a transcript: no 0 stands before another digit, and none behind a minus sign
-abbrev pub is_plain : List ℕ → Bool
-is_plain [] = false
-is_plain (c ∷ []) = true
-is_plain (c ∷ d ∷ rest) = if c == 45 then not (d == 48) else not (c == 48)
+abbrev pub is_plainly_spelled : List ℕ → Bool
+is_plainly_spelled [] = false
+is_plainly_spelled (c ∷ []) = true
+is_plainly_spelled (c ∷ d ∷ rest) = if c == 45 then not (d == 48) else not (c == 48)
 
 -- the number of a field, at most this
 unfoldable pub plain_number : ℕ → List ℕ → Option ℕ
-plain_number most field = if is_plain field then natural most field else None
+plain_number most field = if is_plainly_spelled field then natural most field else None
 
 -- what a field of a log's line says
 unfoldable pub plain_field : List ℕ → Option Field
-plain_field field = if is_plain field then field_of field else None
+plain_field field = if is_plainly_spelled field then field_of field else None
 
 -- these digits say this number from 1, and no 0 stands before them
 abbrev pub IsNumeral : List ℕ → ℕ → Type 0

@@ -9,7 +9,7 @@ use Rattle.lrat_text.specs.declared.field.Field.TheVariants.{End, Number}
 use Rattle.lrat_text.specs.LogText.{greatest}
 use Rattle.transcript_text.specs.declared.error.TextErr.{TextErr}
 use Rattle.transcript_text.specs.declared.error.TextErr.TheVariants.{BadLine}
-use Rattle.transcript_text.specs.Steps.{◌>>=◌}
+use Rattle.pack_defs.specs.Steps.{◌>>=◌}
 use Rattle.transcript_text.specs.Fields.{LinesLeft, FieldsLeft, next_line, line_end, word_at, plain_field, number_at, station_above, channel_at}
 
 -- the literals before a 0, and the fields behind it

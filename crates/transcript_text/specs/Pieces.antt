@@ -2,7 +2,7 @@
 use Rattle.std.specs.Prelude.{◌≡◌, ℕ, Bool, true, false, ◌++◌, if◌then◌else◌, List, [], length, Result, Ok, Err}
 use Rattle.pack_defs.specs.Book.{BookView}
 use Rattle.pack_defs.specs.declared.scenario.Scenario.{Scenario}
-use Rattle.lrat_text.specs.Lines.{whole_lines, is_whole}
+use Rattle.lrat_text.specs.Lines.{ended_lines, is_whole}
 use Rattle.transcript_text.specs.declared.error.TextErr.{TextErr}
 use Rattle.transcript_text.specs.declared.error.TextErr.TheVariants.{Version, BadLine, Truncated, NoMemory}
 use Rattle.transcript_text.specs.declared.reader.Stage.{Stage}
@@ -10,7 +10,8 @@ use Rattle.transcript_text.specs.declared.reader.Stage.TheVariants.{Opening, Ste
 use Rattle.auction_core.specs.declared.transcript.Transcript.{Transcript}
 use Rattle.transcript_text.specs.Fields.{LinesLeft}
 use Rattle.transcript_text.specs.Reading.{next_step, start_at, steps_at, text_end, transcript_of, version_at}
-use Rattle.transcript_text.specs.Steps.{◌>>=◌, Fails}
+use Rattle.pack_defs.specs.Steps.{◌>>=◌}
+use Rattle.transcript_text.specs.Steps.{Fails}
 
 -- what a reader has of a text: how far it came, the number of the first line behind that, and the bytes from there on
 pub record ReadSoFar : Type 0 where
@@ -97,7 +98,7 @@ SaysSame sc book stage lines next rest =
 -- what the text says, where these bytes are all from there on
 abbrev pub said_by : Scenario → BookView → ReadSoFar → List ℕ → Result Transcript TextErr
 said_by sc book read bytes =
-    comes_to sc book read.stage (is_whole bytes) (record { number = read.number; left = whole_lines bytes })
+    comes_to sc book read.stage (is_whole bytes) (record { number = read.number; left = ended_lines bytes })
 
 -- The reader has read these bytes: whatever comes behind them, it makes of it what the whole text says.
 pub record HasRead (sc : Scenario) (book : BookView) (bytes : List ℕ) (read : ReadSoFar) : Type 0 where
@@ -109,5 +110,5 @@ ReadsSame sc book read next = (more : List ℕ) → said_by sc book read (read.l
 
 -- Whatever comes behind, these bytes have the whole lines of a text, then those of the bytes behind it, and end as these do.
 pub record HasLinesOf (text behind kept : List ℕ) : Type 0 where
-  pub lines : (more : List ℕ) → whole_lines (kept ++ more) ≡ whole_lines text ++ whole_lines (behind ++ more)
+  pub lines : (more : List ℕ) → ended_lines (kept ++ more) ≡ ended_lines text ++ ended_lines (behind ++ more)
   pub end : (more : List ℕ) → is_whole (kept ++ more) ≡ is_whole (behind ++ more)

@@ -3,7 +3,7 @@ use Rattle.std.specs.Prelude.{◌≡◌, ◌++◌, ℕ, zero, suc, Bool, true, f
 use Rattle.pack_defs.specs.Book.{BookView}
 use Rattle.pack_defs.specs.declared.scenario.Scenario.{Scenario}
 use Rattle.pack_defs.specs.declared.order.Order.{Order}
-use Rattle.lrat_text.specs.Lines.{whole_lines}
+use Rattle.lrat_text.specs.Lines.{ended_lines}
 use Rattle.transcript_text.specs.declared.error.TextErr.{TextErr}
 use Rattle.transcript_text.specs.declared.error.TextErr.TheVariants.{Version, BadLine, Truncated, NoMemory}
 use Rattle.auction_core.specs.declared.prefix.Prefix.{Prefix}
@@ -12,7 +12,8 @@ use Rattle.auction_core.specs.declared.transcript.TranscriptStep.{TranscriptStep
 use Rattle.transcript_text.specs.Fields.{LinesLeft}
 use Rattle.transcript_text.specs.Pieces.{StepsSoFar}
 use Rattle.transcript_text.specs.Reading.{next_step, start_at, text_end, version_at}
-use Rattle.transcript_text.specs.Steps.{◌>>=◌, Fails}
+use Rattle.pack_defs.specs.Steps.{◌>>=◌}
+use Rattle.transcript_text.specs.Steps.{Fails}
 
 -- ---- what is kept where lines are wanted
 
@@ -82,7 +83,7 @@ start_there sc book order lines =
 -- line that may not stand where it stands, or one behind the `end` line.
 unfoldable pub prefix_of : Scenario → BookView → List ℕ → Result Prefix TextErr
 prefix_of sc book text =
-    if_there nothing_there (version_at (whole_lines text)) (λ version. start_there sc book version.0 version.1)
+    if_there nothing_there (version_at (ended_lines text)) (λ version. start_there sc book version.0 version.1)
 
 -- ---- what reading steps comes to
 

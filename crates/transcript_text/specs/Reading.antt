@@ -13,7 +13,7 @@ use Rattle.cert_types.specs.declared.answer.Receipt.TheVariants.{Lines, Moves}
 use Rattle.cert_types.specs.declared.answer.Refutation.TheVariants.{Proof as LogProof, Dead as DeadPair}
 use Rattle.auction_core.specs.declared.record.Shown.{Shown}
 use Rattle.auction_core.specs.declared.record.Shown.TheVariants.{Empty, Fits, Same as LikeBefore, NoChannel as WithoutChannel, Refuted, Outside as ByOutside, Undecided as LeftOpen}
-use Rattle.lrat_text.specs.Lines.{whole_lines, is_whole}
+use Rattle.lrat_text.specs.Lines.{ended_lines, is_whole}
 use Rattle.lrat_text.specs.LogText.{greatest}
 use Rattle.transcript_text.specs.declared.error.TextErr.{TextErr}
 use Rattle.transcript_text.specs.declared.error.TextErr.TheVariants.{Version, BadLine, Truncated}
@@ -22,7 +22,7 @@ use Rattle.transcript_text.specs.declared.head.Head.{Head}
 use Rattle.transcript_text.specs.declared.head.Head.TheVariants.{Fit, Same, NoChannel, Log as LogHead, Dead, Outside, Undecided, End}
 use Rattle.auction_core.specs.declared.transcript.Transcript.{Transcript}
 use Rattle.auction_core.specs.declared.transcript.TranscriptStep.{TranscriptStep}
-use Rattle.transcript_text.specs.Steps.{◌>>=◌}
+use Rattle.pack_defs.specs.Steps.{◌>>=◌}
 use Rattle.auction_core.specs.LogNumbers.{clauses_in}
 use Rattle.transcript_text.specs.Fields.{LinesLeft, FieldsLeft, next_line, next_field, line_end, word_at, number_at, count_at, exactly_at, station_at, channel_at, worker_at, greatest_u32, most_counted}
 use Rattle.transcript_text.specs.LogLines.{log_at, entries_at, moves_at, stations_at}
@@ -99,34 +99,34 @@ receipts_at sc worker (suc k) lines = do
 -- ---- the first line of a step
 
 -- the round and the station
-unfoldable pub test_at : Scenario → FieldsLeft → Result (StepTest × FieldsLeft) TextErr
-test_at sc line = do
+unfoldable pub step_test_at : Scenario → FieldsLeft → Result (StepTest × FieldsLeft) TextErr
+step_test_at sc line = do
   r ← number_at greatest_u32 line
   s ← station_at sc r.1
   Ok (record { round = r.0; station = s.0 }, s.1)
 
 unfoldable pub fit_head : Scenario → FieldsLeft → Result Head TextErr
 fit_head sc line = do
-  t ← test_at sc line
+  t ← step_test_at sc line
   k ← count_at t.1
   u ← line_end k.1
   Ok (Fit t.0 k.0)
 
 unfoldable pub same_head : Scenario → FieldsLeft → Result Head TextErr
 same_head sc line = do
-  t ← test_at sc line
+  t ← step_test_at sc line
   u ← line_end t.1
   Ok (Same t.0)
 
 unfoldable pub none_head : Scenario → FieldsLeft → Result Head TextErr
 none_head sc line = do
-  t ← test_at sc line
+  t ← step_test_at sc line
   u ← line_end t.1
   Ok (NoChannel t.0)
 
 unfoldable pub log_head : Scenario → FieldsLeft → Result Head TextErr
 log_head sc line = do
-  t ← test_at sc line
+  t ← step_test_at sc line
   w ← worker_at sc t.1
   k ← count_at w.1
   u ← line_end k.1
@@ -134,7 +134,7 @@ log_head sc line = do
 
 unfoldable pub dead_head : Scenario → FieldsLeft → Result Head TextErr
 dead_head sc line = do
-  t ← test_at sc line
+  t ← step_test_at sc line
   w ← worker_at sc t.1
   f ← station_at sc w.1
   a ← channel_at f.1
@@ -145,7 +145,7 @@ dead_head sc line = do
 
 unfoldable pub outside_head : Scenario → FieldsLeft → Result Head TextErr
 outside_head sc line = do
-  t ← test_at sc line
+  t ← step_test_at sc line
   k ← count_at t.1
   u ← line_end k.1
   Ok (Outside t.0 k.0)
@@ -153,7 +153,7 @@ outside_head sc line = do
 -- it counts a receipt of each worker
 unfoldable pub undecided_head : Scenario → FieldsLeft → Result Head TextErr
 undecided_head sc line = do
-  t ← test_at sc line
+  t ← step_test_at sc line
   rest ← exactly_at (length sc.workers) t.1
   u ← line_end rest
   Ok (Undecided t.0)
@@ -185,15 +185,15 @@ head_at sc steps line = do
   head_by sc steps word.0 word.1
 
 -- a step's log has no more lines than may be counted
-abbrev pub IsCounted : Head → Type 0
-IsCounted (Fit test k) = Unit {0}
-IsCounted (Same test) = Unit {0}
-IsCounted (NoChannel test) = Unit {0}
-IsCounted (LogHead test worker k) = k ≤ most_counted
-IsCounted (Dead test worker pair) = Unit {0}
-IsCounted (Outside test k) = k ≤ most_counted
-IsCounted (Undecided test) = Unit {0}
-IsCounted End = Unit {0}
+abbrev pub IsHeadCounted : Head → Type 0
+IsHeadCounted (Fit test k) = Unit {0}
+IsHeadCounted (Same test) = Unit {0}
+IsHeadCounted (NoChannel test) = Unit {0}
+IsHeadCounted (LogHead test worker k) = k ≤ most_counted
+IsHeadCounted (Dead test worker pair) = Unit {0}
+IsHeadCounted (Outside test k) = k ≤ most_counted
+IsHeadCounted (Undecided test) = Unit {0}
+IsHeadCounted End = Unit {0}
 
 -- ---- a step
 
@@ -312,7 +312,7 @@ text_end whole lines = if is_empty lines.left && whole then Ok tt else Err (BadL
 -- that may not stand where it stands, or any bytes behind the `end` line; the text ends before its `end` line does.
 unfoldable pub transcript_of : Scenario → BookView → List ℕ → Result Transcript TextErr
 transcript_of sc book text = do
-  version ← version_at (whole_lines text)
+  version ← version_at (ended_lines text)
   start ← start_at sc version.1
   steps ← steps_at sc book (length start.1.left) 0 start.1
   u ← text_end (is_whole text) steps.1

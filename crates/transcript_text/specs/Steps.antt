@@ -3,12 +3,6 @@ use Rattle.std.specs.Prelude.{◌≡◌, Result, Ok, Err}
 use Rattle.transcript_text.specs.declared.error.TextErr.{TextErr}
 use Rattle.transcript_text.specs.declared.error.TextErr.TheVariants.{Version, BadLine, Truncated, NoMemory}
 
-infixl 10 ◌>>=◌
--- what the next step makes of the value, unless this one is refused
-abbrev pub ◌>>=◌ : {A B : Type 0} → Result A TextErr → (A → Result B TextErr) → Result B TextErr
-Ok x >>= f = f x
-Err why >>= f = Err why
-
 -- the error is what reading gives, unless memory ran out
 abbrev pub Fails : {Y : Type 0} → TextErr → Result Y TextErr → Type 0
 Fails Version read = read ≡ Err Version

@@ -2,7 +2,7 @@
 
 ghost use Rattle.std.specs.Prelude.{IfOk};
 ghost use Rattle.pack_defs.specs.Scenario.{StationsAscend};
-ghost use Rattle.transcript_text.specs.Reading.{IsCounted, dead_head, end_head, fit_head, head_at, head_by, log_head, none_head, outside_head, same_head, test_at, undecided_head};
+ghost use Rattle.transcript_text.specs.Reading.{IsHeadCounted, dead_head, end_head, fit_head, head_at, head_by, log_head, none_head, outside_head, same_head, step_test_at, undecided_head};
 ghost use Rattle.transcript_text.specs.Steps.{Gives};
 
 use crate::error::TextErr;
@@ -16,10 +16,10 @@ use pack_defs::pair::Pair;
 use pack_defs::scenario::Scenario;
 
 // The round and the station.
-#[tactic(auto, unfolding(crate::specs::Reading::test_at))]
+#[tactic(auto, unfolding(crate::specs::Reading::step_test_at))]
 fn test_at<'a>(sc: &Scenario, line: LineFields<'a>) -> Result<(StepTest, LineFields<'a>), TextErr>
     requires { StationsAscend sc.now }
-    ensures { Gives (λ x. x) (test_at sc.now line.entry) result }
+    ensures { Gives (λ x. x) (step_test_at sc.now line.entry) result }
 {
     let (round, rest) = short_number(line)?;
     let (station, rest) = station_at(sc, rest)?;
@@ -30,7 +30,7 @@ fn test_at<'a>(sc: &Scenario, line: LineFields<'a>) -> Result<(StepTest, LineFie
 fn fit_head<'a>(sc: &Scenario, line: LineFields<'a>) -> Result<Head, TextErr>
     requires { StationsAscend sc.now }
     ensures head { Gives (λ x. x) (fit_head sc.now line.entry) result }
-    ensures counted { IfOk result IsCounted }
+    ensures counted { IfOk result IsHeadCounted }
 {
     let (test, rest) = test_at(sc, line)?;
     let (count, rest) = count_at(rest)?;
@@ -42,7 +42,7 @@ fn fit_head<'a>(sc: &Scenario, line: LineFields<'a>) -> Result<Head, TextErr>
 fn same_head<'a>(sc: &Scenario, line: LineFields<'a>) -> Result<Head, TextErr>
     requires { StationsAscend sc.now }
     ensures head { Gives (λ x. x) (same_head sc.now line.entry) result }
-    ensures counted { IfOk result IsCounted }
+    ensures counted { IfOk result IsHeadCounted }
 {
     let (test, rest) = test_at(sc, line)?;
     line_end(rest)?;
@@ -53,7 +53,7 @@ fn same_head<'a>(sc: &Scenario, line: LineFields<'a>) -> Result<Head, TextErr>
 fn none_head<'a>(sc: &Scenario, line: LineFields<'a>) -> Result<Head, TextErr>
     requires { StationsAscend sc.now }
     ensures head { Gives (λ x. x) (none_head sc.now line.entry) result }
-    ensures counted { IfOk result IsCounted }
+    ensures counted { IfOk result IsHeadCounted }
 {
     let (test, rest) = test_at(sc, line)?;
     line_end(rest)?;
@@ -64,7 +64,7 @@ fn none_head<'a>(sc: &Scenario, line: LineFields<'a>) -> Result<Head, TextErr>
 fn log_head<'a>(sc: &Scenario, line: LineFields<'a>) -> Result<Head, TextErr>
     requires { StationsAscend sc.now }
     ensures head { Gives (λ x. x) (log_head sc.now line.entry) result }
-    ensures counted { IfOk result IsCounted }
+    ensures counted { IfOk result IsHeadCounted }
 {
     let (test, rest) = test_at(sc, line)?;
     let (worker, rest) = worker_at(sc, rest)?;
@@ -81,7 +81,7 @@ fn log_head<'a>(sc: &Scenario, line: LineFields<'a>) -> Result<Head, TextErr>
 fn dead_head<'a>(sc: &Scenario, line: LineFields<'a>) -> Result<Head, TextErr>
     requires { StationsAscend sc.now }
     ensures head { Gives (λ x. x) (dead_head sc.now line.entry) result }
-    ensures counted { IfOk result IsCounted }
+    ensures counted { IfOk result IsHeadCounted }
 {
     let (test, rest) = test_at(sc, line)?;
     let (worker, rest) = worker_at(sc, rest)?;
@@ -101,7 +101,7 @@ fn dead_head<'a>(sc: &Scenario, line: LineFields<'a>) -> Result<Head, TextErr>
 fn outside_head<'a>(sc: &Scenario, line: LineFields<'a>) -> Result<Head, TextErr>
     requires { StationsAscend sc.now }
     ensures head { Gives (λ x. x) (outside_head sc.now line.entry) result }
-    ensures counted { IfOk result IsCounted }
+    ensures counted { IfOk result IsHeadCounted }
 {
     let (test, rest) = test_at(sc, line)?;
     let (count, rest) = count_at(rest)?;
@@ -114,7 +114,7 @@ fn outside_head<'a>(sc: &Scenario, line: LineFields<'a>) -> Result<Head, TextErr
 fn undecided_head<'a>(sc: &Scenario, line: LineFields<'a>) -> Result<Head, TextErr>
     requires { StationsAscend sc.now }
     ensures head { Gives (λ x. x) (undecided_head sc.now line.entry) result }
-    ensures counted { IfOk result IsCounted }
+    ensures counted { IfOk result IsHeadCounted }
 {
     let (test, rest) = test_at(sc, line)?;
     let rest = exactly_at(sc.workers.as_slice().len() as u64, rest)?;
@@ -126,7 +126,7 @@ fn undecided_head<'a>(sc: &Scenario, line: LineFields<'a>) -> Result<Head, TextE
 #[tactic(auto, unfolding(crate::specs::Reading::end_head))]
 fn end_head<'a>(steps: u64, line: LineFields<'a>) -> Result<Head, TextErr>
     ensures head { Gives (λ x. x) (end_head steps line.entry) result }
-    ensures counted { IfOk result IsCounted }
+    ensures counted { IfOk result IsHeadCounted }
 {
     let mut buffer = Buffer::new();
     let rest = word_at(buffer.format(steps).as_bytes(), line)?;
@@ -143,7 +143,7 @@ fn head_by<'a>(
 ) -> Result<Head, TextErr>
     requires { StationsAscend sc.now }
     ensures head { Gives (λ x. x) (head_by sc.now steps word.now line.entry) result }
-    ensures counted { IfOk result IsCounted }
+    ensures counted { IfOk result IsHeadCounted }
 {
     if word == b"fit".as_slice() {
         return fit_head(sc, line);
@@ -177,7 +177,7 @@ fn head_by<'a>(
 pub(crate) fn head_at<'a>(sc: &Scenario, steps: u64, line: LineFields<'a>) -> Result<Head, TextErr>
     requires { StationsAscend sc.now }
     ensures head { Gives (λ x. x) (head_at sc.now steps line.entry) result }
-    ensures counted { IfOk result IsCounted }
+    ensures counted { IfOk result IsHeadCounted }
 {
     let (word, rest) = next_field(line)?;
     head_by(sc, steps, word, rest)

@@ -15,7 +15,7 @@ ghost use Rattle.auction_core.specs.declared.transcript.Transcript.{Transcript};
 ghost use Rattle.transcript_text.specs.Spelled.{IsSpelled};
 ghost use Rattle.pack_defs.specs.Examples.{three_stations};
 ghost use Rattle.transcript_text.specs.declared.error.TextErr.TheVariants.{BadLine, Truncated, Version};
-ghost use Rattle.transcript_text.specs.Examples.{fitted, later_text, later_transcript, other_text, other_transcript, three, three_text, three_transcript, two_workers};
+ghost use Rattle.transcript_text.specs.Examples.{fitted_step, later_text, later_transcript, other_text, other_transcript, three, three_text, three_transcript, two_workers};
 ghost use Rattle.auction_core.specs.declared.prefix.Prefix.{Prefix};
 ghost use Rattle.transcript_text.specs.PrefixReading.{IsPrefixOf, prefix_of, transcript_there};
 ghost use Rattle.transcript_text.specs.PrefixSpelling.{prefix_spelling};
@@ -25,7 +25,7 @@ ghost use Rattle.transcript_text.specs.Spelling.{spelling, transcript_for, trans
 /// The transcript of the three stations' auction, both ways, and some texts that are refused.
 pub fn text_of_three_stations()
     ensures written { spelling three_stations three_transcript ≡ three_text }
-    ensures read { transcript_of three three_stations (codes "transcript 1\nstart empty\nfit 1 1 1\nat 1 14\nend 1\n") ≡ Ok (record { order = ByFacility; start = Shown.Empty; steps = fitted 1 1 14 ∷ [] }) }
+    ensures read { transcript_of three three_stations (codes "transcript 1\nstart empty\nfit 1 1 1\nat 1 14\nend 1\n") ≡ Ok (record { order = ByFacility; start = Shown.Empty; steps = fitted_step 1 1 14 ∷ [] }) }
     ensures whole { transcript_of three three_stations three_text ≡ Ok three_transcript }
     ensures version { transcript_of three three_stations (codes "transcript 1\r\n") ≡ Err Version }
     ensures none { transcript_of three three_stations (codes "transcript 3") ≡ Err Truncated }

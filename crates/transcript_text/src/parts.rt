@@ -38,7 +38,7 @@ fn push_entries(text: &mut Vec<u8>, word: &[u8], entries: &[(u32, u8)]) -> Resul
 }
 
 /// Adds the first line, which says in which order a round tests the stations.
-#[tactic(auto, unfolding(crate::specs::Spelling::version_text, lrat_text::specs::Lines::joined))]
+#[tactic(auto, unfolding(crate::specs::Spelling::version_text, lrat_text::specs::Lines::with_spaces))]
 pub(crate) fn push_version(text: &mut Vec<u8>, order: Order) -> Result<(), NoMemory>
     ensures { OnOk result (text.new.items ≡ text.old.items ++ version_text order) }
 {
@@ -57,7 +57,7 @@ pub(crate) fn push_end(text: &mut Vec<u8>, steps: u64) -> Result<(), NoMemory>
 }
 
 /// Adds the start.
-#[tactic(auto, unfolding(crate::specs::Spelling::start_text, lrat_text::specs::Lines::joined))]
+#[tactic(auto, unfolding(crate::specs::Spelling::start_text, lrat_text::specs::Lines::with_spaces))]
 pub(crate) fn push_start(text: &mut Vec<u8>, start: &Shown) -> Result<(), NoMemory>
     ensures { OnOk result (text.new.items ≡ text.old.items ++ start_text start.now) }
 {
@@ -79,7 +79,7 @@ pub(crate) fn push_start(text: &mut Vec<u8>, start: &Shown) -> Result<(), NoMemo
 }
 
 // Adds a receipt of a worker, whose log's first line has this number.
-#[tactic(auto, unfolding(crate::specs::Spelling::receipt_text, lrat_text::specs::Lines::joined))]
+#[tactic(auto, unfolding(crate::specs::Spelling::receipt_text, lrat_text::specs::Lines::with_spaces))]
 fn push_receipt(
     text: &mut Vec<u8>,
     worker: u64,
@@ -119,7 +119,7 @@ fn push_subset(text: &mut Vec<u8>, subset: &[u32]) -> Result<(), NoMemory>
 }
 
 // Adds a worker's refutation of a test.
-#[tactic(auto, unfolding(crate::specs::Spelling::refuted_text, lrat_text::specs::Lines::joined))]
+#[tactic(auto, unfolding(crate::specs::Spelling::refuted_text, lrat_text::specs::Lines::with_spaces))]
 fn push_refuted(
     text: &mut Vec<u8>,
     book: &Book,
@@ -164,7 +164,7 @@ fn first_number(clauses: u64, log: &Log) -> u64
 }
 
 // Adds a proof from outside of a test, over this many clauses of its set.
-#[tactic(auto, unfolding(crate::specs::Spelling::outside_text, lrat_text::specs::Lines::joined))]
+#[tactic(auto, unfolding(crate::specs::Spelling::outside_text, lrat_text::specs::Lines::with_spaces))]
 fn push_outside(
     text: &mut Vec<u8>,
     clauses: u64,
@@ -209,7 +209,7 @@ fn push_receipts(text: &mut Vec<u8>, clauses: u64, receipts: &[Receipt]) -> Resu
 }
 
 /// Adds a step, by how it was shown, over this many clauses of its test's set.
-#[tactic(auto, unfolding(crate::specs::Spelling::shown_text, lrat_text::specs::Lines::joined))]
+#[tactic(auto, unfolding(crate::specs::Spelling::shown_text, lrat_text::specs::Lines::with_spaces))]
 pub(crate) fn push_step(
     text: &mut Vec<u8>,
     book: &Book,

@@ -1,7 +1,7 @@
 //! A text that is there in part: its whole lines, and what stands behind them.
 
 ghost use Rattle.std.specs.Prelude.{◌≡◌, ◌++◌, IfOk, List, ℕ, length, take, true};
-ghost use Rattle.lrat_text.specs.Lines.{is_whole, whole_lines};
+ghost use Rattle.lrat_text.specs.Lines.{is_whole, ended_lines};
 ghost use Rattle.transcript_text.specs.Pieces.{HasLinesOf};
 
 use crate::fields::TextLines;
@@ -30,7 +30,7 @@ fn ends_of_few(bytes: &[u8]) -> u8 {
 pub(crate) fn whole_part(text: &[u8]) -> &[u8]
     ensures front { result.now ≡ take (length result.now) text.now }
     ensures whole { is_whole result.now ≡ true }
-    ensures lines { whole_lines result.now ≡ whole_lines text.now }
+    ensures lines { ended_lines result.now ≡ ended_lines text.now }
 {
     let mut end = text.len();
     while !is_whole(&text[..end]) {
@@ -42,7 +42,7 @@ pub(crate) fn whole_part(text: &[u8]) -> &[u8]
 /// The whole lines of a text, of which the first has this number; no memory is wanted for them, but a number that has
 /// no room is told so.
 pub(crate) fn lines_from(number: u64, text: &[u8]) -> Result<TextLines<'_>, NoMemory>
-    ensures { IfOk result (λ lines. lines ≡ record { number = number; left = whole_lines text.now }) }
+    ensures { IfOk result (λ lines. lines ≡ record { number = number; left = ended_lines text.now }) }
 {
     match number.checked_add(text.len() as u64) {
         Some(_) => Ok(TextLines { number, text }),

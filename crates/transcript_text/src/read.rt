@@ -2,7 +2,7 @@
 
 ghost use Rattle.std.specs.Prelude.{◌≡◌};
 ghost use Rattle.pack_defs.specs.Scenario.{StationsAscend};
-ghost use Rattle.lrat_text.specs.Lines.{whole_lines};
+ghost use Rattle.lrat_text.specs.Lines.{ended_lines};
 ghost use Rattle.transcript_text.specs.Reading.{empty_start, fit_start, order_of, start_at, start_by, text_end, transcript_of, version_at};
 ghost use Rattle.transcript_text.specs.Pieces.{ended_by, goes_on, opened_at};
 ghost use Rattle.transcript_text.specs.Steps.{Gives};
@@ -37,7 +37,7 @@ fn order_of(line: &[u8]) -> Option<Order>
 
 /// The order that the first line names, and the lines behind it.
 pub(crate) fn version_at(text: &[u8]) -> Result<(Order, TextLines<'_>), TextErr>
-    ensures { Gives (λ x. x) (version_at (whole_lines text.now)) result }
+    ensures { Gives (λ x. x) (version_at (ended_lines text.now)) result }
 {
     let Some((line, rest)) = split_line(text) else {
         return Err(TextErr::Truncated);
@@ -143,7 +143,7 @@ pub(crate) fn opened_at<'a>(
     text: &'a [u8],
 ) -> Result<(Transcript, TextLines<'a>), TextErr>
     requires { StationsAscend sc.now }
-    ensures { Gives (λ x. x) (opened_at sc.now (whole_lines text.now)) result }
+    ensures { Gives (λ x. x) (opened_at sc.now (ended_lines text.now)) result }
 {
     let (order, lines) = version_at(text)?;
     let (start, lines) = start_at(alloc, sc, lines)?;

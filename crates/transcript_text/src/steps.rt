@@ -3,7 +3,7 @@
 ghost use Rattle.std.specs.Prelude.{◌≡◌, ◌≤◌, IfOk};
 ghost use Rattle.pack_defs.specs.Scenario.{StationsAscend};
 ghost use Rattle.transcript_text.specs.Fields.{most_counted};
-ghost use Rattle.transcript_text.specs.Reading.{IsCounted, fit_step, log_step, next_step, outside_step, step_at, step_of, undecided_step};
+ghost use Rattle.transcript_text.specs.Reading.{IsHeadCounted, fit_step, log_step, next_step, outside_step, step_at, step_of, undecided_step};
 ghost use Rattle.transcript_text.specs.Pieces.{IsAtEnd, ReadsOn, stopped};
 ghost use Rattle.transcript_text.specs.PrefixReading.{AreStepsThere};
 ghost use Rattle.transcript_text.specs.Steps.{Gives};
@@ -133,7 +133,7 @@ fn step_at<'a>(
     lines: TextLines<'a>,
 ) -> Result<(Option<TranscriptStep>, TextLines<'a>), TextErr>
     requires ascend { StationsAscend sc.now }
-    requires few { IsCounted head }
+    requires few { IsHeadCounted head }
     ensures { Gives (λ x. x) (step_at sc.now book.now head lines.entry) result }
 {
     match head {

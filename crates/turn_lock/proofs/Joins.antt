@@ -6,7 +6,7 @@ use lib.ListN.{get_elem?}
 use Rattle.std.proofs.lemmas.Bool.{cases_Bool, false≢true}
 use Rattle.atomic_table.specs.Table.{State, Final, Joins, Seen, Splits}
 use Rattle.atomic_table.proofs.Lists.{at_longer, set_else}
-use Rattle.turn_lock.specs.declared.chronicle.Known.{Known}
+use Rattle.turn_lock.specs.declared.chronicle.PassKnowledge.{PassKnowledge}
 use Rattle.turn_lock.specs.declared.chronicle.View.{View}
 use Rattle.turn_lock.specs.Turns.{AllOf, FitsKnown, IsKnownAs, IsWhole, Kept, Knows, Moment, by, copy_of, either_of, joined, nobody, one_if, one_more}
 use Rattle.turn_lock.proofs.Lists.{all_map, all_more, at_more, by_none, each_set, none_is, numbered, some_is, waiting_more, waiting_set}
@@ -46,7 +46,7 @@ module _ {T B E : Type 0} (base_of : T → B) (entries : T → List (ℕ × E)) 
       let m' : At = record m { made = m.made + 1; holder = put_at m.made place m.holder } in
       let number : unwrap_or v.made 0 ≡ m.made = ap (λ (o : Option ℕ). unwrap_or o 0) makes ∙ is in
       let same_place : length (set s.views id left) ≡ place = length-set s.views id left in
-      let wider : (seat : ℕ) (k : Known E) → FitsKnown base start m.made m.tail m.holder seat k → FitsKnown base start m'.made m.tail m'.holder seat k =
+      let wider : (seat : ℕ) (k : PassKnowledge E) → FitsKnown base start m.made m.tail m.holder seat k → FitsKnown base start m'.made m.tail m'.holder seat k =
       λ seat k f. let below : k.number < m.made = f.below in record { prefix = f.prefix; below = omega arith; holds = put_else m.made place m.holder k.number (λ q. absurd (omega arith)) ∙ f.holds; mine = f.mine } in record {
         at = m';
         words = r.words;
@@ -108,9 +108,9 @@ module _ {T B E : Type 0} (base_of : T → B) (entries : T → List (ℕ × E)) 
       let lw = living m other w (r.fits other w w_at) b w_based in
       let id_not : id ≢ other = λ e. apart_from (sym e) in
       let m' : At = record m { keeper = moved other id (λ _. m.keeper) 0; holder = moved other id m.holder } in
-      let stays : (seat : ℕ) (k : Known E) → seat ≢ other → FitsKnown base start m.made m.tail m.holder seat k → FitsKnown base start m.made m.tail m'.holder seat k =
+      let stays : (seat : ℕ) (k : PassKnowledge E) → seat ≢ other → FitsKnown base start m.made m.tail m.holder seat k → FitsKnown base start m.made m.tail m'.holder seat k =
       λ seat k ne f. record { prefix = f.prefix; below = f.below; holds = moved_else other id m.holder k.number seat f.holds ne; mine = f.mine } in
-      let comes : (k : Known E) → FitsKnown base start m.made m.tail m.holder other k → FitsKnown base start m.made m.tail m'.holder id k × (k.number ≢ v.own.number) =
+      let comes : (k : PassKnowledge E) → FitsKnown base start m.made m.tail m.holder other k → FitsKnown base start m.made m.tail m'.holder id k × (k.number ≢ v.own.number) =
       λ k f. (record { prefix = f.prefix; below = f.below; holds = moved_here other id m.holder k.number f.holds; mine = f.mine }, λ same. apart_from (sym f.holds ∙ (ap m.holder same ∙ lv.own.holds))) in record {
         at = m';
         words = r.words;
@@ -132,7 +132,7 @@ module _ {T B E : Type 0} (base_of : T → B) (entries : T → List (ℕ × E)) 
                   (λ q. ((lw.made n q).0, moved_here other id (λ _. m.keeper) 0 (lw.made n q).1))
                   (either_is v.made w.made n f);
               own = stays id v.own id_not lv.own;
-              others = all_more (λ (k : Known E). FitsKnown base start m.made m.tail m'.holder id k × (k.number ≢ v.own.number)) v.joined (w.own ∷ w.joined)
+              others = all_more (λ (k : PassKnowledge E). FitsKnown base start m.made m.tail m'.holder id k × (k.number ≢ v.own.number)) v.joined (w.own ∷ w.joined)
                   (all_map (λ k f. (stays id k id_not f.0, f.1)) v.joined lv.others)
                   (comes w.own lw.own, all_map (λ k f. comes k f.0) w.joined lw.others);
             })
@@ -151,7 +151,7 @@ module _ {T B E : Type 0} (base_of : T → B) (entries : T → List (ℕ × E)) 
             (h.0, set_else (set s.views id both) other place nobody (apart s.views other w h.0 w_at w_out place h.1 h.2) ∙ (set_else s.views id place both (apart s.views id v h.0 at out place h.1 h.2) ∙ h.1), h.2);
       }
 
-  held_by : (made : ℕ) (tail : List (ℕ × E)) (holder : ℕ → ℕ) (seat n p : ℕ) (ks : List (Known E)) → AllOf (λ k. FitsKnown base start made tail holder seat k × (k.number ≢ n)) ks → Knows p (map numbered ks) → holder p ≡ seat
+  held_by : (made : ℕ) (tail : List (ℕ × E)) (holder : ℕ → ℕ) (seat n p : ℕ) (ks : List (PassKnowledge E)) → AllOf (λ k. FitsKnown base start made tail holder seat k × (k.number ≢ n)) ks → Knows p (map numbered ks) → holder p ≡ seat
   held_by made tail holder seat n p [] h g = absurd g
   held_by made tail holder seat n p (k ∷ ks) h g = ⊎_elim (λ e. ap holder (sym e) ∙ h.0.0.holds) (held_by made tail holder seat n p ks h.1) g
 

@@ -8,7 +8,7 @@ use lib.ListN.{get_elem?}
 use Rattle.std.proofs.Math.Seq.{drop-append_seam, take-append_seam}
 use Rattle.atomic_table.proofs.Lists.{at_set}
 use Rattle.turn_lock.specs.declared.chronicle.View.{View}
-use Rattle.turn_lock.specs.declared.chronicle.Known.{Known}
+use Rattle.turn_lock.specs.declared.chronicle.PassKnowledge.{PassKnowledge}
 use Rattle.turn_lock.specs.Turns.{AllOf, IsLegalFor, StartsWith, by, last, one_if, waiting_in}
 
 pub some_is : {A : Type 0} {a b : A} → Some a ≡ Some b → a ≡ b
@@ -113,7 +113,7 @@ pub length_map : {X Y : Type 0} (f : X → Y) (xs : List X) → length (map f xs
 length_map f [] = refl
 length_map f (x ∷ xs) = ap suc (length_map f xs)
 
-abbrev pub numbered : {E : Type 0} → Known E → ℕ
+abbrev pub numbered : {E : Type 0} → PassKnowledge E → ℕ
 numbered k = k.number
 
 -- the last one goes to the front
@@ -129,7 +129,7 @@ length_more [] x = refl
 length_more (y ∷ ys) x = ap suc (length_more ys x)
 
 -- one entry more of the pass's own
-pub legal_more : {E : Type 0} (start : List (ℕ × E)) (k j : Known E) (e : ℕ × E) → e.0 ≡ k.number → j.number ≡ k.number → j.seen ≡ k.seen ++ e ∷ [] → j.mine ≡ k.mine ++ e ∷ [] → IsLegalFor start k → IsLegalFor start j
+pub legal_more : {E : Type 0} (start : List (ℕ × E)) (k j : PassKnowledge E) (e : ℕ × E) → e.0 ≡ k.number → j.number ≡ k.number → j.seen ≡ k.seen ++ e ∷ [] → j.mine ≡ k.mine ++ e ∷ [] → IsLegalFor start k → IsLegalFor start j
 legal_more start k j e its same seen mine h = record {
   tail = h.tail ++ e ∷ [];
   seen_is = seen ∙ (ap (λ l. l ++ e ∷ []) h.seen_is ∙ append_assoc start h.tail (e ∷ []));

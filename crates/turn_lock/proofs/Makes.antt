@@ -3,12 +3,12 @@ use Rattle.std.proofs.Common.{◌≡◌, ◌∙◌, ◌<◌, ◌≤◌, ◌⊎�
 use mathlib.Core.Logic.{dite}
 use native.Mathlib.Decide.{ℕ_discrete}
 use Rattle.turn_lock.specs.declared.chronicle.Chronicle.{Ghosts}
-use Rattle.turn_lock.specs.declared.chronicle.Known.{Known}
+use Rattle.turn_lock.specs.declared.chronicle.PassKnowledge.{PassKnowledge}
 use Rattle.turn_lock.specs.declared.lock.Pass.{Pass}
 use Rattle.turn_lock.specs.declared.lock.TurnLock.{TurnLock}
 use Rattle.turn_lock.specs.declared.chronicle.View.{View}
 use Rattle.atomic_table.specs.Table.{Me}
-use Rattle.turn_lock.specs.Passes.{AreAllOf, IsIdle, Standing, StandsAt, known_of, made_over, standing}
+use Rattle.turn_lock.specs.Passes.{AreAllOf, IsIdle, PassStanding, StandsAt, known_of, made_over, standing}
 use Rattle.turn_lock.specs.Turns.{AllOf, FirstMade, IsSeatIdle, Knows, each_new, known, made_of, newcomer, newcomers}
 use Rattle.turn_lock.proofs.Lists.{all_more, length_map, length_more, map_more, numbered}
 
@@ -52,7 +52,7 @@ knows_new start (suc n) p below = subst (Knows p) (sym (map_more numbered (each_
 abbrev pub seat_of : {T B E : Type 0} {G : Ghosts T B E} → Pass T B E G → Me (Option T) (View B E)
 seat_of p = p.seat.me
 
-abbrev own_of : {T B E : Type 0} → Me (Option T) (View B E) → Known E
+abbrev own_of : {T B E : Type 0} → Me (Option T) (View B E) → PassKnowledge E
 own_of m = m.0.own
 
 abbrev made_by : {T B E : Type 0} → Me (Option T) (View B E) → Option ℕ
@@ -113,9 +113,9 @@ module _ {T B E : Type 0} {G : Ghosts T B E} (base_of : T → B) (entries : T �
         record {
           own = all_to standing (StandsAt base_of entries lock) ps (all_two (λ p t i. record { table = t; base = i.base_is ∙ ap (λ v. Some (base_of v)) (sym over); start = i.start_is ∙ ap entries (sym over) }) ps own new);
           alone = all_to standing (λ s. s.joined ≡ []) ps (all_two (λ p t i. i.alone) ps own new);
-          first = subst (λ (k : ℕ). FirstMade k (map (λ (s : Standing B E). s.made) (map standing ps))) (sym (length_map standing ps ∙ many))
-              (subst (FirstMade n) (sym (map_again standing (λ (s : Standing B E). s.made) ps ∙ (sym (map_again seat_of made_by ps) ∙ ap (map made_by) made))) (made_first T base start n some));
-          all = λ p below. subst (Knows p) (sym (map_again standing (λ (s : Standing B E). s.number) ps ∙ (sym (map_again known_of numbered ps) ∙ ap (map numbered) known_as))) (knows_new start n p (subst (λ (k : ℕ). p < k) (length_map standing ps ∙ many) below));
+          first = subst (λ (k : ℕ). FirstMade k (map (λ (s : PassStanding B E). s.made) (map standing ps))) (sym (length_map standing ps ∙ many))
+              (subst (FirstMade n) (sym (map_again standing (λ (s : PassStanding B E). s.made) ps ∙ (sym (map_again seat_of made_by ps) ∙ ap (map made_by) made))) (made_first T base start n some));
+          all = λ p below. subst (Knows p) (sym (map_again standing (λ (s : PassStanding B E). s.number) ps ∙ (sym (map_again known_of numbered ps) ∙ ap (map numbered) known_as))) (knows_new start n p (subst (λ (k : ℕ). p < k) (length_map standing ps ∙ many) below));
         },
         all_two (λ p t i. i.idle) ps own new,
         known_as,

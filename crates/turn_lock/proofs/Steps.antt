@@ -9,7 +9,7 @@ use Rattle.std.proofs.lemmas.Bool.{cases_Bool, false≢true, true≢false}
 use Rattle.std.proofs.lemmas.List.{append-nil}
 use Rattle.atomic_table.specs.Table.{State, Me, step, keeps, takes, gives, opening, put_back, rest, Allows}
 use Rattle.atomic_table.proofs.Lists.{set_again, set_here, set_else, one_turn}
-use Rattle.turn_lock.specs.declared.chronicle.Known.{Known}
+use Rattle.turn_lock.specs.declared.chronicle.PassKnowledge.{PassKnowledge}
 use Rattle.turn_lock.specs.declared.chronicle.View.{View}
 use Rattle.turn_lock.specs.Turns.{FitsKnown, Kept, Moment, StartsWith, counted, drawn, founder, known, left, looked, one_if}
 use Rattle.turn_lock.proofs.Lists.{all_map, all_more, by_more, by_other, each_set, inside, mod_more, none_is, one_slot, some_is, waiting_le, waiting_set}
@@ -181,7 +181,7 @@ module _ {T B E : Type 0} (base_of : T → B) (entries : T → List (ℕ × E)) 
       ))
 
   -- what is known of a pass stays so where another's entry is added
-  longer : (made : ℕ) (tail : List (ℕ × E)) (holder : ℕ → ℕ) (seat : ℕ) (k : Known E) (e : ℕ × E) → e.0 ≢ k.number → FitsKnown base start made tail holder seat k → FitsKnown base start made (tail ++ e ∷ []) holder seat k
+  longer : (made : ℕ) (tail : List (ℕ × E)) (holder : ℕ → ℕ) (seat : ℕ) (k : PassKnowledge E) (e : ℕ × E) → e.0 ≢ k.number → FitsKnown base start made tail holder seat k → FitsKnown base start made (tail ++ e ∷ []) holder seat k
   longer made tail holder seat k e ne f = record {
     prefix = (f.prefix.0 ++ e ∷ [], sym (append_assoc start tail (e ∷ [])) ∙ (ap (λ l. l ++ e ∷ []) f.prefix.1 ∙ append_assoc k.seen f.prefix.0 (e ∷ [])));
     below = f.below;
@@ -203,7 +203,7 @@ module _ {T B E : Type 0} (base_of : T → B) (entries : T → List (ℕ × E)) 
       let same_length : length me.0.own.seen ≡ length (start ++ m.tail) = ap length seen in
       let one_more : (length (start ++ m.tail) + 1) % 2 ^ 64 ≡ length (start ++ tail) =
       let a : length (start ++ tail) ≡ length me.0.own.seen + 1 = ap length whole ∙ length-append me.0.own.seen (e ∷ []) in omega arith in
-      let other : (seat : ℕ) → seat ≢ id → (k : Known E) → FitsKnown base start m.made m.tail m.holder seat k → e.0 ≢ k.number =
+      let other : (seat : ℕ) → seat ≢ id → (k : PassKnowledge E) → FitsKnown base start m.made m.tail m.holder seat k → e.0 ≢ k.number =
       λ seat ne k f same. ne (sym f.holds ∙ (ap m.holder (sym same ∙ number) ∙ mine.own.holds)) in (
         w,
         keeps,

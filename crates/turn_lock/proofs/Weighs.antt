@@ -4,7 +4,7 @@ use Rattle.std.specs.Prelude.{if◌then◌else◌}
 use Rattle.std.proofs.lemmas.Bool.{cases_Bool}
 use mathlib.Core.Logic.{dite}
 use native.Mathlib.Decide.{ℕ_discrete}
-use Rattle.turn_lock.specs.declared.chronicle.Known.{Known}
+use Rattle.turn_lock.specs.declared.chronicle.PassKnowledge.{PassKnowledge}
 use Rattle.turn_lock.specs.Turns.{AllOf, IsKnownAs, Knows, by, weigh}
 use Rattle.turn_lock.proofs.Lists.{length_map, numbered}
 
@@ -99,11 +99,11 @@ each_once f (suc n) ns len all =
     omega arith
 
 module _ {E : Type 0} (weight : ℕ × E → ℕ) (start tail : List (ℕ × E)) where
-  own_weighs : (ks : List (Known E)) → AllOf (IsKnownAs start tail) ks → weigh (λ p. weigh weight (by p tail)) (map numbered ks) ≡ weigh (λ k. weigh weight k.mine) ks
+  own_weighs : (ks : List (PassKnowledge E)) → AllOf (IsKnownAs start tail) ks → weigh (λ p. weigh weight (by p tail)) (map numbered ks) ≡ weigh (λ k. weigh weight k.mine) ks
   own_weighs [] h = refl
   own_weighs (k ∷ ks) h = ap (λ w. w + weigh (λ p. weigh weight (by p tail)) (map numbered ks)) (ap (weigh weight) h.0.mine) ∙ ap (λ w. weigh weight k.mine + w) (own_weighs ks h.1)
 
   -- n passes whose numbers are all those below n have the whole tail between them
-  pub weighs_once : (n : ℕ) (ks : List (Known E)) → length ks ≡ n → ((p : ℕ) → p < n → Knows p (map numbered ks)) → AllOf (λ e. e.0 < n) tail → AllOf (IsKnownAs start tail) ks → weigh weight tail ≡ weigh (λ k. weigh weight k.mine) ks
+  pub weighs_once : (n : ℕ) (ks : List (PassKnowledge E)) → length ks ≡ n → ((p : ℕ) → p < n → Knows p (map numbered ks)) → AllOf (λ e. e.0 < n) tail → AllOf (IsKnownAs start tail) ks → weigh weight tail ≡ weigh (λ k. weigh weight k.mine) ks
   weighs_once n ks many all authors known =
       by_parts weight n tail authors ∙ (sym (each_once (λ p. weigh weight (by p tail)) n (map numbered ks) (length_map numbered ks ∙ many) all) ∙ own_weighs ks known)

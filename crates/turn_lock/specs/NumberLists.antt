@@ -7,5 +7,5 @@ abbrev pub title_of : NumberList → ℕ
 title_of list = list.title
 
 -- its history
-abbrev pub numbers_of : NumberList → List (ℕ × ℕ)
-numbers_of list = list.numbers.items
+abbrev pub history_in : NumberList → List (ℕ × ℕ)
+history_in list = list.numbers.items

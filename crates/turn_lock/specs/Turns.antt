@@ -9,7 +9,7 @@ use Rattle.std.specs.Prelude.{◌≡◌, ◌≢◌, ◌⊎◌, ℕ, zero, suc, �
 use mathlib.Core.Option.{some}
 use lib.ListN.{get_elem?}
 use Rattle.atomic_table.specs.Table.{State, Me, Step}
-use Rattle.turn_lock.specs.declared.chronicle.Known.{Known}
+use Rattle.turn_lock.specs.declared.chronicle.PassKnowledge.{PassKnowledge}
 use Rattle.turn_lock.specs.declared.chronicle.View.{View}
 
 -- the list begins with `seen`
@@ -27,7 +27,7 @@ by n [] = []
 by n (e ∷ es) = if e.0 == n then e ∷ by n es else by n es
 
 -- the history begins with `start`, and of its entries after that those of this pass are its own
-pub record IsLegalFor {E : Type 0} (start : List (ℕ × E)) (k : Known E) : Type 0 where
+pub record IsLegalFor {E : Type 0} (start : List (ℕ × E)) (k : PassKnowledge E) : Type 0 where
   pub tail : List (ℕ × E)
   pub seen_is : k.seen ≡ start ++ tail
   pub mine_is : by k.number tail ≡ k.mine
@@ -53,11 +53,11 @@ last (x ∷ []) = Some x
 last (x ∷ y ∷ rest) = last (y ∷ rest)
 
 module _ {E : Type 0} where
-  abbrev pub known : ℕ → List (ℕ × E) → List (ℕ × E) → Known E
+  abbrev pub known : ℕ → List (ℕ × E) → List (ℕ × E) → PassKnowledge E
   known number seen mine = record { number = number; seen = seen; mine = mine }
 
   -- the passes of a new lock: those below `n`, in order, each of which has seen the first history and has no entry of its own
-  abbrev pub each_new : List (ℕ × E) → ℕ → List (Known E)
+  abbrev pub each_new : List (ℕ × E) → ℕ → List (PassKnowledge E)
   each_new start zero = []
   each_new start (suc n) = each_new start n ++ known n start [] ∷ []
 
@@ -104,7 +104,7 @@ module _ {B E : Type 0} where
 
   module _ (base : B) (start : List (ℕ × E)) where
     -- of the history after `start`: a pass has seen a beginning, and its own entries are those of its number
-    pub record FitsKnown (made : ℕ) (tail : List (ℕ × E)) (holder : ℕ → ℕ) (seat : ℕ) (k : Known E) : Type 0 where
+    pub record FitsKnown (made : ℕ) (tail : List (ℕ × E)) (holder : ℕ → ℕ) (seat : ℕ) (k : PassKnowledge E) : Type 0 where
       pub prefix : StartsWith (start ++ tail) k.seen
       pub below : k.number < made
       pub holds : holder k.number ≡ seat
@@ -195,13 +195,13 @@ Knows p [] = ⊥
 Knows p (k ∷ ks) = (k ≡ p) ⊎ Knows p ks
 
 -- what is known of a pass at the end: it has seen a beginning of the history, and its own entries are those of its number after the start
-pub record IsKnownAs {E : Type 0} (start tail : List (ℕ × E)) (k : Known E) : Type 0 where
+pub record IsKnownAs {E : Type 0} (start tail : List (ℕ × E)) (k : PassKnowledge E) : Type 0 where
   pub prefix : StartsWith (start ++ tail) k.seen
   pub mine : by k.number tail ≡ k.mine
 
 -- the history of a closed lock, of which `n` passes were made, all of them known: it begins with the first one, and each entry after that is of a
 -- pass's number
-pub record IsWhole {E : Type 0} (n : ℕ) (start log : List (ℕ × E)) (passes : List (Known E)) : Type 0 where
+pub record IsWhole {E : Type 0} (n : ℕ) (start log : List (ℕ × E)) (passes : List (PassKnowledge E)) : Type 0 where
   pub tail : List (ℕ × E)
   pub log_is : log ≡ start ++ tail
   pub authors : AllOf (λ e. e.0 < n) tail

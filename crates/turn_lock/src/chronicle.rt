@@ -22,7 +22,7 @@ pub trait Chronicle {
 }
 
 /// What is known of one pass: its number, the history that it has seen, and its own entries in it.
-pub struct Known<E> {
+pub struct PassKnowledge<E> {
     pub number: u64,
     pub seen: LinkedList<(u64, E)>,
     pub mine: LinkedList<(u64, E)>,
@@ -37,6 +37,6 @@ pub struct View<B, E> {
     pub made: Option<u64>,
     pub base: Option<B>,
     pub start: LinkedList<(u64, E)>,
-    pub own: Known<E>,
-    pub joined: LinkedList<Known<E>>,
+    pub own: PassKnowledge<E>,
+    pub joined: LinkedList<PassKnowledge<E>>,
 }

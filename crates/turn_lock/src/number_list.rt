@@ -1,7 +1,7 @@
 //! The plainest use of the lock: a titled list of numbers, to which passes add. `append` is one whole turn, as a caller writes it.
 
 ghost use Rattle.std.specs.Prelude.{◌≡◌, ◌++◌, ◌∷◌, [], MatchBool, Some, ⊤};
-ghost use Rattle.turn_lock.specs.NumberLists.{numbers_of, title_of};
+ghost use Rattle.turn_lock.specs.NumberLists.{history_in, title_of};
 ghost use Rattle.turn_lock.specs.Passes.{IsIdle, IsLegal, IsPassOf, mine_of, number_of, seen_of, standing};
 ghost use Rattle.turn_lock.specs.Turns.{StartsWith, last};
 
@@ -23,7 +23,7 @@ impl Chronicle for NumberList {
 
     ghost base = { title_of };
 
-    ghost entries = { numbers_of };
+    ghost entries = { history_in };
 
     fn count(&self) -> u64 {
         self.numbers.len() as u64
@@ -38,9 +38,9 @@ pub fn append<R: Wait>(
     pass: &mut Pass<NumberList>,
     number: u32,
 ) -> bool
-    requires own { IsPassOf title_of numbers_of lock.now pass.old }
+    requires own { IsPassOf title_of history_in lock.now pass.old }
     requires idle { IsIdle pass.old }
-    ensures own { IsPassOf title_of numbers_of lock.now pass.new }
+    ensures own { IsPassOf title_of history_in lock.now pass.new }
     ensures idle { IsIdle pass.new }
     ensures standing { standing pass.new ≡ standing pass.old }
     ensures legal { IsLegal pass.new }

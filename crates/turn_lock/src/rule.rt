@@ -28,18 +28,18 @@ impl<T: Chronicle> Play<Option<T>, View<T::Base, T::Entry>> for Draw {
 }
 
 /// The ticket that is served is looked at; where it is the pass's own, the pass has the turn.
-pub struct Look;
+pub struct TicketLook;
 
-impl<T: Chronicle> Play<Option<T>, View<T::Base, T::Entry>> for Look {
+impl<T: Chronicle> Play<Option<T>, View<T::Base, T::Entry>> for TicketLook {
     ghost then = { looked T.base T.entries };
 }
 
 /// The entry that a step adds.
-pub trait Said<E> {
+pub trait AddsEntry<E> {
     ghost said: { Option (ℕ × E) };
 }
 
-impl<E> Said<E> for Brand {
+impl<E> AddsEntry<E> for Brand {
     ghost said = { None };
 }
 
@@ -48,7 +48,7 @@ pub struct Count<W> {
     marker: PhantomData<W>,
 }
 
-impl<T: Chronicle, W: Said<T::Entry>> Play<Option<T>, View<T::Base, T::Entry>> for Count<W> {
+impl<T: Chronicle, W: AddsEntry<T::Entry>> Play<Option<T>, View<T::Base, T::Entry>> for Count<W> {
     ghost then = { counted T.base T.entries W.said };
 }
 

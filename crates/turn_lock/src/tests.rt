@@ -1,7 +1,7 @@
 //! Threads that take turns at a list of numbers, passes that are used one after another, and locks that are closed.
 
 ghost use Rattle.std.specs.Prelude.{◌≡◌, ◌<◌, length, map};
-ghost use Rattle.turn_lock.specs.NumberLists.{numbers_of, title_of};
+ghost use Rattle.turn_lock.specs.NumberLists.{history_in, title_of};
 ghost use Rattle.turn_lock.specs.Passes.{AreAllOf, IsIdle, IsPassOf, standing};
 ghost use Rattle.turn_lock.specs.Turns.{AllOf};
 
@@ -54,7 +54,7 @@ fn add_all<R: Wait>(
     from: u32,
     to: u32,
 )
-    requires own { IsPassOf title_of numbers_of lock.now pass.old }
+    requires own { IsPassOf title_of history_in lock.now pass.old }
     requires idle { IsIdle pass.old }
     ensures idle { IsIdle pass.new }
     ensures standing { standing pass.new ≡ standing pass.old }
@@ -71,13 +71,13 @@ fn all_count<R: Threads + Wait + Sync>(
     passes: &mut [Pass<NumberList>],
     each: u32,
 )
-    requires all { AreAllOf title_of numbers_of lock.now (map standing passes.old) }
+    requires all { AreAllOf title_of history_in lock.now (map standing passes.old) }
     requires idle { AllOf IsIdle passes.old }
-    ensures all { AreAllOf title_of numbers_of lock.now (map standing passes.new) }
+    ensures all { AreAllOf title_of history_in lock.now (map standing passes.new) }
     ensures idle { AllOf IsIdle passes.new }
 {
     let part = |_: usize, pass: &mut Pass<NumberList>|
-        requires { IsPassOf title_of numbers_of lock.now pass.now × IsIdle pass.now }
+        requires { IsPassOf title_of history_in lock.now pass.now × IsIdle pass.now }
         ensures { IsIdle pass.exit.now × (standing pass.exit.now ≡ standing pass.entry.now) }
     { add_all(rt, lock, pass, 0, each) };
     thread::for_each_mut(rt, passes, 4, &part);
@@ -117,9 +117,9 @@ fn add_in_turn<R: Wait>(
     passes: &mut [Pass<NumberList>],
     turns: &[(u64, u32)],
 )
-    requires all { AreAllOf title_of numbers_of lock.now (map standing passes.old) }
+    requires all { AreAllOf title_of history_in lock.now (map standing passes.old) }
     requires idle { AllOf IsIdle passes.old }
-    ensures all { AreAllOf title_of numbers_of lock.now (map standing passes.new) }
+    ensures all { AreAllOf title_of history_in lock.now (map standing passes.new) }
     ensures idle { AllOf IsIdle passes.new }
 {
     for (by, number) in turns {
@@ -174,9 +174,9 @@ fn add_there<R: Wait>(
     mut pass: Pass<NumberList>,
     number: u32,
 ) -> Pass<NumberList>
-    requires own { IsPassOf title_of numbers_of lock.now pass }
+    requires own { IsPassOf title_of history_in lock.now pass }
     requires idle { IsIdle pass }
-    ensures own { IsPassOf title_of numbers_of lock.now result }
+    ensures own { IsPassOf title_of history_in lock.now result }
     ensures idle { IsIdle result }
     ensures standing { standing result ≡ standing pass }
 {

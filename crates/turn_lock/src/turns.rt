@@ -7,7 +7,7 @@ ghost use Rattle.turn_lock.specs.Turns.{StartsWith};
 
 use crate::chronicle::Chronicle;
 use crate::lock::{Pass, Turn, TurnLock};
-use crate::rule::{Count, Draw, Leave, Look, Said};
+use crate::rule::{AddsEntry, Count, Draw, Leave, TicketLook};
 use std::marker::Brand;
 use std::sync::Wait;
 use std::thread;
@@ -42,7 +42,7 @@ impl<T: Chronicle> TurnLock<T> {
         let shared = &self.table.shared;
         pass.ticket = shared.fetch_add::<Draw>(&mut pass.seat, 0, 1);
         for _ in rt.forever() {
-            let serving = shared.load::<Look>(&mut pass.seat, 1);
+            let serving = shared.load::<TicketLook>(&mut pass.seat, 1);
             if serving == pass.ticket {
                 let value = shared.exchange(&mut pass.seat, 0, None).unwrap();
                 return Turn { value };
@@ -53,7 +53,7 @@ impl<T: Chronicle> TurnLock<T> {
     }
 
     // Counts one entry more, the one that `W` says. `W` is picked by `commit` in its proof: no value of it is passed.
-    fn count_up<W: Said<T::Entry>>(&self, pass: &mut Pass<T>, turn: &Turn<T>)
+    fn count_up<W: AddsEntry<T::Entry>>(&self, pass: &mut Pass<T>, turn: &Turn<T>)
         requires own { IsPassOf T.base T.entries self.now pass.old }
         requires turn { HasTurn pass.old }
         requires said { (e : ℕ × T.Entry) × (W.said ≡ Some e) × (e.0 ≡ number_of pass.old) }

@@ -23,8 +23,8 @@ use Rattle.cert_types.specs.Valid.{IsValid, learns}
 use Rattle.cert_types.specs.Walks.{AreSpentMoves, least_of, start_map, violates_some}
 use Rattle.cert_types.proofs.Meaning.{means-dead, means-fit, means-moves}
 use Rattle.cert_types.proofs.QueryLaws.{query-parts}
-use Rattle.walk_repack.specs.Course.{AreOnDomains, CourseView, IsCourse}
-use Rattle.walk_repack.specs.Steps.{stations_in}
+use Rattle.walk_repack.specs.Course.{AreOnDomains, WalkCourseView, IsWalkCourse}
+use Rattle.walk_repack.specs.Steps.{map_stations}
 
 -- ---- the start map
 
@@ -63,20 +63,20 @@ start-on book set last (s ∷ ss) d h =
 pub query-starts : (book : BookView) (task : Task) → IsQuery book task → AreOnDomains book (start_map book task.last task.set)
 query-starts book task q = let parts = query-parts book task q in start-on book task.set task.last task.set parts.domains parts.channels
 
-pub start-stations : (book : BookView) (last : List (ℕ × ℕ)) (set : List ℕ) → stations_in (start_map book last set) ≡ set
+pub start-stations : (book : BookView) (last : List (ℕ × ℕ)) (set : List ℕ) → map_stations (start_map book last set) ≡ set
 start-stations book last [] = refl
 start-stations book last (s ∷ ss) = ap (λ rest. s ∷ rest) (start-stations book last ss)
 
 -- ---- the stations of a walk from the start map are the set
-pub course-stations : (book : BookView) (task : Task) (v : CourseView) → IsCourse v → v.start ≡ start_map book task.last task.set → stations_in v.entries ≡ task.set
-course-stations book task v h e = h.stations ∙ ap stations_in e ∙ start-stations book task.last task.set
+pub course-stations : (book : BookView) (task : Task) (v : WalkCourseView) → IsWalkCourse v → v.start ≡ start_map book task.last task.set → map_stations v.entries ≡ task.set
+course-stations book task v h e = h.stations ∙ ap map_stations e ∙ start-stations book task.last task.set
 
 -- ---- a fit
 
 no-number : (n : ℕ) → nat_lt 0 n ≡ false → n ≡ 0
 no-number n h = grind (arith, nat_tests)
 
-pub fit-valid : (book : BookView) (task : Task) (worker : Worker) (v : CourseView) (delta : List (ℕ × ℕ)) → IsCourse v → v.book ≡ book → stations_in v.entries ≡ task.set → violates_some v.book v.entries ≡ false → overlaid task.last delta ≡ v.entries → IsValid book task worker (Fit delta)
+pub fit-valid : (book : BookView) (task : Task) (worker : Worker) (v : WalkCourseView) (delta : List (ℕ × ℕ)) → IsWalkCourse v → v.book ≡ book → map_stations v.entries ≡ task.set → violates_some v.book v.entries ≡ false → overlaid task.last delta ≡ v.entries → IsValid book task worker (Fit delta)
 fit-valid book task worker v delta h b e clean over =
     let on : (x : ℕ × ℕ) → has_entry v.entries x ≡ true → is_in (domain_of v.book x.0) x.1 ≡ true =
     λ x k. list_all-gives (λ (y : ℕ × ℕ). is_in (domain_of v.book y.0) y.1) v.entries x h.on_domains (Contains-from_has_entry v.entries x k) in
@@ -86,7 +86,7 @@ fit-valid book task worker v delta h b e clean over =
 
 -- ---- a receipt
 
-pub receipt-valid : (task : Task) (worker : Worker) (v : CourseView) (moves : List (ℕ × ℕ)) → IsCourse v → violates_some v.book v.entries ≡ true → v.start ≡ start_map v.book task.last task.set → learns worker.kind ≡ false → length v.moves ≡ worker.budget → moves ≡ v.moves → IsValid v.book task worker (Spent (Moves moves))
+pub receipt-valid : (task : Task) (worker : Worker) (v : WalkCourseView) (moves : List (ℕ × ℕ)) → IsWalkCourse v → violates_some v.book v.entries ≡ true → v.start ≡ start_map v.book task.last task.set → learns worker.kind ≡ false → length v.moves ≡ worker.budget → moves ≡ v.moves → IsValid v.book task worker (Spent (Moves moves))
 receipt-valid task worker v moves h some start walker whole e =
     subst (λ (ms : List (ℕ × ℕ)). IsValid v.book task worker (Spent (Moves ms))) (sym e)
     (means-moves v.book task worker v.moves (record {
@@ -97,6 +97,6 @@ receipt-valid task worker v moves h some start walker whole e =
 
 -- ---- a dead pair
 
-pub dead-valid : (task : Task) (worker : Worker) (v : CourseView) (p : Pair) → IsCourse v → is_dead v.book (stations_in v.entries) p ≡ true → v.start ≡ start_map v.book task.last task.set → IsValid v.book task worker (Refuted (Dead p))
+pub dead-valid : (task : Task) (worker : Worker) (v : WalkCourseView) (p : Pair) → IsWalkCourse v → is_dead v.book (map_stations v.entries) p ≡ true → v.start ≡ start_map v.book task.last task.set → IsValid v.book task worker (Refuted (Dead p))
 dead-valid task worker v p h dead start =
     means-dead v.book task worker p (subst (λ (xs : List ℕ). is_dead v.book xs p ≡ true) (course-stations v.book task v h start) dead)

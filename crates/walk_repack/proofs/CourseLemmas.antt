@@ -12,7 +12,7 @@ use Rattle.assign_check.specs.Violations.{is_of}
 use Rattle.assign_check.proofs.Moves.{put-stations}
 use Rattle.cert_types.specs.Walks.{AreSpentMoves, IsSpentMove, is_in_trouble, violates_some}
 use Rattle.cert_types.proofs.WalkLemmas.{troubled-there}
-use Rattle.walk_repack.specs.Course.{CourseView, IsCourse, AreOnDomains}
+use Rattle.walk_repack.specs.Course.{WalkCourseView, IsWalkCourse, AreOnDomains}
 
 -- where a station is of a violated pair, some pair is violated
 pub troubled-violates : (book : BookView) (entries : List (ℕ × ℕ)) (s : ℕ) → is_in_trouble book entries s ≡ true → violates_some book entries ≡ true
@@ -42,7 +42,7 @@ spent-more book start [] x a m = (m, tt)
 spent-more book start (y ∷ ys) x a m = (a.0, spent-more book (put y start) ys x a.1 m)
 
 -- what a walk keeps, it keeps when it makes a move
-pub course-more : (v : CourseView) (s c : ℕ) → IsCourse v → is_in_trouble v.book v.entries s ≡ true → is_in (domain_of v.book s) c ≡ true → has_entry v.entries (s, c) ≡ false → IsCourse (record { book = v.book; start = v.start; moves = v.moves ++ (s, c) ∷ []; entries = put (s, c) v.entries })
+pub course-more : (v : WalkCourseView) (s c : ℕ) → IsWalkCourse v → is_in_trouble v.book v.entries s ≡ true → is_in (domain_of v.book s) c ≡ true → has_entry v.entries (s, c) ≡ false → IsWalkCourse (record { book = v.book; start = v.start; moves = v.moves ++ (s, c) ∷ []; entries = put (s, c) v.entries })
 course-more v s c h troubled on other = record {
   ascending = put-ascending (s, c) v.entries h.ascending;
   leads = overlaid-more v.start v.moves (s, c) ∙ ap (put (s, c)) h.leads;
@@ -54,8 +54,8 @@ course-more v s c h troubled on other = record {
 }
 
 -- the same, where the parts after it are known by equations
-pub course-next : (v : CourseView) (s c : ℕ) (moves entries : List (ℕ × ℕ)) → IsCourse v → is_in_trouble v.book v.entries s ≡ true → is_in (domain_of v.book s) c ≡ true → has_entry v.entries (s, c) ≡ false → moves ≡ v.moves ++ (s, c) ∷ [] → entries ≡ put (s, c) v.entries → IsCourse (record { book = v.book; start = v.start; moves = moves; entries = entries })
+pub course-next : (v : WalkCourseView) (s c : ℕ) (moves entries : List (ℕ × ℕ)) → IsWalkCourse v → is_in_trouble v.book v.entries s ≡ true → is_in (domain_of v.book s) c ≡ true → has_entry v.entries (s, c) ≡ false → moves ≡ v.moves ++ (s, c) ∷ [] → entries ≡ put (s, c) v.entries → IsWalkCourse (record { book = v.book; start = v.start; moves = moves; entries = entries })
 course-next v s c moves entries h troubled on other f g =
-    subst (λ (ms : List (ℕ × ℕ)). IsCourse (record { book = v.book; start = v.start; moves = ms; entries = entries })) (sym f)
-    (subst (λ (es : List (ℕ × ℕ)). IsCourse (record { book = v.book; start = v.start; moves = v.moves ++ (s, c) ∷ []; entries = es })) (sym g)
+    subst (λ (ms : List (ℕ × ℕ)). IsWalkCourse (record { book = v.book; start = v.start; moves = ms; entries = entries })) (sym f)
+    (subst (λ (es : List (ℕ × ℕ)). IsWalkCourse (record { book = v.book; start = v.start; moves = v.moves ++ (s, c) ∷ []; entries = es })) (sym g)
     (course-more v s c h troubled on other))

@@ -13,7 +13,7 @@ use Rattle.assign_check.specs.Violations.{is_of}
 use Rattle.cert_types.specs.Refutes.{is_dead, same_pair}
 use Rattle.cert_types.specs.Walks.{is_in_trouble}
 use Rattle.walk_repack.specs.Course.{IsViolated}
-use Rattle.walk_repack.specs.Steps.{stations_in}
+use Rattle.walk_repack.specs.Steps.{map_stations}
 
 -- the only number of a list
 only-one : (xs : List ℕ) (x : ℕ) → length xs ≤ 1 → is_in xs x ≡ true → is_only xs x ≡ true
@@ -28,16 +28,16 @@ same-itself p =
     (and_from (p.g == p.g) (p.b == p.b) (eq-eqb p.g p.g refl) (eq-eqb p.b p.b refl))
 
 -- a violated pair is dead where each of its stations has one channel at most
-pub violated-dead : (book : BookView) (entries : List (ℕ × ℕ)) (p : Pair) → IsInOrder book → IsViolated book entries p → length (domain_of book p.f) ≤ 1 → length (domain_of book p.g) ≤ 1 → is_dead book (stations_in entries) p ≡ true
+pub violated-dead : (book : BookView) (entries : List (ℕ × ℕ)) (p : Pair) → IsInOrder book → IsViolated book entries p → length (domain_of book p.f) ≤ 1 → length (domain_of book p.g) ≤ 1 → is_dead book (map_stations entries) p ≡ true
 violated-dead book entries p order v l m =
     let within = list_all-gives (is_within book.domains) book.pairs p order.on_domains v.listed in
     let on = and_parts (is_in (domain_of book p.f) p.a) (is_in (domain_of book p.g) p.b) within in
     let stand = and_parts (has_entry entries (p.f, p.a)) (has_entry entries (p.g, p.b)) v.stands in
     and_from (list_any (λ q. same_pair q p) book.pairs)
-    ((is_in (stations_in entries) p.f && is_in (stations_in entries) p.g) && (is_only (domain_of book p.f) p.a && is_only (domain_of book p.g) p.b))
+    ((is_in (map_stations entries) p.f && is_in (map_stations entries) p.g) && (is_only (domain_of book p.f) p.a && is_only (domain_of book p.g) p.b))
     (list_any-from (λ q. same_pair q p) book.pairs p v.listed (same-itself p))
-    (and_from (is_in (stations_in entries) p.f && is_in (stations_in entries) p.g) (is_only (domain_of book p.f) p.a && is_only (domain_of book p.g) p.b)
-    (and_from (is_in (stations_in entries) p.f) (is_in (stations_in entries) p.g) (station-in entries (p.f, p.a) stand.0) (station-in entries (p.g, p.b) stand.1))
+    (and_from (is_in (map_stations entries) p.f && is_in (map_stations entries) p.g) (is_only (domain_of book p.f) p.a && is_only (domain_of book p.g) p.b)
+    (and_from (is_in (map_stations entries) p.f) (is_in (map_stations entries) p.g) (station-in entries (p.f, p.a) stand.0) (station-in entries (p.g, p.b) stand.1))
     (and_from (is_only (domain_of book p.f) p.a) (is_only (domain_of book p.g) p.b) (only-one (domain_of book p.f) p.a l on.0) (only-one (domain_of book p.g) p.b m on.1)))
 
 -- each station of a violated pair is in trouble

@@ -9,7 +9,7 @@ use Rattle.assign_check.specs.Fault.{is_violated}
 use Rattle.cert_types.specs.Walks.{AreSpentMoves, violates_some}
 
 -- the book of a walk, the map that it starts from, the moves since then, and the map that they lead to
-pub record CourseView : Type 0 where
+pub record WalkCourseView : Type 0 where
   pub book : BookView
   pub start : List (ℕ × ℕ)
   pub moves : List (ℕ × ℕ)
@@ -21,7 +21,7 @@ AreOnDomains book entries = IsTrue (list_all (λ x. is_in (domain_of book x.0) x
 
 -- The moves lead from the start map to this one, which ascends and is of the same stations, each on its domain. Where a pair is violated still,
 -- they are moves of a receipt.
-pub record IsCourse (v : CourseView) : Type 0 where
+pub record IsWalkCourse (v : WalkCourseView) : Type 0 where
   pub ascending : IsAscending v.entries
   pub leads : overlaid v.start v.moves ≡ v.entries
   pub stations : map (λ x. x.0) v.entries ≡ map (λ x. x.0) v.start

@@ -4,17 +4,17 @@ use Rattle.pack_defs.specs.Book.{BookView, domain_of}
 use Rattle.pack_defs.specs.Lists.{has_entry}
 use Rattle.cert_types.specs.Refutes.{is_dead}
 use Rattle.cert_types.specs.Walks.{is_in_trouble, violates_some}
-use Rattle.walk_repack.specs.Course.{CourseView}
+use Rattle.walk_repack.specs.Course.{WalkCourseView}
 use Rattle.walk_repack.specs.declared.look.Sight.{Sight}
 use Rattle.walk_repack.specs.declared.look.Sight.TheVariants as sight
-use Rattle.walk_repack.specs.declared.steps.Step.{Step}
-use Rattle.walk_repack.specs.declared.steps.Step.TheVariants as step
-use Rattle.walk_repack.specs.declared.steps.Outcome.{Outcome}
-use Rattle.walk_repack.specs.declared.steps.Outcome.TheVariants as outcome
+use Rattle.walk_repack.specs.declared.steps.WalkStep.{WalkStep}
+use Rattle.walk_repack.specs.declared.steps.WalkStep.TheVariants as step
+use Rattle.walk_repack.specs.declared.steps.WalkEnd.{WalkEnd}
+use Rattle.walk_repack.specs.declared.steps.WalkEnd.TheVariants as outcome
 
 -- the stations of a map
-abbrev pub stations_in : List (ℕ × ℕ) → List ℕ
-stations_in entries = map (λ x. x.0) entries
+abbrev pub map_stations : List (ℕ × ℕ) → List ℕ
+map_stations entries = map (λ x. x.0) entries
 
 -- a station of a violated pair, on this channel, which has another one in its domain
 pub record CanMove (book : BookView) (entries : List (ℕ × ℕ)) (s own : ℕ) : Type 0 where
@@ -25,18 +25,18 @@ pub record CanMove (book : BookView) (entries : List (ℕ × ℕ)) (s own : ℕ)
 -- what is seen of a map: no pair is violated; or one is whose stations can't move; or this station can
 abbrev pub SightIs : BookView → List (ℕ × ℕ) → Sight → Type 0
 SightIs book entries sight.Clean = violates_some book entries ≡ false
-SightIs book entries (sight.Dead p) = is_dead book (stations_in entries) p ≡ true
+SightIs book entries (sight.Dead p) = is_dead book (map_stations entries) p ≡ true
 SightIs book entries (sight.Open s own) = CanMove book entries s own
 
 -- what one step leaves: no pair is violated, or one is dead, or there is one move more
-abbrev pub StepIs : CourseView → CourseView → Step → Type 0
-StepIs earlier later step.Clean = (violates_some later.book later.entries ≡ false) × (later.moves ≡ earlier.moves)
-StepIs earlier later (step.Dead p) = is_dead later.book (stations_in later.entries) p ≡ true
-StepIs earlier later step.Made = length later.moves ≡ length earlier.moves + 1
+abbrev pub WalkStepIs : WalkCourseView → WalkCourseView → WalkStep → Type 0
+WalkStepIs earlier later step.Clean = (violates_some later.book later.entries ≡ false) × (later.moves ≡ earlier.moves)
+WalkStepIs earlier later (step.Dead p) = is_dead later.book (map_stations later.entries) p ≡ true
+WalkStepIs earlier later step.Made = length later.moves ≡ length earlier.moves + 1
 
 -- how a walk ends that has a budget of moves and a query of this number, where the poll's latest answer is `last`
-abbrev pub OutcomeIs : CourseView → ℕ → ℕ → ℕ → Outcome → Type 0
-OutcomeIs v budget number last outcome.Clean = violates_some v.book v.entries ≡ false
-OutcomeIs v budget number last (outcome.Dead p) = is_dead v.book (stations_in v.entries) p ≡ true
-OutcomeIs v budget number last outcome.Spent = (violates_some v.book v.entries ≡ true) × (length v.moves ≡ budget)
-OutcomeIs v budget number last (outcome.Moved now) = (last ≡ now) × (now ≢ number)
+abbrev pub WalkEndIs : WalkCourseView → ℕ → ℕ → ℕ → WalkEnd → Type 0
+WalkEndIs v budget number last outcome.Clean = violates_some v.book v.entries ≡ false
+WalkEndIs v budget number last (outcome.Dead p) = is_dead v.book (map_stations v.entries) p ≡ true
+WalkEndIs v budget number last outcome.Spent = (violates_some v.book v.entries ≡ true) × (length v.moves ≡ budget)
+WalkEndIs v budget number last (outcome.Moved now) = (last ≡ now) × (now ≢ number)

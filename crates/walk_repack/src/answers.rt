@@ -7,9 +7,9 @@ ghost use Rattle.cert_types.specs.Query.{IsQuery};
 ghost use Rattle.cert_types.specs.Refutes.{is_dead};
 ghost use Rattle.cert_types.specs.Valid.{IsValid, learns};
 ghost use Rattle.cert_types.specs.Walks.{start_map, violates_some};
-ghost use Rattle.walk_repack.specs.Steps.{stations_in};
+ghost use Rattle.walk_repack.specs.Steps.{map_stations};
 
-use crate::course::Course;
+use crate::course::WalkCourse;
 use cert_types::answer::{Answer, Receipt, Refutation};
 use cert_types::delta::delta;
 use cert_types::task::Task;
@@ -25,7 +25,7 @@ pub(crate) fn fit(
     alloc: Global,
     book: &Book,
     task: &Task,
-    course: Course,
+    course: WalkCourse,
 ) -> Result<Answer, NoMemory>
     requires query { IsQuery book.now task.now }
     requires book { course.book ≡ book.now }
@@ -38,8 +38,8 @@ pub(crate) fn fit(
 }
 
 /// The refutation by a dead pair that a walk from the query's start map ends with.
-pub(crate) fn refutation(course: &Course, pair: Pair) -> Answer
-    ensures { (task : Task) (worker : Worker) → is_dead course.now.book (stations_in course.now.entries) pair ≡ true →
+pub(crate) fn refutation(course: &WalkCourse, pair: Pair) -> Answer
+    ensures { (task : Task) (worker : Worker) → is_dead course.now.book (map_stations course.now.entries) pair ≡ true →
         course.now.start ≡ start_map course.now.book task.last task.set → IsValid course.now.book task worker result }
 {
     let _entries = course.entries();
@@ -47,7 +47,7 @@ pub(crate) fn refutation(course: &Course, pair: Pair) -> Answer
 }
 
 /// The receipt of a walk from the query's start map that has as many moves as the budget.
-pub(crate) fn receipt(course: Course) -> Answer
+pub(crate) fn receipt(course: WalkCourse) -> Answer
     ensures { (task : Task) (worker : Worker) → violates_some course.book course.entries ≡ true →
         course.start ≡ start_map course.book task.last task.set → learns worker.kind ≡ false →
         length course.moves ≡ worker.budget → IsValid course.book task worker result }

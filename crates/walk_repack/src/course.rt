@@ -5,7 +5,7 @@ ghost use Rattle.pack_defs.specs.Book.{domain_of};
 ghost use Rattle.pack_defs.specs.ChannelMap.{IsAscending, put};
 ghost use Rattle.pack_defs.specs.Lists.{has_entry, is_in};
 ghost use Rattle.cert_types.specs.Walks.{is_in_trouble};
-ghost use Rattle.walk_repack.specs.Course.{AreOnDomains, IsCourse};
+ghost use Rattle.walk_repack.specs.Course.{AreOnDomains, IsWalkCourse};
 
 use assign_check::assignment::{channel_in, set_channel};
 use pack_defs::book::Book;
@@ -17,31 +17,31 @@ use std::snapshot::Snapshot;
 /// another channel of its domain, and left some pair violated, unless it is the last. The book and the start map stand in
 /// proofs alone.
 #[derive(Drop)]
-pub(crate) struct Course {
+pub(crate) struct WalkCourse {
     book: Snapshot<Book>,
     start: Snapshot<Vec<(u32, u8)>>,
     moves: Vec<(u32, u8)>,
     entries: Vec<(u32, u8)>,
 }
 
-impl Model for Course {
-    ghost use Rattle.walk_repack.specs.Course.{CourseView, IsCourse};
+impl Model for WalkCourse {
+    ghost use Rattle.walk_repack.specs.Course.{WalkCourseView, IsWalkCourse};
 
-    ghost Value = { CourseView };
+    ghost Value = { WalkCourseView };
 
     ghost view = { λ c. record { book = c.book.value; start = c.start.value.items; moves = c.moves.items; entries = c.entries.items } };
 
-    ghost invariant = { λ c. IsCourse (record { book = c.book.value; start = c.start.value.items; moves = c.moves.items; entries = c.entries.items }) };
+    ghost invariant = { λ c. IsWalkCourse (record { book = c.book.value; start = c.start.value.items; moves = c.moves.items; entries = c.entries.items }) };
 }
 
-impl Course {
+impl WalkCourse {
     /// The walk that is at this map and has made no move. Each station is on a channel of its domain.
-    pub(crate) fn new(alloc: Global, book: &Book, entries: Vec<(u32, u8)>) -> Course
+    pub(crate) fn new(alloc: Global, book: &Book, entries: Vec<(u32, u8)>) -> WalkCourse
         requires ascending { IsAscending entries.items }
         requires on_domains { AreOnDomains book.now entries.items }
         ensures { result ≡ record { book = book.now; start = entries.items; moves = []; entries = entries.items } }
     {
-        Course {
+        WalkCourse {
             book: Snapshot::of(book),
             start: Snapshot::of(&entries),
             moves: Vec::new(alloc),
@@ -59,7 +59,7 @@ impl Course {
     /// The map, each entry a station and its channel. It keeps what each walk does.
     pub(crate) fn entries(&self) -> &[(u32, u8)]
         ensures entries { result.now ≡ self.now.entries }
-        ensures course { IsCourse self.now }
+        ensures course { IsWalkCourse self.now }
     {
         &self.entries
     }
@@ -93,7 +93,7 @@ impl Course {
     /// The map, taken out. It keeps what each walk does.
     pub(crate) fn into_entries(self) -> Vec<(u32, u8)>
         ensures entries { result.items ≡ self.entries }
-        ensures course { IsCourse self }
+        ensures course { IsWalkCourse self }
     {
         self.entries
     }
@@ -101,7 +101,7 @@ impl Course {
     /// The moves, taken out. They are those of a walk.
     pub(crate) fn into_moves(self) -> Vec<(u32, u8)>
         ensures moves { result.items ≡ self.moves }
-        ensures course { IsCourse self }
+        ensures course { IsWalkCourse self }
     {
         self.moves
     }

@@ -5,7 +5,7 @@ ghost use Rattle.pack_defs.specs.Lists.{is_ascending, is_in};
 ghost use Rattle.walk_repack.specs.Course.{IsViolated};
 ghost use Rattle.walk_repack.specs.Steps.{SightIs};
 
-use crate::course::Course;
+use crate::course::WalkCourse;
 use crate::guide::Guide;
 use crate::pick::violated;
 use pack_defs::book::Book;
@@ -23,7 +23,7 @@ pub(crate) enum Sight {
 }
 
 /// Looks at a violated pair, if there is one, and at which of its stations to move.
-pub(crate) fn look(book: &Book, course: &Course, guide: &mut Guide) -> Sight
+pub(crate) fn look(book: &Book, course: &WalkCourse, guide: &mut Guide) -> Sight
     requires { book.now ≡ course.now.book }
     ensures { SightIs course.now.book course.now.entries result }
 {
@@ -35,7 +35,7 @@ pub(crate) fn look(book: &Book, course: &Course, guide: &mut Guide) -> Sight
 }
 
 // Which station of a violated pair to move: the first one on heads and the second on tails, where both can.
-fn look_at(book: &Book, course: &Course, pair: Pair, heads: bool) -> Sight
+fn look_at(book: &Book, course: &WalkCourse, pair: Pair, heads: bool) -> Sight
     requires book { book.now ≡ course.now.book }
     requires violated { IsViolated course.now.book course.now.entries pair }
     ensures { SightIs course.now.book course.now.entries result }

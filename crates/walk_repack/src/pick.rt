@@ -8,7 +8,7 @@ ghost use Rattle.assign_check.specs.Fault.{is_violated};
 ghost use Rattle.cert_types.specs.Walks.{violates_some};
 ghost use Rattle.walk_repack.specs.Course.{IsViolated};
 
-use crate::course::Course;
+use crate::course::WalkCourse;
 use pack_defs::book::Book;
 use pack_defs::pair::Pair;
 
@@ -22,7 +22,7 @@ pub(crate) struct Pick {
 
 /// A violated pair of the walk's map: the one that is picked, if that is violated, else the first of all, if there is one.
 /// Where none is picked it costs a pass over the pairs from each of the stations.
-pub(crate) fn violated(book: &Book, course: &Course, pick: Option<Pick>) -> Option<Pair>
+pub(crate) fn violated(book: &Book, course: &WalkCourse, pick: Option<Pick>) -> Option<Pair>
     requires { book.now ≡ course.now.book }
     ensures some { IfSome result (λ p. IsViolated course.now.book course.now.entries p) }
     ensures none { IfNone result (violates_some course.now.book course.now.entries ≡ false) }
@@ -34,7 +34,7 @@ pub(crate) fn violated(book: &Book, course: &Course, pick: Option<Pick>) -> Opti
 }
 
 // The pair that is picked, if it is there and violated.
-fn picked(book: &Book, course: &Course, pick: Option<Pick>) -> Option<Pair>
+fn picked(book: &Book, course: &WalkCourse, pick: Option<Pick>) -> Option<Pair>
     requires { book.now ≡ course.now.book }
     ensures { IfSome result (λ p. IsViolated course.now.book course.now.entries p) }
 {
@@ -63,7 +63,7 @@ fn listed(book: &Book, pick: Pick) -> &[Pair]
 }
 
 // The first violated pair of all, by a pass over the pairs from each of the stations.
-fn first_violated(book: &Book, course: &Course) -> Option<Pair>
+fn first_violated(book: &Book, course: &WalkCourse) -> Option<Pair>
     requires { book.now ≡ course.now.book }
     ensures some { IfSome result (λ p. IsViolated course.now.book course.now.entries p) }
     ensures none { IfNone result (violates_some course.now.book course.now.entries ≡ false) }
@@ -77,7 +77,7 @@ fn first_violated(book: &Book, course: &Course) -> Option<Pair>
 }
 
 // The first of the pairs from this entry's station that is violated.
-fn violated_from(book: &Book, course: &Course, own: (u32, u8)) -> Option<Pair>
+fn violated_from(book: &Book, course: &WalkCourse, own: (u32, u8)) -> Option<Pair>
     requires book { book.now ≡ course.now.book }
     requires ascending { IsAscending course.now.entries }
     requires own { has_entry course.now.entries own ≡ true }

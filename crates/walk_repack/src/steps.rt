@@ -2,9 +2,9 @@
 //! stands.
 
 ghost use Rattle.std.specs.Prelude.{ℕ, ◌≡◌, ◌≤◌, IfOk, length};
-ghost use Rattle.walk_repack.specs.Steps.{OutcomeIs, StepIs};
+ghost use Rattle.walk_repack.specs.Steps.{WalkEndIs, WalkStepIs};
 
-use crate::course::Course;
+use crate::course::WalkCourse;
 use crate::guide::Guide;
 use crate::look::{Sight, look, other_channel};
 use crate::policy::MOVES_BETWEEN_POLLS;
@@ -15,7 +15,7 @@ use std::alloc::AllocError as NoMemory;
 
 /// What a step of a walk comes to.
 #[derive(Debug, Drop)]
-pub(crate) enum Step {
+pub(crate) enum WalkStep {
     /// No pair is violated.
     Clean,
     /// This pair is dead.
@@ -26,7 +26,7 @@ pub(crate) enum Step {
 
 /// How a walk ends.
 #[derive(Debug, Drop)]
-pub(crate) enum Outcome {
+pub(crate) enum WalkEnd {
     /// No pair is violated.
     Clean,
     /// This pair is dead.
@@ -41,67 +41,67 @@ pub(crate) enum Outcome {
 /// answers another number than this one.
 pub(crate) fn run<P: Poll>(
     book: &Book,
-    course: &mut Course,
+    course: &mut WalkCourse,
     guide: &mut Guide,
     budget: u32,
     number: u64,
     poll: &mut P,
-) -> Result<Outcome, NoMemory>
+) -> Result<WalkEnd, NoMemory>
     requires book { book.now ≡ course.old.book }
     requires few { length course.old.moves ≤ budget }
     ensures book { course.new.book ≡ course.old.book }
     ensures start { course.new.start ≡ course.old.start }
-    ensures outcome { IfOk result (λ outcome. OutcomeIs course.new budget number (P.last poll.new) outcome) }
+    ensures outcome { IfOk result (λ outcome. WalkEndIs course.new budget number (P.last poll.new) outcome) }
     ensures goes { P.goes poll.old poll.new }
 {
     'moves: while course.len() < budget as usize {
         if let Some(now) = moved(poll, number, course.len(), MOVES_BETWEEN_POLLS) {
-            return Ok(Outcome::Moved { now });
+            return Ok(WalkEnd::Moved { now });
         }
         match advance(book, course, guide)? {
-            Step::Clean => return Ok(Outcome::Clean),
-            Step::Dead(pair) => return Ok(Outcome::Dead(pair)),
-            Step::Made => {}
+            WalkStep::Clean => return Ok(WalkEnd::Clean),
+            WalkStep::Dead(pair) => return Ok(WalkEnd::Dead(pair)),
+            WalkStep::Made => {}
         }
     }
     Ok(last_look(book, course, guide))
 }
 
 // Makes a move, if there is one to make.
-fn advance(book: &Book, course: &mut Course, guide: &mut Guide) -> Result<Step, NoMemory>
+fn advance(book: &Book, course: &mut WalkCourse, guide: &mut Guide) -> Result<WalkStep, NoMemory>
     requires book { book.now ≡ course.old.book }
     ensures book { course.new.book ≡ course.old.book }
     ensures start { course.new.start ≡ course.old.start }
-    ensures step { IfOk result (λ step. StepIs course.old course.new step) }
+    ensures step { IfOk result (λ step. WalkStepIs course.old course.new step) }
 {
     book.keeps_order();
     // With its entries a walk says that they ascend.
     let _entries = course.entries();
     match look(book, course, guide) {
-        Sight::Clean => Ok(Step::Clean),
-        Sight::Dead(pair) => Ok(Step::Dead(pair)),
+        Sight::Clean => Ok(WalkStep::Clean),
+        Sight::Dead(pair) => Ok(WalkStep::Dead(pair)),
         Sight::Open { station, channel } => {
             let domain = book.domain(station);
             let at = guide.channel(domain, station, channel);
             let to = other_channel(domain, channel, at);
             course.make(station, to)?;
             guide.note(station, channel, to);
-            Ok(Step::Made)
+            Ok(WalkStep::Made)
         }
     }
 }
 
 // How a walk ends whose budget is spent.
-fn last_look(book: &Book, course: &Course, guide: &mut Guide) -> Outcome
+fn last_look(book: &Book, course: &WalkCourse, guide: &mut Guide) -> WalkEnd
     requires { book.now ≡ course.now.book }
-    ensures { (number last : ℕ) → OutcomeIs course.now (length course.now.moves) number last result }
+    ensures { (number last : ℕ) → WalkEndIs course.now (length course.now.moves) number last result }
 {
     match look(book, course, guide) {
-        Sight::Clean => Outcome::Clean,
-        Sight::Dead(pair) => Outcome::Dead(pair),
+        Sight::Clean => WalkEnd::Clean,
+        Sight::Dead(pair) => WalkEnd::Dead(pair),
         Sight::Open {
             station: _,
             channel: _,
-        } => Outcome::Spent,
+        } => WalkEnd::Spent,
     }
 }

@@ -3,14 +3,14 @@
 ghost use Rattle.std.specs.Prelude.{ℕ, ◌≡◌, [], IfOk, false};
 ghost use Rattle.cert_types.specs.Valid.{learns};
 ghost use Rattle.cert_types.specs.Walks.{start_map};
-ghost use Rattle.walk_repack.specs.Steps.{OutcomeIs};
+ghost use Rattle.walk_repack.specs.Steps.{WalkEndIs};
 ghost use Rattle.pack_defs.specs.declared.worker.Kind.{Kind};
 ghost use Rattle.cert_types.specs.Query.{AttemptIs, IsQuery};
 
 use crate::answers::{fit, receipt, refutation};
-use crate::course::Course;
+use crate::course::WalkCourse;
 use crate::guide::Guide;
-use crate::steps::{Outcome, run};
+use crate::steps::{WalkEnd, run};
 use cert_types::poll::{Attempt, Poll};
 use cert_types::start::start_map;
 use cert_types::task::Task;
@@ -84,14 +84,14 @@ impl Walk {
 }
 
 // The walk that is at the query's start map.
-fn begin(alloc: Global, book: &Book, task: &Task) -> Result<Course, NoMemory>
+fn begin(alloc: Global, book: &Book, task: &Task) -> Result<WalkCourse, NoMemory>
     requires { IsQuery book.now task.now }
     ensures book { IfOk result (λ course. course.book ≡ book.now) }
     ensures start { IfOk result (λ course. course.start ≡ start_map book.now task.now.last task.now.set) }
     ensures moves { IfOk result (λ course. course.moves ≡ []) }
 {
     let entries = start_map(alloc, book, task)?;
-    Ok(Course::new(alloc, book, entries))
+    Ok(WalkCourse::new(alloc, book, entries))
 }
 
 // What a walk says that ended so.
@@ -100,23 +100,23 @@ fn ended(
     book: &Book,
     task: &Task,
     worker: Worker,
-    course: Course,
-    outcome: Outcome,
+    course: WalkCourse,
+    outcome: WalkEnd,
 ) -> Result<Attempt, NoMemory>
     requires query { IsQuery book.now task.now }
     requires walks { learns worker.kind ≡ false }
     requires book { course.book ≡ book.now }
     requires start { course.start ≡ start_map book.now task.now.last task.now.set }
-    ensures { (last : ℕ) → OutcomeIs course worker.budget task.now.number last outcome →
+    ensures { (last : ℕ) → WalkEndIs course worker.budget task.now.number last outcome →
         IfOk result (λ attempt. AttemptIs book.now task.now worker last attempt) }
 {
     match outcome {
-        Outcome::Clean => {
+        WalkEnd::Clean => {
             let answer = fit(alloc, book, task, course)?;
             return Ok(Attempt::Said(answer));
         }
-        Outcome::Dead(pair) => return Ok(Attempt::Said(refutation(&course, pair))),
-        Outcome::Spent => return Ok(Attempt::Said(receipt(course))),
-        Outcome::Moved { now } => return Ok(Attempt::Moved { now }),
+        WalkEnd::Dead(pair) => return Ok(Attempt::Said(refutation(&course, pair))),
+        WalkEnd::Spent => return Ok(Attempt::Said(receipt(course))),
+        WalkEnd::Moved { now } => return Ok(Attempt::Moved { now }),
     }
 }

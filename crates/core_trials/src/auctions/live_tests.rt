@@ -8,7 +8,7 @@ use auction_core::auction::Auction;
 use auction_core::record::Ending;
 use core_samples::answers::Given;
 use core_samples::books::three_stations;
-use core_samples::owners::{AS_BID, Lines, SECOND_DECLINES, saying};
+use core_samples::owners::{AS_BID, SECOND_DECLINES, SaidLines, saying};
 use pack_defs::book::Book;
 use pack_defs::order::Order;
 use pack_defs::owners::Owners;
@@ -37,7 +37,7 @@ fn of_three(alloc: Global, owners: &Owners, cases: &[Case]) -> Result<Option<Cam
     played_live(alloc, &sc, &three_stations(alloc)?, owners, cases)
 }
 
-const LIVE: &[(Lines, &[Case], Came)] = &[
+const LIVE: &[(SaidLines, &[Case], Came)] = &[
     // Station 2 leaves in round 1 and station 1 in round 2, and station 3 never, so it is frozen at 60 cents.
     (
         AS_BID,

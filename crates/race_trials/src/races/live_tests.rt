@@ -7,7 +7,7 @@ use crate::races::samples::all_on_air;
 use crate::races::tests::{By, Test, are_of};
 use auction_core::record::{Ending, Record};
 use core_samples::books::three_stations;
-use core_samples::owners::{ALL_STAY, AS_BID, FIRST_LEAVES, FIRST_STAYS, Lines, saying};
+use core_samples::owners::{ALL_STAY, AS_BID, FIRST_LEAVES, FIRST_STAYS, SaidLines, saying};
 use core_samples::scenarios::three_bids_by_one;
 use core_samples::workers::learner;
 use pack_defs::channel_map::ChannelMap;
@@ -54,7 +54,7 @@ fn ends<W: Threads + Wait + Sync>(
     rt: &W,
     alloc: Global,
     sc: &Scenario,
-    lines: Lines,
+    lines: SaidLines,
     end: End,
 ) -> Result<bool, NoMemory>
     requires limits { IsWithinLimits sc.now }
@@ -71,7 +71,7 @@ fn ends_otherwise<W: Threads + Wait + Sync>(
     rt: &W,
     alloc: Global,
     sc: &Scenario,
-    rows: &[(Lines, End)],
+    rows: &[(SaidLines, End)],
 ) -> Result<Option<usize>, NoMemory>
     requires limits { IsWithinLimits sc.now }
     requires stations { facilities sc.now ≡ 1 ∷ 2 ∷ 3 ∷ [] }
@@ -86,7 +86,7 @@ fn ends_otherwise<W: Threads + Wait + Sync>(
 }
 
 // What the owners say, and how the auction ends. The offers are 100, 60 and 20 cents, and there is room for two.
-const LIVE: &[(Lines, End)] = &[
+const LIVE: &[(SaidLines, End)] = &[
     // As by values of 50, 70 and 10.
     (
         AS_BID,

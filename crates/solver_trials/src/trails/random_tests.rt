@@ -7,7 +7,7 @@ use clause_db::list::ClauseList;
 use clause_db::lit::Lit;
 use std::alloc::{AllocError as NoMemory, Global};
 use std::test::Fail;
-use trail_prop::entry::Entry;
+use trail_prop::entry::TrailEntry;
 use trail_prop::plain::PlainTrail;
 use trail_prop::trail::Trail;
 use trail_prop::within::are_within;
@@ -55,7 +55,7 @@ fn clauses_hold(bits: u64, clauses: &ClauseList) -> bool {
     true
 }
 
-fn decisions_hold(bits: u64, entries: &[Entry]) -> bool {
+fn decisions_hold(bits: u64, entries: &[TrailEntry]) -> bool {
     for entry in entries {
         if entry.reason.is_none() && !holds(bits, entry.lit) {
             return false;
@@ -64,7 +64,7 @@ fn decisions_hold(bits: u64, entries: &[Entry]) -> bool {
     true
 }
 
-fn entries_hold(bits: u64, entries: &[Entry]) -> bool {
+fn entries_hold(bits: u64, entries: &[TrailEntry]) -> bool {
     for entry in entries {
         if !holds(bits, entry.lit) {
             return false;

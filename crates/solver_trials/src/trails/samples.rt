@@ -7,7 +7,7 @@ ghost use Rattle.trail_prop.specs.Open.{LitsWithin};
 use clause_db::list::ClauseList;
 use clause_db::lit::Lit;
 use std::alloc::{AllocError as NoMemory, Global};
-use trail_prop::entry::Entry;
+use trail_prop::entry::TrailEntry;
 use trail_prop::trail::Trail;
 
 // A literal as DIMACS CNF writes it: its variable, or the variable's negative.
@@ -90,7 +90,7 @@ pub(crate) fn backjump(trail: &mut Trail, level: u32) -> bool {
     trail.level() == level
 }
 
-pub(crate) fn is_entry(entry: &Entry, number: i64, level: u32, reason: u64) -> bool {
+pub(crate) fn is_entry(entry: &TrailEntry, number: i64, level: u32, reason: u64) -> bool {
     entry.lit == lit(number) && entry.level == level && entry.reason.unwrap_or(0) == reason
 }
 

@@ -5,7 +5,7 @@ use crate::trails::samples::{
 };
 use std::alloc::{AllocError as NoMemory, Global};
 use std::test::Fail;
-use trail_prop::entry::Entry;
+use trail_prop::entry::TrailEntry;
 use trail_prop::trail::Trail;
 
 // A step on a trail.
@@ -24,7 +24,7 @@ enum Move<'a> {
     Shows(&'a [(i64, u32, u64)]),
     Value(u64, Option<bool>),
     // This is the entry of its variable, or isn't.
-    Entry(i64, u32, u64, bool),
+    TrailEntry(i64, u32, u64, bool),
 }
 
 // Whether the step tells what it has to.
@@ -223,7 +223,7 @@ fn runs_forward(alloc: Global) -> Result<bool, NoMemory> {
     Ok(are_in_turn(trail.entries()))
 }
 
-fn are_in_turn(entries: &[Entry]) -> bool {
+fn are_in_turn(entries: &[TrailEntry]) -> bool {
     for (before, entry) in entries.iter().enumerate() {
         if !is_entry(entry, before as i64 + 1, 1, before as u64) {
             return false;

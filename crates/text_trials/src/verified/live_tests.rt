@@ -7,7 +7,7 @@ use crate::texts::{SECOND_ON_AIR, THREE_STATIONS};
 use crate::verified::samples::{APART, KIND, ORDER, Row, SOUND, STATION_3, is_as_said, misjudged};
 use core_samples::books::three_stations;
 use core_samples::owners::{
-    ALL_STAY, AS_BID, FIRST_LEAVES, FIRST_STAYS, Lines, SECOND_DECLINES, saying,
+    ALL_STAY, AS_BID, FIRST_LEAVES, FIRST_STAYS, SECOND_DECLINES, SaidLines, saying,
 };
 use core_samples::scenarios::three_bids_by_one;
 use pack_defs::book::Book;
@@ -43,7 +43,7 @@ fn is_found(
     alloc: Global,
     sc: &Scenario,
     book: &Book,
-    lines: Lines,
+    lines: SaidLines,
     row: Row<'_>,
 ) -> Result<bool, NoMemory>
     requires ascend { StationsAscend sc.now }
@@ -61,7 +61,7 @@ fn misjudged_live(
     alloc: Global,
     sc: &Scenario,
     book: &Book,
-    rows: &[(Lines, Row<'_>)],
+    rows: &[(SaidLines, Row<'_>)],
 ) -> Result<Option<usize>, NoMemory>
     requires ascend { StationsAscend sc.now }
     requires auction { IsOfAuction sc.now book.now }
@@ -76,7 +76,7 @@ fn misjudged_live(
 }
 
 // Stations as by `AS_BID`, but that station 2 says so.
-const AS_BID_ALOUD: Lines = &[
+const AS_BID_ALOUD: SaidLines = &[
     (0, 1, true),
     (1, 1, true),
     (0, 2, true),
@@ -87,7 +87,7 @@ const AS_BID_ALOUD: Lines = &[
 ];
 
 // The same, but that station 1 leaves in round 1 too.
-const FIRST_TWO_LEAVE: Lines = &[
+const FIRST_TWO_LEAVE: SaidLines = &[
     (0, 1, true),
     (0, 2, true),
     (0, 3, true),
@@ -100,7 +100,7 @@ const BEHIND_THE_LAST_FALL: &[u8] =
     b"transcript 1\nstart empty\nfit 1 1 1\nat 1 14\nfit 1 2 1\nat 2 14\nfit 1 3 1\nat 3 15\nfit 2 1 1\nat 1 15\nsame 2 3\nlog 3 1 0 2\non 1 2 3\n13 -1 0 7 2 8 3 12 0\n14 0 13 1 9 2 10 3 11 0\nend 6\n";
 
 // What the owners say; a text, its first step that is not shown, and why.
-const LIVE: &[(Lines, Row)] = &[
+const LIVE: &[(SaidLines, Row)] = &[
     (AS_BID, (THREE_STATIONS, 0, SOUND)),
     (AS_BID_ALOUD, (THREE_STATIONS, 0, SOUND)),
     (FIRST_TWO_LEAVE, (THREE_STATIONS, 2, APART)),

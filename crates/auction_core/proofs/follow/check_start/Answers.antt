@@ -1,6 +1,6 @@
 -- How the start test stands, by how it is shown.
 use Rattle.std.proofs.Common.{◌≡◌, rules, true, false, is_some, option_map, subst, sym}
-use Rattle.auction_core.specs.Checked.{Tells, is_empty_shown}
+use Rattle.auction_core.specs.Checked.{IsStepFault, is_empty_shown}
 use Rattle.auction_core.specs.NotShown.{start_fault}
 use Rattle.auction_core.specs.declared.prefix.ShownWhy.TheVariants.{NotValid}
 use Rattle.auction_core.proofs.CheckLemmas.{not-some, empty-ok, empty-stands, empty-why, fit-unasked, fit-ok, fit-why, fit-stands}
@@ -22,13 +22,13 @@ pub returns-in-Empty-clause-why : goal.returns-in-Empty-clause-why
 returns-in-Empty-clause-why c =
     let v = c.args.clockwork.now in
     let h : is_empty_shown v.state.start ≡ false = search rules in
-    subst (λ r. Tells r (option_map NotValid (start_fault v.scenario v.book c.args.start))) (sym c.not_valid.ensures) (empty-why v.scenario v.book v.state.order v.state c.args.start c.requires.opening c.in-Empty.is h)
+    subst (λ r. IsStepFault r (option_map NotValid (start_fault v.scenario v.book c.args.start))) (sym c.not_valid.ensures) (empty-why v.scenario v.book v.state.order v.state c.args.start c.requires.opening c.in-Empty.is h)
 
 pub returns-then-is_some-clause-why : goal.returns-then-is_some-clause-why
 returns-then-is_some-clause-why c =
     let v = c.args.clockwork.now in
     let h : is_some v.state.start ≡ true = search rules in
-    subst (λ r. Tells r (option_map NotValid (start_fault v.scenario v.book c.args.start))) (sym c.not_valid-then-is_some.ensures) (fit-unasked v.scenario v.book v.state.order v.state c.args.start c.in-Fits.delta c.requires.opening c.in-Fits.is h)
+    subst (λ r. IsStepFault r (option_map NotValid (start_fault v.scenario v.book c.args.start))) (sym c.not_valid-then-is_some.ensures) (fit-unasked v.scenario v.book v.state.order v.state c.args.start c.in-Fits.delta c.requires.opening c.in-Fits.is h)
 
 pub returns-in-Ok-clause-fault : goal.returns-in-Ok-clause-fault
 returns-in-Ok-clause-fault c =

@@ -7,7 +7,7 @@ use Rattle.cert_types.proofs.Validity.{fit-clean}
 use Rattle.auction_core.specs.declared.record.Shown.TheVariants.{Fits}
 use Rattle.auction_core.specs.State.{start_task, task_of}
 use Rattle.auction_core.specs.declared.prefix.ShownWhy.TheVariants.{NotValid}
-use Rattle.auction_core.specs.Checked.{Tells}
+use Rattle.auction_core.specs.Checked.{IsStepFault}
 use Rattle.auction_core.proofs.QueryFaults.{settles}
 use Rattle.auction_core.proofs.CheckLemmas.{task-start}
 use Rattle.auction_core.proofs.follow.start_fit.Goals as goal
@@ -42,5 +42,5 @@ returns-clause-why c =
     let v = c.args.clockwork.now in
     let is : task_of v.scenario v.book v.state ≡ Some c.in-Some.task = sym c.in_ok-task.ensures.task ∙ c.in-Some.is in
     let same = same_Some c.in-Some.task (start_task v.scenario v.state.number) (sym is ∙ task-start v.scenario v.book v.state c.requires.standing) in
-    subst (λ t. Tells c.in-Err.e (option_map NotValid (fit_fault v.book t c.args.delta))) same
-    (subst (λ b. Tells c.in-Err.e (option_map NotValid (fit_fault b c.in-Some.task c.args.delta))) c.book.ensures c.in-Err.ensures.why)
+    subst (λ t. IsStepFault c.in-Err.e (option_map NotValid (fit_fault v.book t c.args.delta))) same
+    (subst (λ b. IsStepFault c.in-Err.e (option_map NotValid (fit_fault b c.in-Some.task c.args.delta))) c.book.ensures c.in-Err.ensures.why)

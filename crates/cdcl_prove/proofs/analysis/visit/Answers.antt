@@ -4,24 +4,24 @@ use Rattle.clause_db.specs.Clause.{clause_at}
 use Rattle.clause_db.specs.Clauses.{Clauses, LitWithin}
 use Rattle.trail_prop.specs.Open.{LitsWithin}
 use Rattle.trail_prop.specs.Trails.{IsTrail}
-use Rattle.trail_prop.specs.declared.entry.Entry.{Entry}
+use Rattle.trail_prop.specs.declared.entry.TrailEntry.{TrailEntry}
 use Rattle.cdcl_prove.specs.Analysis.{resolves}
 use Rattle.cdcl_prove.proofs.TrailLemmas.{fits-at, reason-number, reason-within}
 use Rattle.cdcl_prove.proofs.AnalysisLemmas.{closed-after}
 use Rattle.cdcl_prove.proofs.analysis.visit.Goals as goal
 
-abbrev none-yet : Entry
+abbrev none-yet : TrailEntry
 none-yet = record { lit = record { var = 0; positive = false }; level = 0; reason = None }
 
 -- the literal at a place of a trail is of its variables
-within-at : (c : Clauses) (es list : List Entry) (at : ℕ) → list ≡ es → IsTrail c es → at < length es → LitWithin c.vars (get_or list at none-yet).lit
-within-at c es list at e t l = subst (λ (z : List Entry). LitWithin c.vars (get_or z at none-yet).lit) (sym e) (fits-at c [] es at none-yet t l).within
+within-at : (c : Clauses) (es list : List TrailEntry) (at : ℕ) → list ≡ es → IsTrail c es → at < length es → LitWithin c.vars (get_or list at none-yet).lit
+within-at c es list at e t l = subst (λ (z : List TrailEntry). LitWithin c.vars (get_or z at none-yet).lit) (sym e) (fits-at c [] es at none-yet t l).within
 
-number-at : (c : Clauses) (es list : List Entry) (at n : ℕ) → list ≡ es → IsTrail c es → at < length es → (get_or list at none-yet).reason ≡ Some n → (1 ≤ n) × (n ≤ length c.list)
-number-at c es list at n e t l r = reason-number c es at n none-yet t l (subst (λ (z : List Entry). (get_or z at none-yet).reason ≡ Some n) e r)
+number-at : (c : Clauses) (es list : List TrailEntry) (at n : ℕ) → list ≡ es → IsTrail c es → at < length es → (get_or list at none-yet).reason ≡ Some n → (1 ≤ n) × (n ≤ length c.list)
+number-at c es list at n e t l r = reason-number c es at n none-yet t l (subst (λ (z : List TrailEntry). (get_or z at none-yet).reason ≡ Some n) e r)
 
-clause-at : (c : Clauses) (es list : List Entry) (at n size : ℕ) (clause : List Lit) → list ≡ es → IsTrail c es → at < length es → (get_or list at none-yet).reason ≡ Some n → clause_at c.list n ≡ Some clause → size ≡ c.vars → LitsWithin size clause
-clause-at c es list at n size clause e t l r k s = subst (λ (v : ℕ). LitsWithin v clause) (sym s) (reason-within c es at n none-yet clause t l (subst (λ (z : List Entry). (get_or z at none-yet).reason ≡ Some n) e r) k)
+clause-at : (c : Clauses) (es list : List TrailEntry) (at n size : ℕ) (clause : List Lit) → list ≡ es → IsTrail c es → at < length es → (get_or list at none-yet).reason ≡ Some n → clause_at c.list n ≡ Some clause → size ≡ c.vars → LitsWithin size clause
+clause-at c es list at n size clause e t l r k s = subst (λ (v : ℕ). LitsWithin v clause) (sym s) (reason-within c es at n none-yet clause t l (subst (λ (z : List TrailEntry). (get_or z at none-yet).reason ≡ Some n) e r) k)
 
 pub get-requires-clause-from_one : goal.get-requires-clause-from_one
 get-requires-clause-from_one c = (within-at c.args.trail.now.clauses c.args.trail.now.entries c.entries-entries.result.now c.args.at c.entries-entries.ensures.entries c.entries-entries.ensures.trail c.requires.within).0
@@ -53,7 +53,7 @@ pub returns-clause-closed : goal.returns-clause-closed
 returns-clause-closed c =
     closed-after c.args.trail.now.clauses c.args.trail.now.entries c.args.at c.in-Some.reason none-yet c.get-clause.result.now c.args.marks.now c.meet-more.new.marks c.resolve.new.self
     c.entries-entries.ensures.trail c.requires.within
-    (subst (λ (z : List Entry). (get_or z c.args.at none-yet).reason ≡ Some c.in-Some.reason) c.entries-entries.ensures.entries c.in-Some.is)
+    (subst (λ (z : List TrailEntry). (get_or z c.args.at none-yet).reason ≡ Some c.in-Some.reason) c.entries-entries.ensures.entries c.in-Some.is)
     (subst (λ (z : Clauses). clause_at z.list c.in-Some.reason ≡ Some c.get-clause.result.now) c.clauses.ensures.clauses c.get-clause.ensures.clause)
     c.requires.closed c.meet-more.ensures.more c.meet-more.ensures.met c.resolve.ensures.size c.resolve.ensures.still
-    (subst (λ (z : List Entry). (v : ℕ) → 1 ≤ v → resolves c.resolve.new.self v ≡ true → (v ≡ (get_or z c.args.at none-yet).lit.var) ⊎ (resolves c.meet-more.new.marks v ≡ true)) c.entries-entries.ensures.entries c.resolve.ensures.others)
+    (subst (λ (z : List TrailEntry). (v : ℕ) → 1 ≤ v → resolves c.resolve.new.self v ≡ true → (v ≡ (get_or z c.args.at none-yet).lit.var) ⊎ (resolves c.meet-more.new.marks v ≡ true)) c.entries-entries.ensures.entries c.resolve.ensures.others)

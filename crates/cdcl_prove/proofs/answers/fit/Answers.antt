@@ -5,7 +5,7 @@ use Rattle.clause_db.specs.Clause.{Satisfies}
 use Rattle.pack_defs.specs.Lists.{has_entry, is_ascending}
 use Rattle.pack_defs.proofs.BookLemmas.{list_all-filter_itself}
 use Rattle.pack_defs.specs.Packing.{IsPacking}
-use Rattle.cnf_encode.specs.Decode.{listed}
+use Rattle.cnf_encode.specs.Decode.{listed_model}
 use Rattle.cnf_encode.specs.Formula.{packing_formula}
 use Rattle.trail_prop.specs.Entries.{lits_of}
 use Rattle.trail_prop.specs.Trails.{TrailView}
@@ -19,11 +19,11 @@ decode-requires-clause-ascending c = subst (λ (xs : List ℕ). is_ascending xs 
 
 pub decode-requires-clause-model : goal.decode-requires-clause-model
 decode-requires-clause-model c =
-    let reads : Reads c.args.derivation.now.formula.vars (lits_of c.args.derivation.now.entries) (listed c.in_ok-model.model.items) = subst (λ (t : TrailView). Reads t.clauses.vars (lits_of t.entries) (listed c.in_ok-model.model.items)) c.trail.ensures c.in_ok-model.ensures in
-    let all = model-satisfies c.args.derivation.now.formula c.args.derivation.now.lines (lits_of c.args.derivation.now.entries) (listed c.in_ok-model.model.items) reads c.requires.model.total c.requires.formula.within c.requires.model.complete in
-    let of-set : Satisfies (listed c.in_ok-model.model.items) (packing_formula c.args.book.now c.args.task.now.set) = subst (λ (z : List (List Lit)). Satisfies (listed c.in_ok-model.model.items) z) c.requires.formula.list all in
-    let of-slice : Satisfies (listed c.in_ok-model.model.items) (packing_formula c.args.book.now c.as_slice.result.now) = subst (λ (xs : List ℕ). Satisfies (listed c.in_ok-model.model.items) (packing_formula c.args.book.now xs)) (sym c.as_slice.ensures) of-set in
-    subst (λ (bs : List Bool). Satisfies (listed bs) (packing_formula c.args.book.now c.as_slice.result.now)) (sym c.deref.ensures.value) of-slice
+    let reads : Reads c.args.derivation.now.formula.vars (lits_of c.args.derivation.now.entries) (listed_model c.in_ok-model.model.items) = subst (λ (t : TrailView). Reads t.clauses.vars (lits_of t.entries) (listed_model c.in_ok-model.model.items)) c.trail.ensures c.in_ok-model.ensures in
+    let all = model-satisfies c.args.derivation.now.formula c.args.derivation.now.lines (lits_of c.args.derivation.now.entries) (listed_model c.in_ok-model.model.items) reads c.requires.model.total c.requires.formula.within c.requires.model.complete in
+    let of-set : Satisfies (listed_model c.in_ok-model.model.items) (packing_formula c.args.book.now c.args.task.now.set) = subst (λ (z : List (List Lit)). Satisfies (listed_model c.in_ok-model.model.items) z) c.requires.formula.list all in
+    let of-slice : Satisfies (listed_model c.in_ok-model.model.items) (packing_formula c.args.book.now c.as_slice.result.now) = subst (λ (xs : List ℕ). Satisfies (listed_model c.in_ok-model.model.items) (packing_formula c.args.book.now xs)) (sym c.as_slice.ensures) of-set in
+    subst (λ (bs : List Bool). Satisfies (listed_model bs) (packing_formula c.args.book.now c.as_slice.result.now)) (sym c.deref.ensures.value) of-slice
 
 pub returns-clause-valid : goal.returns-clause-valid
 returns-clause-valid c worker =

@@ -4,11 +4,11 @@ use Rattle.std.specs.Prelude.{IfSome}
 use Rattle.std.specs.List.{list_any}
 use Rattle.std.specs.Option.{is_some}
 use Rattle.pack_defs.specs.Lists.{is_in}
-use Rattle.first_looks.specs.Free.{is_open, way_at}
+use Rattle.first_looks.specs.Free.{is_way_open, way_at}
 use Rattle.first_looks.proofs.ways.free_channel.Given as goal
 
 abbrev pub invariant-loop-c : goal.invariant-loop-c
 invariant-loop-c l = record {
-  some : (is_some l.best || list_any (λ c. is_open (way_at l.ways c)) (drop l.c-index l.domain)) ≡ list_any (λ c. is_open (way_at l.ways c)) l.domain;
-  free : IfSome l.best (λ c. (is_in l.domain c ≡ true) × (is_open (way_at l.ways c) ≡ true));
+  some : (is_some l.best || list_any (λ c. is_way_open (way_at l.ways c)) (drop l.c-index l.domain)) ≡ list_any (λ c. is_way_open (way_at l.ways c)) l.domain;
+  free : IfSome l.best (λ c. (is_in l.domain c ≡ true) × (is_way_open (way_at l.ways c) ≡ true));
 }

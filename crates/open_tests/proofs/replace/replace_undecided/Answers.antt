@@ -6,7 +6,7 @@ use Rattle.auction_core.specs.State.{test_of}
 use Rattle.auction_core.specs.declared.record.Record.{Record}
 use Rattle.auction_core.specs.declared.record.Step.{Step}
 use Rattle.result_text.proofs.ReplayLemmas.{auction-of}
-use Rattle.open_tests.specs.Queries.{step_at}
+use Rattle.open_tests.specs.Queries.{step_numbered}
 use Rattle.open_tests.specs.Settled.{settled_by, without_test}
 use Rattle.open_tests.proofs.RecordLemmas.{settled-backed, settled-left}
 use Rattle.open_tests.proofs.SettledLemmas.{open-at, set-is}
@@ -29,5 +29,5 @@ returns-clause-backed c =
 
 pub returns-clause-left : goal.returns-clause-left
 returns-clause-left c =
-    subst (λ (r : Record). MatchOption (step_at c.args.rec.steps c.args.step) ⊤ (λ x. undecided_of r.steps ≡ without_test (test_of x) (undecided_of c.args.rec.steps))) (sym (is-settled c))
+    subst (λ (r : Record). MatchOption (step_numbered c.args.rec.steps c.args.step) ⊤ (λ x. undecided_of r.steps ≡ without_test (test_of x) (undecided_of c.args.rec.steps))) (sym (is-settled c))
     (settled-left c.args.rec.scenario c.args.book.now c.args.rec c.args.step c.args.proof (auction-of _ _ c.requires.limits c.keeps_order.ensures) c.requires.backed c.requires.undecided)

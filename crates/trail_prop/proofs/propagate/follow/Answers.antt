@@ -1,7 +1,7 @@
 use Rattle.std.proofs.Common.{◌≡◌, ◌+◌, [], length, true, false, Some, refl, sym, ap, ◌∙◌, subst}
 use Rattle.clause_db.specs.Clause.{opposite, has_lit}
 use Rattle.clause_db.proofs.Cutting.{clause_at-get}
-use Rattle.trail_prop.specs.declared.entry.Entry.{Entry}
+use Rattle.trail_prop.specs.declared.entry.TrailEntry.{TrailEntry}
 use Rattle.trail_prop.specs.Entries.{lits_of, level_of}
 use Rattle.trail_prop.specs.Steps.{AreHeld}
 use Rattle.trail_prop.specs.Trails.{IsFalseAt, forced_at, TrailView}
@@ -26,6 +26,6 @@ force-requires c =
 pub returns-clause-met : goal.returns-clause-met
 returns-clause-met c =
     let v = c.args.watching.now in
-    let x : Entry = record { lit = c.args.lit; level = level_of v.trail.entries; reason = Some c.args.watch.clause } in
+    let x : TrailEntry = record { lit = c.args.lit; level = level_of v.trail.entries; reason = Some c.args.watch.clause } in
     subst (λ (h : WatchView). AreHeld h c.args.gone (c.args.at + 1) × (length (watches_at h.lists c.args.gone) ≡ length (watches_at v.lists c.args.gone))) (sym c.force.ensures.pushed)
     (held-forced v c.args.gone c.args.at c.args.watch x c.requires.next.held c.requires.next.place c.requires.next.watch c.requires.only.has, refl)

@@ -4,9 +4,9 @@ use Rattle.std.proofs.lemmas.List.{take_all}
 use Rattle.std.proofs.lemmas.List.Elements.{All-more}
 use Rattle.clause_db.specs.declared.lit.Lit.{Lit}
 use Rattle.clause_db.specs.Clauses.{Clauses}
-use Rattle.trail_prop.specs.declared.entry.Entry.{Entry}
+use Rattle.trail_prop.specs.declared.entry.TrailEntry.{TrailEntry}
 use Rattle.trail_prop.specs.Entries.{Assigned, lits_of, level_of, is_decision}
-use Rattle.trail_prop.specs.Open.{IsSettled}
+use Rattle.trail_prop.specs.Open.{IsClauseSettled}
 use Rattle.trail_prop.specs.Steps.{onto, LooksKeep}
 use Rattle.trail_prop.specs.Trails.{IsTrail, TrailView}
 use Rattle.trail_prop.specs.Watching.{WatchView, clause_of}
@@ -15,21 +15,21 @@ use Rattle.trail_prop.proofs.Trailing.{grows-trans, grows-push, fits-opens, no-m
 use Rattle.trail_prop.proofs.propagate.look_again.Goals as goal
 use Rattle.trail_prop.proofs.propagate.look_again.Goals.{in-Forces, in-Settled}
 
-after-settled : (start was now : WatchView) (at end n : ℕ) → LooksKeep start was at end → now ≡ was → at < length was.pending → n ≡ get_or was.pending at n → IsSettled (lits_of was.trail.entries) (clause_of was.trail.clauses.list (n - 1)) → LooksKeep start now (at + 1) end
+after-settled : (start was now : WatchView) (at end n : ℕ) → LooksKeep start was at end → now ≡ was → at < length was.pending → n ≡ get_or was.pending at n → IsClauseSettled (lits_of was.trail.entries) (clause_of was.trail.clauses.list (n - 1)) → LooksKeep start now (at + 1) end
 after-settled start was now at end n k e b r s =
     let here : LooksKeep start was (at + 1) end = record {
       count = k.count;
       clauses = k.clauses;
       head = k.head;
       grows = k.grows;
-      quiet = λ q. All-more (λ (m : ℕ). IsSettled (lits_of was.trail.entries) (clause_of was.trail.clauses.list (m - 1))) was.pending at n b (k.quiet q) (subst (λ (m : ℕ). IsSettled (lits_of was.trail.entries) (clause_of was.trail.clauses.list (m - 1))) r s);
+      quiet = λ q. All-more (λ (m : ℕ). IsClauseSettled (lits_of was.trail.entries) (clause_of was.trail.clauses.list (m - 1))) was.pending at n b (k.quiet q) (subst (λ (m : ℕ). IsClauseSettled (lits_of was.trail.entries) (clause_of was.trail.clauses.list (m - 1))) r s);
     } in
     subst (λ (v : WatchView). LooksKeep start v (at + 1) end) (sym e) here
 
-after-forced : (start was now : WatchView) (at end : ℕ) (x : Entry) → LooksKeep start was at end → is_decision x ≡ false → x.level ≡ level_of was.trail.entries → now ≡ onto was (record { clauses = was.trail.clauses; entries = was.trail.entries ++ x ∷ [] }) → LooksKeep start now (at + 1) end
+after-forced : (start was now : WatchView) (at end : ℕ) (x : TrailEntry) → LooksKeep start was at end → is_decision x ≡ false → x.level ≡ level_of was.trail.entries → now ≡ onto was (record { clauses = was.trail.clauses; entries = was.trail.entries ++ x ∷ [] }) → LooksKeep start now (at + 1) end
 after-forced start was now at end x k d l e =
     let es = was.trail.entries in
-    let first : length es ≡ length start.trail.entries + length k.grows.more = ap (λ (z : List Entry). length z) k.grows.follows ∙ length-append start.trail.entries k.grows.more in
+    let first : length es ≡ length start.trail.entries + length k.grows.more = ap (λ (z : List TrailEntry). length z) k.grows.follows ∙ length-append start.trail.entries k.grows.more in
     let longer = length-append es (x ∷ []) in
     let here : LooksKeep start (onto was (record { clauses = was.trail.clauses; entries = es ++ x ∷ [] })) (at + 1) end = record {
       count = k.count;
@@ -49,8 +49,8 @@ loop-at-preserved c =
       | in-Settled w ↦
           let read : c.get.result.now ≡ clause_of v.trail.clauses.list (n - 1) = c.get.ensures.at ∙ ap (λ (z : Clauses). clause_of z.list (n - 1)) c.clauses.ensures.clauses ∙ ap (λ (t : TrailView). clause_of t.clauses.list (n - 1)) c.plain-plain.ensures.plain in
           let known : lits_of c.assigned.result.now.entries ≡ lits_of v.trail.entries = ap (λ (a : Assigned). lits_of a.entries) c.assigned.ensures ∙ ap (λ (t : TrailView). lits_of t.entries) c.plain-plain.ensures.plain in
-          let one : IsSettled (lits_of v.trail.entries) c.get.result.now = subst (λ (z : List Lit). IsSettled z c.get.result.now) known w.in-Settled.ensures in
-          let two : IsSettled (lits_of v.trail.entries) (clause_of v.trail.clauses.list (n - 1)) = subst (λ (z : List Lit). IsSettled (lits_of v.trail.entries) z) read one in
+          let one : IsClauseSettled (lits_of v.trail.entries) c.get.result.now = subst (λ (z : List Lit). IsClauseSettled z c.get.result.now) known w.in-Settled.ensures in
+          let two : IsClauseSettled (lits_of v.trail.entries) (clause_of v.trail.clauses.list (n - 1)) = subst (λ (z : List Lit). IsClauseSettled (lits_of v.trail.entries) z) read one in
           let more = c.loop-at-test.true in
           let count = c.loop-at.invariant.count in
           after-settled c.args.watching.now v c.match-look_at.watching c.loop-at.at c.pending-at-end.result n c.loop-at.invariant w.watching-is (omega arith) c.waiting-number.ensures.waits.number two
@@ -62,8 +62,8 @@ returns-then-entries-before-clause-step c =
     let trail : IsTrail v.trail.clauses v.trail.entries = subst (λ (t : TrailView). IsTrail t.clauses t.entries) c.plain-2.ensures.plain c.entries.ensures.trail in
     let few = no-more-entries v.trail.clauses v.trail.entries trail in
     let low = c.plain-2.ensures.watchful.head in
-    let now : length c.entries.result.now ≡ length v.trail.entries = ap (λ (z : List Entry). length z) c.entries.ensures.entries ∙ ap (λ (t : TrailView). length t.entries) c.plain-2.ensures.plain in
-    let before : length c.entries-before.result.now ≡ length c.args.watching.now.trail.entries = ap (λ (z : List Entry). length z) c.entries-before.ensures.entries ∙ ap (λ (t : TrailView). length t.entries) c.plain.ensures.plain in
+    let now : length c.entries.result.now ≡ length v.trail.entries = ap (λ (z : List TrailEntry). length z) c.entries.ensures.entries ∙ ap (λ (t : TrailView). length t.entries) c.plain-2.ensures.plain in
+    let before : length c.entries-before.result.now ≡ length c.args.watching.now.trail.entries = ap (λ (z : List TrailEntry). length z) c.entries-before.ensures.entries ∙ ap (λ (t : TrailView). length t.entries) c.plain.ensures.plain in
     let more = c.if-entries-before.true in
     let head = c.loop-at.invariant.head in
     (omega arith, omega arith)
@@ -74,13 +74,13 @@ returns-else-entries-before-clause-step c =
     let start = c.args.watching.now in
     let i = c.loop-at.invariant in
     let trail : IsTrail v.trail.clauses v.trail.entries = subst (λ (t : TrailView). IsTrail t.clauses t.entries) c.plain-2.ensures.plain c.entries.ensures.trail in
-    let now : length c.entries.result.now ≡ length v.trail.entries = ap (λ (z : List Entry). length z) c.entries.ensures.entries ∙ ap (λ (t : TrailView). length t.entries) c.plain-2.ensures.plain in
-    let before : length c.entries-before.result.now ≡ length start.trail.entries = ap (λ (z : List Entry). length z) c.entries-before.ensures.entries ∙ ap (λ (t : TrailView). length t.entries) c.plain.ensures.plain in
-    let grown : length v.trail.entries ≡ length start.trail.entries + length i.grows.more = ap (λ (z : List Entry). length z) i.grows.follows ∙ length-append start.trail.entries i.grows.more in
+    let now : length c.entries.result.now ≡ length v.trail.entries = ap (λ (z : List TrailEntry). length z) c.entries.ensures.entries ∙ ap (λ (t : TrailView). length t.entries) c.plain-2.ensures.plain in
+    let before : length c.entries-before.result.now ≡ length start.trail.entries = ap (λ (z : List TrailEntry). length z) c.entries-before.ensures.entries ∙ ap (λ (t : TrailView). length t.entries) c.plain.ensures.plain in
+    let grown : length v.trail.entries ≡ length start.trail.entries + length i.grows.more = ap (λ (z : List TrailEntry). length z) i.grows.follows ∙ length-append start.trail.entries i.grows.more in
     let no-more = c.if-entries-before.false in
     let same : length v.trail.entries ≡ length start.trail.entries = omega arith in
     let head : v.head ≡ length v.trail.entries = i.head ∙ (c.requires ∙ sym same) in
     let over = c.loop-at-test.false in
     let count = i.count in
-    let all = subst (λ (z : List ℕ). All (λ (n : ℕ). IsSettled (lits_of v.trail.entries) (clause_of v.trail.clauses.list (n - 1))) z) (take_all c.loop-at.at v.pending (omega arith)) (i.quiet same) in
+    let all = subst (λ (z : List ℕ). All (λ (n : ℕ). IsClauseSettled (lits_of v.trail.entries) (clause_of v.trail.clauses.list (n - 1))) z) (take_all c.loop-at.at v.pending (omega arith)) (i.quiet same) in
     watchful-complete v c.plain-2.ensures.watchful (fits-opens v.trail.clauses [] v.trail.entries trail) head all

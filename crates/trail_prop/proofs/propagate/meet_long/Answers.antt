@@ -4,7 +4,7 @@ use Rattle.clause_db.specs.Clause.{has_lit}
 use Rattle.clause_db.specs.Clauses.{Clauses}
 use Rattle.trail_prop.specs.Entries.{lits_of, Assigned}
 use Rattle.trail_prop.specs.Open.{LitsWithin}
-use Rattle.trail_prop.specs.Steps.{IsHeld, AreHeld}
+use Rattle.trail_prop.specs.Steps.{IsWatchHeld, AreHeld}
 use Rattle.trail_prop.specs.Trails.{TrailView}
 use Rattle.trail_prop.specs.Watching.{WatchView, HasTrue, clause_of, watches_at}
 use Rattle.trail_prop.proofs.Minding.{code-listed}
@@ -43,7 +43,7 @@ returns-in-Holds-clause-met c =
     let code = code-listed v c.args.gone h c.requires.next.within in
     let w = c.blocked_by.result in
     let there : has_lit (lits_of v.trail.entries) c.in-Holds.other ≡ true = subst (λ (z : List Lit). has_lit z c.in-Holds.other ≡ true) known c.in-Holds.ensures.1 in
-    let held : IsHeld v w = subst (λ (n : ℕ). HasTrue (lits_of v.trail.entries) (clause_of v.trail.clauses.list (n - 1))) (sym c.blocked_by.ensures.same.0) (c.in-Holds.other, has, there) in
+    let held : IsWatchHeld v w = subst (λ (n : ℕ). HasTrue (lits_of v.trail.entries) (clause_of v.trail.clauses.list (n - 1))) (sym c.blocked_by.ensures.same.0) (c.in-Holds.other, has, there) in
     subst (λ (x : WatchView). AreHeld x c.args.gone (c.args.at + 1) × (length (watches_at x.lists c.args.gone) ≡ length (watches_at v.lists c.args.gone))) (sym c.put.ensures)
     (held-put v c.args.gone c.args.at w code c.requires.next.next.held c.requires.next.next.place held, length-put v c.args.gone c.args.at w code)
 

@@ -2,7 +2,7 @@ use Rattle.std.proofs.Common.{ℕ, List, sym, ◌∙◌, subst, arith}
 use Rattle.std.specs.List.{All}
 use Rattle.trail_prop.specs.declared.watches.Watch.{Watch}
 use Rattle.trail_prop.specs.Entries.{level_of}
-use Rattle.trail_prop.specs.Steps.{IsHeld, MetIs}
+use Rattle.trail_prop.specs.Steps.{IsWatchHeld, MetIs}
 use Rattle.trail_prop.specs.Watching.{watches_at}
 use Rattle.std.proofs.lemmas.List.{take_all}
 use Rattle.trail_prop.specs.Watching.{StandsAt}
@@ -46,4 +46,4 @@ advance-requires-clause-held c =
     let ws = watches_at v.lists c.args.gone in
     let over = c.loop-at-test.false in
     let count = c.count.ensures in
-    subst (λ (z : List Watch). All (IsHeld v) z) (take_all c.loop-at.at ws (omega arith)) c.loop-at.invariant.held
+    subst (λ (z : List Watch). All (IsWatchHeld v) z) (take_all c.loop-at.at ws (omega arith)) c.loop-at.invariant.held

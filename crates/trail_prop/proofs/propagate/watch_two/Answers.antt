@@ -2,7 +2,7 @@ use Rattle.std.proofs.Common.{◌≡◌, ◌-◌, List, ◌∷◌, [], ◌++◌,
 use Rattle.std.specs.Prelude.{slice_set}
 use Rattle.clause_db.specs.declared.lit.Lit.{Lit}
 use Rattle.clause_db.specs.Clauses.{Clauses}
-use Rattle.trail_prop.specs.Entries.{code_of}
+use Rattle.clause_db.specs.Clause.{code_of}
 use Rattle.trail_prop.specs.Open.{LitsWithin}
 use Rattle.trail_prop.specs.Steps.{relisted}
 use Rattle.trail_prop.specs.Trails.{TrailView}

@@ -1,6 +1,6 @@
 -- One literal more.
 use Rattle.std.proofs.Common.{◌∙◌, ap, refl}
-use Rattle.rup_check.specs.Known.{is_within}
+use Rattle.rup_check.specs.Known.{is_lit_within}
 use Rattle.cert_types.proofs.UseLemmas.{counted-end, counted-start, counted-step}
 use Rattle.cert_types.proofs.uses.Uses.count_all.Goals as goal
 
@@ -12,7 +12,7 @@ loop-lit-preserved c = record {
   vars = c.count.ensures.vars ∙ c.loop-lit.invariant.vars;
   counted = λ l t w e.
       counted-step c.loop-lit.self c.count.new.self c.loop-lit.left c.next.new.self c.args.lits c.in-Some.lit l t c.in-Some.ensures
-      (c.count.ensures.counted l (ap (λ v. is_within v l) c.loop-lit.invariant.vars ∙ w)) (c.loop-lit.invariant.counted l t w e);
+      (c.count.ensures.counted l (ap (λ v. is_lit_within v l) c.loop-lit.invariant.vars ∙ w)) (c.loop-lit.invariant.counted l t w e);
 }
 
 pub returns-clause-counted : goal.returns-clause-counted

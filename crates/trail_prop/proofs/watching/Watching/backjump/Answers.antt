@@ -1,6 +1,6 @@
 use Rattle.std.proofs.Common.{◌≡◌, ℕ, ◌≤◌, List, [], length, sym, ap, subst, arith, refl}
 use Rattle.std.specs.List.{All}
-use Rattle.trail_prop.specs.declared.entry.Entry.{Entry}
+use Rattle.trail_prop.specs.declared.entry.TrailEntry.{TrailEntry}
 use Rattle.trail_prop.specs.Trails.{TrailView}
 use Rattle.trail_prop.specs.Watching.{WatchView, IsWatchful}
 use Rattle.trail_prop.proofs.Minding.{watchful-cut}
@@ -13,8 +13,8 @@ invariant_of-self c =
     let later = c.backjump.new.self.entries in
     let cut = c.backjump.ensures.cut in
     let up = levels-up c.backjump.new.self.clauses [] later c.entries.ensures.trail in
-    let low : All (λ (e : Entry). e.level ≤ c.args.level) later = subst (λ (n : ℕ). All (λ (e : Entry). e.level ≤ n) later) c.backjump.ensures.level up in
+    let low : All (λ (e : TrailEntry). e.level ≤ c.args.level) later = subst (λ (n : ℕ). All (λ (e : TrailEntry). e.level ≤ n) later) c.backjump.ensures.level up in
     let e : c.backjump.new.self ≡ record { clauses = v.trail.clauses; entries = later } = same-trail c.backjump.new.self v.trail.clauses later c.backjump.ensures.clauses refl in
     let m = c.min-self-inside.ensures in
-    let n : length c.entries.result.now ≡ length later = ap (λ (z : List Entry). length z) c.entries.ensures.entries in
+    let n : length c.entries.result.now ≡ length later = ap (λ (z : List TrailEntry). length z) c.entries.ensures.entries in
     subst (λ (t : TrailView). IsWatchful (record { trail = t; lists = v.lists; places = v.places; pending = v.pending; head = c.min-self-inside.result })) (sym e) (watchful-cut v later cut.gone c.args.level c.min-self-inside.result c.self.invariant cut.splits low cut.above (omega arith) (omega arith))

@@ -1,7 +1,7 @@
 use Rattle.std.proofs.Common.{ℕ, List, [], length, get_or, sym, ap, ◌∙◌, subst}
 use Rattle.std.specs.Prelude.{slice_set, swap_remove}
+use Rattle.clause_db.specs.Clause.{code_of}
 use Rattle.trail_prop.specs.declared.watches.Watch.{Watch}
-use Rattle.trail_prop.specs.Entries.{code_of}
 use Rattle.trail_prop.specs.Watching.{WatchView, IsWatchful, IsNumber, IsWatchOf, watches_at}
 use Rattle.trail_prop.proofs.Minding.{watchful-shelved}
 use Rattle.trail_prop.specs.Steps.{Shrinks}

@@ -1,6 +1,6 @@
 use Rattle.std.proofs.Common.{sym, subst, arith}
 use Rattle.trail_prop.specs.Entries.{Assigned, IsEntryOf}
-use Rattle.trail_prop.proofs.assignment.Assignment.entry_of.Goals as goal
+use Rattle.trail_prop.proofs.assignment.TrueLiterals.entry_of.Goals as goal
 
 pub returns-clause-found : goal.returns-clause-found
 returns-clause-found c =

@@ -2,7 +2,7 @@ use Rattle.std.proofs.Common.{◌∙◌, arith, map, sym}
 use Rattle.csv.specs.Records.{fields_of}
 use Rattle.constraint_files.specs.Records.{trimmed}
 use Rattle.constraint_files.proofs.FieldLemmas.{kept-at, none-at}
-use Rattle.constraint_files.proofs.record.Record.get.Goals as goal
+use Rattle.constraint_files.proofs.record.CsvRecord.get.Goals as goal
 
 pub returns-then-i-self : goal.returns-then-i-self
 returns-then-i-self c =

@@ -2,12 +2,13 @@ use Rattle.std.proofs.Common.{arith, ◌≡◌, ℕ, ◌-◌, ◌++◌, ◌∷�
 use Rattle.std.specs.Prelude.{slice_set}
 use Rattle.clause_db.specs.declared.lit.Lit.{Lit}
 use Rattle.clause_db.specs.Clauses.{LitWithin}
+use Rattle.clause_db.specs.Clause.{code_of}
 use Rattle.trail_prop.specs.Open.{is_open}
-use Rattle.trail_prop.specs.Entries.{lits_of, MarksSay, AreIndexed, code_of, Assigned}
+use Rattle.trail_prop.specs.Entries.{lits_of, MarksSay, AreIndexed, Assigned}
 use Rattle.trail_prop.proofs.Known.{marks-push}
 use Rattle.trail_prop.proofs.Places.{indexed-push}
 use Rattle.trail_prop.proofs.Opening.{room-for-one, opens-push, lits-push}
-use Rattle.trail_prop.proofs.assignment.Assignment.push.Goals as goal
+use Rattle.trail_prop.proofs.assignment.TrueLiterals.push.Goals as goal
 
 pub unreachable-requires : goal.unreachable-requires
 unreachable-requires c =
