@@ -47,7 +47,7 @@ pub(crate) fn within(
     least: u64,
     most: u64,
 ) -> Result<u64, ScenarioErr>
-    ensures value { result ≡ within_limits name at least most member_number }
+    ensures value { result ≡ within_limits name at least most number }
     ensures limits { IfOk result (λ n. (least ≤ n) × (n ≤ most)) }
 {
     if number < least || most < number {
