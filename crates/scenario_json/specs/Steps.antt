@@ -1,5 +1,6 @@
 -- Steps that may be refused, one after the other.
 use Rattle.std.specs.Prelude.{◌≡◌, ◌⊎◌, ℕ, ◌+◌, List, [], ◌∷◌, Result, Ok, Err}
+use Rattle.pack_defs.specs.Steps.{◌>>=◌}
 use Rattle.scenario_json.specs.declared.error.ScenarioErr.{ScenarioErr}
 use Rattle.scenario_json.specs.declared.error.ScenarioErr.TheVariants.{NoMemory}
 

@@ -24,7 +24,7 @@ enum Move<'a> {
     Shows(&'a [(i64, u32, u64)]),
     Value(u64, Option<bool>),
     // This is the entry of its variable, or isn't.
-    TrailEntry(i64, u32, u64, bool),
+    Entry(i64, u32, u64, bool),
 }
 
 // Whether the step tells what it has to.
