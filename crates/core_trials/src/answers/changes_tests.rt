@@ -96,7 +96,7 @@ fn with(alloc: Global, map: &ChannelMap, s: u32, c: u8) -> Result<ChannelMap, No
 }
 
 fn is_clean(book: &Book, map: &ChannelMap) -> bool {
-    let _stations = map.len();
+    map.keeps_order();
     violation(book, map).is_none()
 }
 
