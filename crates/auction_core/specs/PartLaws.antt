@@ -1,6 +1,6 @@
 -- Laws of the labels of the parts on air. They are proved in `src/part_laws`, in the same order, beside those that are short
 -- enough to stand there.
-use Rattle.std.specs.Prelude.{◌≡◌, ◌++◌, ◌∷◌, ◌-◌, ◌<◌, ◌≤◌, ◌↔◌, ◌+◌, not, length, ℕ, List, map, Contains, true, false}
+use Rattle.std.specs.Prelude.{◌≡◌, ◌++◌, ◌∷◌, ◌<◌, ◌≤◌, ◌↔◌, ◌+◌, not, length, ℕ, List, map, Contains, true, false}
 use Rattle.pack_defs.specs.Book.{BookView}
 use Rattle.pack_defs.specs.Components.{component, interferes}
 use Rattle.pack_defs.specs.Lists.{is_in, same_list}
@@ -8,7 +8,7 @@ use Rattle.pack_defs.specs.declared.scenario.Scenario.{Scenario}
 use Rattle.pack_defs.specs.Scenario.{facilities}
 use Rattle.pack_defs.specs.ClockRule.{ClockState, ClockTest, after_tests, asked_from, clock_tests, goes_on_air, is_active, is_on_air, opening_state}
 use Rattle.auction_core.specs.Backed.{after_start, after_steps, undecided_of}
-use Rattle.auction_core.specs.Parts.{AreParts, IsPartsOf, IsWithOne, PartsView, label_of, labelled, last_seen, relabelled, touches, touches_since}
+use Rattle.auction_core.specs.Parts.{AreParts, IsPartsOf, IsWithOne, PartsView, label_of, labelled, last_seen, relabelled, touches_since}
 use Rattle.auction_core.specs.declared.record.Shown.{Shown}
 use Rattle.auction_core.specs.Rule.{IsAuction}
 use Rattle.auction_core.specs.State.{CoreState, is_same, test_of, tested_set}
