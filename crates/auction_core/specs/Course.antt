@@ -1,6 +1,6 @@
 -- Where the clock stands between two tests, as the program keeps it: a standing for each station, and where the next test's
 -- station comes in its round. That it is so kept is this project's own.
-use Rattle.std.specs.Prelude.{ℕ, Bool, false, not, ◌+◌, ◌-◌, ◌*◌, ◌<◌, ◌≤◌, ◌≡◌, ◌⊎◌, ◌&&◌, nat_le, if◌then◌else◌, true, List, [], ◌∷◌, ◌++◌, map, filter, drop, length, slice_index, Option, None}
+use Rattle.std.specs.Prelude.{ℕ, Bool, false, not, ◌+◌, ◌-◌, ◌*◌, ◌<◌, ◌≤◌, ◌≡◌, ◌⊎◌, ◌&&◌, nat_le, if◌then◌else◌, true, List, [], ◌∷◌, ◌++◌, map, filter, drop, length, slice_index, Option, None, Some}
 use Rattle.pack_defs.specs.Lists.{has_station, is_in}
 use Rattle.pack_defs.specs.ChannelMap.{overlaid}
 use Rattle.pack_defs.specs.declared.scenario.Scenario.{Scenario}
@@ -15,7 +15,7 @@ use Rattle.auction_core.specs.Clock.{ClockView, IsClockOf, stands_on_air}
 use Rattle.auction_core.specs.Parts.{IsPartsOf, last_seen}
 use Rattle.auction_core.specs.Past.{PastView}
 use Rattle.auction_core.specs.Setup.{IsSetupSound, SetupView}
-use Rattle.auction_core.specs.State.{CoreState, last_fit, settled, settled_unasked, start_fits}
+use Rattle.auction_core.specs.State.{CoreState, last_fit, settled, settled_unasked, start_delta, start_fits}
 use Rattle.auction_core.specs.Walked.{IsWalked}
 
 -- How the start was shown, if it was; where each station stands, and what the frozen ones are paid; the map of those on air;
@@ -61,6 +61,13 @@ core_state s c number = record {
   steps = c.past.steps;
   noted = [];
   number = number;
+}
+
+-- what is kept once the start is shown so: where it fits, the map takes its channels
+abbrev pub with_start_shown : CourseView → Shown → CourseView
+with_start_shown c shown = record c {
+  start = Some shown;
+  map = record { stations = c.map.stations; entries = overlaid c.map.entries (start_delta shown) };
 }
 
 -- the map once a station stands so: overwritten by these channels, where it is on air

@@ -1,7 +1,7 @@
 -- What the program keeps of the tests so far: the parts of the stations on air, how many of them there are, how many there
 -- were at each station's last test, the steps, and where each station's last fit was told. That it is so kept is this
 -- project's own.
-use Rattle.std.specs.Prelude.{ℕ, ◌≡◌, ◌≤◌, ◌<◌, List, [], length, slice_index}
+use Rattle.std.specs.Prelude.{ℕ, ◌≡◌, ◌≤◌, ◌<◌, List, [], ◌∷◌, ◌++◌, length, slice_index, slice_set}
 use Rattle.auction_core.specs.Parts.{PartsView}
 use Rattle.auction_core.specs.declared.record.Shown.{Shown}
 use Rattle.auction_core.specs.declared.record.Step.{Step}
@@ -17,6 +17,15 @@ pub record PastView : Type 0 where
   pub steps : List Step
   pub room : ℕ
   pub verdicts : ℕ
+
+-- what is kept once the test of the station at this place is settled so, with room for so many steps and verdicts more
+abbrev pub with_settled_step : PastView → ℕ → Step → ℕ → ℕ → PastView
+with_settled_step past place step room verdicts = record past {
+  seen = slice_set past.seen place past.on_air;
+  steps = past.steps ++ step ∷ [];
+  room = room;
+  verdicts = verdicts;
+}
 
 -- There is a number for each station, and each is within the limit on stations, as that of those on air is.
 pub record AreSeen (stations : List ℕ) (on_air : ℕ) (seen : List ℕ) : Type 0 where

@@ -1,14 +1,13 @@
 //! Where the clock stands between two tests, and how a settled test moves it.
 
-ghost use Rattle.std.specs.Prelude.{◌≡◌, ◌≢◌, ◌<◌, ◌≤◌, ◌+◌, ℕ, [], None, Some, IfOk, OnOk, false, true, length, slice_index};
-ghost use Rattle.pack_defs.specs.ChannelMap.{overlaid};
+ghost use Rattle.std.specs.Prelude.{◌≡◌, ◌≢◌, ◌<◌, ◌≤◌, ◌+◌, ℕ, [], None, IfOk, OnOk, false, true, length, slice_index};
 ghost use Rattle.pack_defs.specs.Lists.{has_station, is_empty, is_in};
 ghost use Rattle.pack_defs.specs.ClockRule.{is_active, opening_state};
 ghost use Rattle.pack_defs.specs.Prices.{last_round};
 ghost use Rattle.pack_defs.specs.Scenario.{facilities};
 ghost use Rattle.auction_core.specs.Backed.{IsStartShown, IsStepShown, record_of};
 ghost use Rattle.auction_core.specs.Clock.{AreStandings, stands_on_air};
-ghost use Rattle.auction_core.specs.Course.{IsAtRest, IsCourse, IsDue, IsSettled, clock_of, core_state, is_roomy, left_of, map_after, next_test, turns_left, unasked_of};
+ghost use Rattle.auction_core.specs.Course.{IsAtRest, IsCourse, IsDue, IsSettled, clock_of, core_state, is_roomy, left_of, map_after, next_test, turns_left, unasked_of, with_start_shown};
 ghost use Rattle.auction_core.specs.Parts.{IsPartsOf, label_of, labelled, relabelled};
 ghost use Rattle.auction_core.specs.State.{before_start, go_on, is_same, last_fit, start_delta, start_fits, started};
 ghost use Rattle.auction_core.specs.StepList.{takes_verdict, way_of};
@@ -146,10 +145,7 @@ impl Course {
     // The start test is settled so: where it fits, the map takes its channels.
     fn show_start(&mut self, shown: Shown)
         requires { (f : ℕ) → has_station (start_delta shown) f ≡ true → is_in self.old.map.stations f ≡ true }
-        ensures { self.new ≡ record self.old {
-          start = Some shown;
-          map = record { stations = self.old.map.stations; entries = overlaid self.old.map.entries (start_delta shown) };
-        } }
+        ensures { self.new ≡ with_start_shown self.old shown }
     {
         if let Shown::Fits(delta) = &shown {
             self.map.overlay(delta);

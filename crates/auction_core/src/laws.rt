@@ -19,7 +19,7 @@ ghost use Rattle.auction_core.specs.Prefix.{IsPrefix, resumed};
 ghost use Rattle.auction_core.specs.Replay.{EntryView, replay, replay_from};
 ghost use Rattle.auction_core.specs.Said.{StandsFor, taken, with_answer};
 ghost use Rattle.auction_core.specs.Rule.{IsAuction, KeepsTheRule};
-ghost use Rattle.auction_core.specs.Examples.{auction_of_three, posting, fit, refuted, one_line, three_fits, four_fits, state_after, all_on_air, start_after, no_station, lone_start, other_fits, rows_after, replies_to, of_each_kind, one_of_five, five_bids, five_after, fits_beside_second, second_after};
+ghost use Rattle.auction_core.specs.Examples.{auction_of_three, posting, fit, refuted, one_line, three_fits, four_fits, state_after, all_on_air, start_after, no_station, lone_start, other_fits, rows_after, replies_to, of_each_kind, one_of_five, five_bids, five_after, fits_beside_second, second_after, steps_beside_second};
 
 use crate::posting::{Posting, Reply};
 use crate::record::{Ending, Record, Shown, Step};
@@ -172,10 +172,7 @@ pub fn settled_in_a_row()
 /// So it needs no query, and the station goes on air by its first fit.
 pub fn a_test_like_the_one_before()
     ensures number { (second_after fits_beside_second).number ≡ 4 }
-    ensures steps { (second_after fits_beside_second).steps ≡
-        record { round = 1; station = 1; shown = Shown.Fits ((1, 15) ∷ []) } ∷
-        record { round = 1; station = 3; shown = Shown.Fits ((3, 15) ∷ []) } ∷
-        record { round = 2; station = 1; shown = Shown.Same } ∷ [] }
+    ensures steps { (second_after fits_beside_second).steps ≡ steps_beside_second }
     ensures map { (second_after fits_beside_second).map ≡ (1, 15) ∷ (2, 14) ∷ [] }
     ensures standing { (second_after fits_beside_second).left ≡ test 2 3 ∷ test 3 1 ∷ test 3 3 ∷ [] }
 {}

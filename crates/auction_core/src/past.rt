@@ -1,8 +1,9 @@
 //! What is kept of the tests so far, so that a test like the one before is found without memory.
 
-ghost use Rattle.std.specs.Prelude.{◌≡◌, ◌≤◌, ◌<◌, ◌+◌, ◌++◌, ◌∷◌, ℕ, [], IfOk, IsTrue, OnOk, is_some, length, map, option_map, slice_index, slice_set, true, unwrap_or};
+ghost use Rattle.std.specs.Prelude.{◌≡◌, ◌≤◌, ◌<◌, ◌+◌, ℕ, [], IfOk, IsTrue, OnOk, is_some, length, map, option_map, slice_index, true, unwrap_or};
 ghost use Rattle.pack_defs.specs.Lists.{is_ascending, is_in};
 ghost use Rattle.auction_core.specs.Parts.{label_of, labelled, relabelled, touches_since};
+ghost use Rattle.auction_core.specs.Past.{with_settled_step};
 ghost use Rattle.auction_core.specs.State.{fit_of, last_fit};
 ghost use Rattle.auction_core.specs.StepList.{names_only, takes_verdict, way_of};
 
@@ -121,12 +122,7 @@ impl Past {
         requires names { names_only step.station step.shown ≡ true }
         requires room { 1 ≤ self.old.room }
         requires verdict { takes_verdict (way_of step.shown) ≡ true → 1 ≤ self.old.verdicts }
-        ensures same { self.new ≡ record self.old {
-          seen = slice_set self.old.seen place self.old.on_air;
-          steps = self.old.steps ++ step ∷ [];
-          room = self.new.room;
-          verdicts = self.new.verdicts;
-        } }
+        ensures same { self.new ≡ with_settled_step self.old place step self.new.room self.new.verdicts }
         ensures room { self.old.room ≤ self.new.room + 1 }
     {
         let is_fit = is_fit(&step.shown);

@@ -2,3 +2,4 @@ pub mod Formula
 pub mod ByStation
 pub mod Decode
 pub mod Examples
+pub mod FormulaLaws

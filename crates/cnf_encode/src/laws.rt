@@ -7,9 +7,10 @@ ghost use Rattle.pack_defs.specs.Examples.{three_stations};
 ghost use Rattle.pack_defs.specs.Book.{BookView, IsInOrder};
 ghost use Rattle.pack_defs.specs.Lists.{is_ascending};
 ghost use Rattle.pack_defs.specs.Packing.{Fits, IsPacking};
-ghost use Rattle.cnf_encode.specs.Decode.{decoded, model_of, HasModel};
+ghost use Rattle.cnf_encode.specs.Decode.{decoded, HasModel};
 ghost use Rattle.cnf_encode.specs.Formula.{packing_formula, variables_in};
 ghost use Rattle.cnf_encode.specs.Examples.{three_clauses};
+ghost use Rattle.cnf_encode.specs.FormulaLaws.{MapGivesModel};
 
 /// The formula of the three-station example has six variables and twelve clauses.
 pub fn formula_of_three_stations()
@@ -25,9 +26,7 @@ pub fn a_model_gives_a_map()
 
 /// A clean map of exactly an ascending set says a model of the formula, in a book in order.
 pub fn a_map_gives_a_model()
-    ensures { (book : BookView) (set : List ℕ) (entries : List (ℕ × ℕ)) →
-        IsInOrder book → IsTrue (is_ascending set) → IsPacking book set entries →
-        Satisfies (model_of book set entries) (packing_formula book set) }
+    ensures { MapGivesModel }
 {}
 
 /// An ascending set fits exactly where its formula has a model, in a book in order.

@@ -1,3 +1,4 @@
 pub mod OwnersOf
 pub mod Reads
 pub mod OwnLines
+pub mod ExitLaws

@@ -1,0 +1,59 @@
+-- Laws of the labels of the parts on air. They are proved in `src/part_laws`, in the same order, beside those that are short
+-- enough to stand there.
+use Rattle.std.specs.Prelude.{◌≡◌, ◌++◌, ◌∷◌, ◌<◌, ◌≤◌, ◌↔◌, ◌+◌, not, length, ℕ, List, map, Contains, true, false}
+use Rattle.pack_defs.specs.Book.{BookView}
+use Rattle.pack_defs.specs.Components.{component, interferes}
+use Rattle.pack_defs.specs.Lists.{is_in, same_list}
+use Rattle.pack_defs.specs.declared.scenario.Scenario.{Scenario}
+use Rattle.pack_defs.specs.Scenario.{facilities}
+use Rattle.pack_defs.specs.ClockRule.{ClockState, ClockTest, after_tests, asked_from, clock_tests, goes_on_air, is_active, is_on_air, opening_state}
+use Rattle.auction_core.specs.Backed.{after_start, after_steps, undecided_of}
+use Rattle.auction_core.specs.Parts.{AreParts, IsPartsOf, IsWithOne, PartsView, label_of, labelled, last_seen, relabelled, touches_since}
+use Rattle.auction_core.specs.declared.record.Shown.{Shown}
+use Rattle.auction_core.specs.Rule.{IsAuction}
+use Rattle.auction_core.specs.State.{CoreState, is_same, test_of, tested_set}
+
+-- once a station goes on air, its number is the label of the parts that it touches, and the other labels stand
+abbrev pub PartsGrow : Type 0
+PartsGrow =
+    (book : BookView) (on all : List ℕ) (since more label : ℕ → ℕ) (s n : ℕ) → AreParts book on since label → IsWithOne on all s →
+    ((z : ℕ) → Contains on z → more z ≡ since z) → more s ≡ n → ((z : ℕ) → Contains on z → label z < n) →
+    AreParts book all more (relabelled book on label s n)
+
+-- The stations that a test asks about, its own aside, were all on air before some time exactly where the labels that it
+-- touches are before that time.
+abbrev pub PartsTellSinceWhen : Type 0
+PartsTellSinceWhen =
+    (book : BookView) (on all : List ℕ) (since label : ℕ → ℕ) (s time : ℕ) → AreParts book on since label → IsWithOne on all s →
+    ((z : ℕ) → is_in (component book all s) z ≡ true → (z ≡ s → ⊥) → since z < time) ↔
+    ((v : ℕ) → Contains on v → interferes book s v ≡ true → label v < time)
+
+-- Where whoever was on air then is on air now, a test asks about the same stations as the earlier one exactly where each but
+-- its own station was on air then.
+abbrev pub SameWhereAllWereOnAir : Type 0
+SameWhereAllWereOnAir =
+    (sc : Scenario) (book : BookView) (then_ now_ : ClockState) (s : ℕ) → IsAuction sc book → Contains (facilities sc) s →
+    ((f : ℕ) → is_on_air then_ f ≡ true → is_on_air now_ f ≡ true) →
+    (same_list (tested_set sc book now_ s) (tested_set sc book then_ s) ≡ true) ↔
+    ((z : ℕ) → is_in (tested_set sc book now_ s) z ≡ true → (z ≡ s → ⊥) → is_on_air then_ z ≡ true)
+
+-- From round 2 on, the test of an active station asks about the same stations as its test one round before exactly where
+-- the station touches no part that changed since.
+abbrev pub SameWhereNoPartChanged : Type 0
+SameWhereNoPartChanged =
+    (sc : Scenario) (book : BookView) (state : CoreState) (before after : List ClockTest) (t : ClockTest) (start : Shown) (parts : PartsView) →
+    IsAuction sc book → clock_tests sc state.order ≡ before ++ t ∷ after →
+    state.clock ≡ after_tests sc book (undecided_of state.steps) before (opening_state sc) →
+    map test_of state.steps ≡ asked_from sc book (undecided_of state.steps) before (opening_state sc) →
+    (after_steps sc (after_start sc state.order start) state.steps).clock ≡ state.clock →
+    is_active state.clock t.station ≡ true → IsPartsOf sc book state.clock parts → 2 ≤ t.round →
+    is_same sc book state t ≡ not (touches_since book parts t.station (last_seen sc (opening_state sc) state.steps t.station 0 + 1))
+
+-- once a station goes on air, the labels in which it has joined the parts that it touches are those of the clock's state
+abbrev pub PartsGoWithTheClock : Type 0
+PartsGoWithTheClock =
+    (sc : Scenario) (book : BookView) (clock : ClockState) (t : ClockTest) (parts more : PartsView) →
+    Contains (facilities sc) t.station → is_on_air clock t.station ≡ false → IsPartsOf sc book clock parts →
+    more.stations ≡ parts.stations →
+    ((z : ℕ) → label_of more z ≡ relabelled book (labelled parts) (label_of parts) t.station (length clock.on_air + 1) z) →
+    IsPartsOf sc book (goes_on_air clock t) more

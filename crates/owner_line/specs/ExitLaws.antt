@@ -1,0 +1,21 @@
+-- A law of live auctions. It is proved in `src/laws`, beside one that is short enough to stand there.
+use Rattle.std.specs.Prelude.{◌≡◌, ◌↔◌, ℕ, List, Some, Contains, IsTrue}
+use Rattle.pack_defs.specs.Book.{BookView}
+use Rattle.pack_defs.specs.declared.order.Order.{Order}
+use Rattle.pack_defs.specs.declared.owners.OwnerLine.{OwnerLine}
+use Rattle.pack_defs.specs.declared.scenario.Scenario.{Scenario}
+use Rattle.pack_defs.specs.Scenario.{StationsAscend, facilities, with_owners}
+use Rattle.pack_defs.specs.Prices.{stays}
+use Rattle.pack_defs.specs.ClockRule.{ClockTest}
+use Rattle.pack_defs.specs.ResultRows.{on_air_row, row_of}
+use Rattle.pack_defs.specs.Told.{told}
+use Rattle.owner_line.specs.OwnLines.{FitsUpTo, LeavesIn, live_rule}
+
+-- A station outside the start set goes on air in a round exactly where that is the first round from 1 in which no line has it
+-- stay, or else the last one, and each of its tests up to that round was answered "fits".
+abbrev pub ExitsByItsLines : Type 0
+ExitsByItsLines =
+    (sc : Scenario) (lines : List OwnerLine) (book : BookView) (order : Order) (undecided : List ClockTest) (s r : ℕ) →
+    StationsAscend sc → Contains (facilities sc) s → IsTrue (stays lines 0 s) →
+    (row_of undecided (live_rule sc lines book order undecided) s ≡ Some (on_air_row (record { station = s; round = r })))
+    ↔ (LeavesIn sc lines s r × FitsUpTo (told (with_owners sc (Some lines)) book order undecided s) r)
