@@ -18,7 +18,7 @@ use cert_types::poll::{Attempt, Poll};
 use cert_types::task::Task;
 use cnf_encode::encode::encode;
 use first_looks::looks::{FirstLooks, Looked};
-use kept_search::searcher::Searcher;
+use kept_search::searcher::{LogLength, Searcher};
 use kept_search::ties::Ties;
 use pack_defs::book::Book;
 use pack_defs::channel_map::ChannelMap;
@@ -61,15 +61,33 @@ impl Model for Cdcl {
 
 impl Cdcl {
     /// The solver of a worker that learns, which spends the worker's budget in lines, and by the worker's seed breaks the ties
-    /// of the order in which variables are decided. The only error is want of memory.
+    /// of the order in which variables are decided. Where a proof is long it searches for a shorter one. The only error is want of
+    /// memory.
     pub fn new(alloc: Global, worker: &Worker) -> Result<Cdcl, NoMemory>
+        requires { worker.now.kind ≡ Kind.Cdcl }
+        ensures { IfOk result (λ solver. solver ≡ worker.now) }
+    {
+        Cdcl::with_logs(alloc, worker, LogLength::Short)
+    }
+
+    /// The same solver, which searches for a shorter proof only where one is longer than the worker's budget: for auctions whose
+    /// proofs no one writes or reads. The only error is want of memory.
+    pub fn with_long_proofs(alloc: Global, worker: &Worker) -> Result<Cdcl, NoMemory>
+        requires { worker.now.kind ≡ Kind.Cdcl }
+        ensures { IfOk result (λ solver. solver ≡ worker.now) }
+    {
+        Cdcl::with_logs(alloc, worker, LogLength::Any)
+    }
+
+    // The solver of a worker that learns, whose searcher's logs are of this length.
+    fn with_logs(alloc: Global, worker: &Worker, logs: LogLength) -> Result<Cdcl, NoMemory>
         requires { worker.now.kind ≡ Kind.Cdcl }
         ensures { IfOk result (λ solver. solver ≡ worker.now) }
     {
         Ok(Cdcl {
             worker: *worker,
             looks: FirstLooks::new(alloc),
-            searcher: Searcher::new(worker.seed),
+            searcher: Searcher::new(worker.seed, logs),
             searched: Searched {
                 fits: 0,
                 refuted: 0,
@@ -95,8 +113,8 @@ impl Cdcl {
     /// another query stands, it stops. Of each station what its last fit changed is kept for its next query.
     ///
     /// It searches first with what it learnt from the queries before, by two policies, each up to as many conflicts as the
-    /// budget has lines for each station without a channel; a proof that is long, or longer than the budget, is searched for
-    /// once or twice more. What that suggests is checked before it is said. Where it comes to no answer, a search begins anew,
+    /// budget has lines for each station without a channel; a proof that is longer than the budget, or long where short ones are
+    /// wanted, is searched for once or twice more. What that suggests is checked before it is said. Where it comes to no answer, a search begins anew,
     /// with the whole budget: over the stations that it says do not fit, if it does, and then over the whole set, of which a
     /// receipt always is. In each search the poll is asked before the first line and then after each 16.
     ///
@@ -125,7 +143,7 @@ impl Cdcl {
             return Ok(Attempt::Said(Answer::Fit(fit)));
         }
         let attempt = self.search(alloc, book, task, poll)?;
-        keep_fit(alloc, &mut self.looks, task.station, &attempt);
+        self.looks.keep_said(alloc, task, &attempt);
         Ok(attempt)
     }
 
@@ -191,16 +209,6 @@ fn counted(searched: Searched, asked: &Asked) -> Searched {
 // What the tested station's last fit changed.
 fn kept_fit(looks: &FirstLooks, station: Option<u32>) -> Option<&ChannelMap> {
     looks.kept(station?)
-}
-
-// Keeps what a fit of the tested station changed, for the first look at its next test.
-fn keep_fit(alloc: Global, looks: &mut FirstLooks, station: Option<u32>, attempt: &Attempt) {
-    let Some(s) = station else {
-        return;
-    };
-    if let Attempt::Said(Answer::Fit(fit)) = attempt {
-        looks.keep(alloc, s, fit);
-    }
 }
 
 // Tries to refute a part of the set.

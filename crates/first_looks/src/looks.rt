@@ -8,7 +8,9 @@ ghost use Rattle.cert_types.specs.Query.{IsQuery};
 ghost use Rattle.cert_types.specs.Valid.{fit_fault};
 
 use crate::mend::{Proposal, propose};
+use cert_types::answer::Answer;
 use cert_types::changes::fits_by_changes;
+use cert_types::poll::Attempt;
 use cert_types::task::Task;
 use pack_defs::book::Book;
 use pack_defs::channel_map::ChannelMap;
@@ -89,9 +91,19 @@ impl FirstLooks {
         Ok(Some(fit))
     }
 
-    /// Keeps a copy of what a fit of a station changed, in the place of what was kept of it. Where memory runs out, what was kept of it
-    /// may stay, or nothing.
-    pub fn keep(&mut self, alloc: Global, s: u32, fit: &ChannelMap) {
+    /// Keeps of the tested station what a fit changed, if an attempt at its query says one, in the place of what was kept of it: the
+    /// first look at its next test. Where memory runs out, what was kept of it may stay, or nothing.
+    pub fn keep_said(&mut self, alloc: Global, task: &Task, attempt: &Attempt) {
+        let Some(s) = task.station else {
+            return;
+        };
+        if let Attempt::Said(Answer::Fit(fit)) = attempt {
+            self.keep(alloc, s, fit);
+        }
+    }
+
+    // Keeps a copy of what a fit of a station changed, in the place of what was kept of it.
+    fn keep(&mut self, alloc: Global, s: u32, fit: &ChannelMap) {
         if let Ok(copy) = ChannelMap::of(alloc, fit.entries()) {
             let _kept = self.fits.insert(s, copy).is_ok();
         }

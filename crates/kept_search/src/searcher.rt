@@ -23,6 +23,15 @@ pub enum Progress {
     Lost,
 }
 
+/// Which logs the searcher looks for.
+#[derive(Clone, Copy, Debug, PartialEq, Eq)]
+pub enum LogLength {
+    /// Short ones: where a log is long, it searches for a shorter one. So it is where logs are written, read and checked again.
+    Short,
+    /// Any that may be said: it searches for a shorter one only where a log has more lines than that.
+    Any,
+}
+
 /// A searcher for the queries of an auction, one after the other. It keeps what it learnt, as long as each query is about the
 /// stations on air, which only become more, and one that is tested; where a query isn't, what it suggests may be worth nothing.
 #[derive(Drop)]
@@ -32,6 +41,7 @@ pub struct Searcher {
     shortening: Option<Shortening>,
     crowd: Option<Engine>,
     seed: u64,
+    logs: LogLength,
     // So many conflicts each policy may come to at each tested station, and are left to the one that searches; whether that is
     // the last one.
     effort: u32,
@@ -41,13 +51,14 @@ pub struct Searcher {
 
 impl Searcher {
     /// A searcher that knows nothing. Its seed breaks the ties of the order in which variables are decided, so that searchers
-    /// of different seeds search differently; with seed 0 these are broken by the variables' order.
-    pub fn new(seed: u64) -> Searcher {
+    /// of different seeds search differently; with seed 0 these are broken by the variables' order. Its logs are of this length.
+    pub fn new(seed: u64, logs: LogLength) -> Searcher {
         Searcher {
             engine: None,
             shortening: None,
             crowd: None,
             seed,
+            logs,
             effort: 0,
             left: 0,
             is_patient: false,
@@ -64,7 +75,8 @@ impl Searcher {
     /// Begins a query: is there a map of exactly the stations of this ascending set that violates no pair of the book? Of the set
     /// those stations are tested which have no channel in the last map. The search begins from another fit, where one is given:
     /// what the tested station's last one changed. At each tested station it may come to so many conflicts, and to as many once
-    /// more by another policy; where it finds a log that is longer than that, it searches for a shorter one.
+    /// more by another policy; where it finds a log that is longer than that, or long where logs are to be short, it searches for a
+    /// shorter one.
     ///
     /// # Errors
     ///
@@ -150,7 +162,7 @@ impl Searcher {
     // The disproof that was gathered is the suggestion, unless a shorter one is worth a search.
     fn say_unfit(&mut self, alloc: Global, engine: Engine) -> Result<Progress, NoMemory> {
         let lines = engine.cone.lines.len();
-        if !Shortening::is_worth(lines, self.effort) {
+        if !Shortening::is_worth(lines, self.effort, self.logs) {
             let disproof = Disproof::of_cone(alloc, &engine)?;
             self.engine = Some(engine);
             return Ok(Progress::Ended(Suggestion::Unfit(disproof)));

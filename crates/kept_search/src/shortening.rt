@@ -6,6 +6,7 @@ use crate::engine::Engine;
 use crate::grid::Grid;
 use crate::policy::{CONFLICTS_OF_FIVE, LINES_LONG, LINES_SHORT, NEW_OF_CROWD, SHORTENING};
 use crate::query::Found;
+use crate::searcher::LogLength;
 use crate::suggestion::Disproof;
 use std::alloc::{AllocError as NoMemory, Global};
 
@@ -27,9 +28,14 @@ pub(crate) struct Shortening {
 }
 
 impl Shortening {
-    /// Whether a disproof has so many lines that a shorter one is worth a search, where a worker may say so many lines.
-    pub(crate) fn is_worth(lines: usize, budget: u32) -> bool {
-        lines > LINES_SHORT.min(budget as usize)
+    /// Whether a disproof has so many lines that a shorter one is worth a search, where a worker may say so many lines, and logs are
+    /// to be of this length.
+    pub(crate) fn is_worth(lines: usize, budget: u32, logs: LogLength) -> bool {
+        let most = budget as usize;
+        match logs {
+            LogLength::Short => lines > LINES_SHORT.min(most),
+            LogLength::Any => lines > most,
+        }
     }
 
     /// Begins the search, by the first policy, for a shorter disproof than the one that was gathered of all that an engine

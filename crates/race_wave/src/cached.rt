@@ -1,8 +1,9 @@
-//! Racers that ask a cache before they try a query, and keep there what they say: many auctions share it. The lock on it is held
-//! while what may answer is looked for, and not while that is checked, so that one racer's check keeps no other one waiting.
+//! Racers that ask a cache before they search for an answer, and keep there what they found: many auctions share it. Before both are
+//! first looks, which answer most queries sooner than the cache would. The lock on it is held while what may answer is looked for,
+//! and not while that is checked, so that one racer's check keeps no other one waiting.
 
 ghost use Rattle.std.specs.Prelude.{◌≡◌, IfOk, IfSome, map};
-ghost use Rattle.cert_types.specs.Query.{IsQuery};
+ghost use Rattle.cert_types.specs.Query.{AttemptIs, IsQuery};
 ghost use Rattle.cert_types.specs.Valid.{IsValid};
 ghost use Rattle.auction_core.specs.Backed.{IsBacked};
 ghost use Rattle.auction_core.specs.Setup.{IsOfAuction};
@@ -14,6 +15,7 @@ use cert_types::answer::{Answer, CertifyWhy};
 use cert_types::certify::certify_query;
 use cert_types::poll::{Attempt, Poll};
 use cert_types::task::Task;
+use first_looks::looks::FirstLooks;
 use pack_defs::book::Book;
 use pack_defs::order::Order;
 use pack_defs::scenario::Scenario;
@@ -24,8 +26,9 @@ use std::alloc::{AllocError as NoMemory, Global};
 use std::sync::{Mutex, Wait};
 use std::thread::Threads;
 
-/// A worker's racer, and the cache that is asked before it. What the cache suggests is said in the racer's place, if the check lets
-/// it through; what the racer says is put into the cache. The cache is locked while it looks for a suggestion or is put into, and
+/// A worker's racer, first looks, and the cache that is asked between them. What no look answers the cache does, if it suggests what
+/// the check lets through; else the racer tries, and what it says is put into the cache. What a look finds isn't: to look again takes
+/// less than to ask for it, and it would take the place of what a search found. The cache is locked while it looks for a suggestion or is put into, and
 /// neither while a suggestion is checked nor while the racer tries. Only where one is refused the cache is asked for an answer,
 /// and locked while it looks for one among all that it keeps, and checks each.
 #[derive(Drop)]
@@ -36,14 +39,16 @@ pub struct Cached<'a, W: Wait, R: Racer> {
     cache: &'a Mutex<Cache>,
     /// The worker whose racer it is.
     pub worker: Worker,
+    looks: FirstLooks,
     racer: R,
     ghost own: { R.worker racer ≡ worker },
 }
 
 impl<'a, W: Wait, R: Racer> Cached<'a, W, R> {
-    /// The racer of a worker, with a cache that is asked before it under this top channel. It takes no memory.
+    /// The racer of a worker, with a cache that is asked before it under this top channel. It takes no memory by itself.
     pub fn make(
         rt: &'a W,
+        alloc: Global,
         top: u8,
         cache: &'a Mutex<Cache>,
         worker: &Worker,
@@ -57,8 +62,30 @@ impl<'a, W: Wait, R: Racer> Cached<'a, W, R> {
             top,
             cache,
             worker: *worker,
+            looks: FirstLooks::new(alloc),
             racer,
         }
+    }
+
+    // What the cache answers, or else what the racer says, which is put into the cache.
+    fn kept_or_tried<P: Poll>(
+        &mut self,
+        alloc: Global,
+        book: &Book,
+        task: &Task,
+        poll: &mut P,
+    ) -> Result<Attempt, NoMemory>
+        requires { IsQuery book.now task.now }
+        ensures said { IfOk result (λ attempt. AttemptIs book.now task.now self.new.worker (P.last poll.new) attempt) }
+        ensures worker { self.new.worker ≡ self.old.worker }
+        ensures goes { P.goes poll.old poll.new }
+    {
+        if let Some(answer) = self.kept_answer(alloc, book, task) {
+            return Ok(Attempt::Said(answer));
+        }
+        let attempt = self.racer.attempt(alloc, book, task, poll)?;
+        self.keep(alloc, task, &attempt);
+        Ok(attempt)
     }
 
     // What the cache suggests, if the check lets it through. Where memory runs out for the look or the check it is nothing, and the
@@ -148,16 +175,16 @@ impl<W: Wait, R: Racer> Racer for Cached<'_, W, R> {
         task: &Task,
         poll: &mut P,
     ) -> Result<Attempt, NoMemory> {
-        if let Some(answer) = self.kept_answer(alloc, book, task) {
-            return Ok(Attempt::Said(answer));
+        if let Some(fit) = self.looks.look(alloc, book, task)? {
+            return Ok(Attempt::Said(Answer::Fit(fit)));
         }
-        let attempt = self.racer.attempt(alloc, book, task, poll)?;
-        self.keep(alloc, task, &attempt);
+        let attempt = self.kept_or_tried(alloc, book, task, poll)?;
+        self.looks.keep_said(alloc, task, &attempt);
         Ok(attempt)
     }
 }
 
-// A racer for each worker, in order: a solver of its kind, with the cache that is asked before it.
+// A racer for each worker, in order: a solver of its kind, whose proofs may be long, with the cache that is asked before it.
 fn cached_racers<'a, W: Wait>(
     rt: &'a W,
     alloc: Global,
@@ -169,15 +196,15 @@ fn cached_racers<'a, W: Wait>(
 {
     let mut racers = Vec::new(alloc);
     for worker in workers {
-        let racer = RacerKind::for_worker(alloc, worker)?;
-        racers.push(Cached::make(rt, top, cache, worker, racer))?;
+        let racer = RacerKind::with_long_proofs(alloc, worker)?;
+        racers.push(Cached::make(rt, alloc, top, cache, worker, racer))?;
     }
     Ok(racers)
 }
 
 /// The record of the auction of this scenario and book, each round of which tests the stations by volume. It is carried out
-/// as `run_auction` does, by racers each of which asks the shared cache first, under the scenario's top channel, and puts what
-/// it says into it. Where memory runs out in the cache the auction goes on without what would have been answered or kept; the
+/// as `run_auction` does, by racers each of which asks the shared cache before it searches, under the scenario's top channel, and puts
+/// what it finds into it. Its proofs may be long, since no one reads them but the cache. Where memory runs out in the cache the auction goes on without what would have been answered or kept; the
 /// only error is want of memory of the auction itself.
 pub fn run_cached<G: Gate + Sync, W: Threads + Wait + Sync>(
     rt: &W,

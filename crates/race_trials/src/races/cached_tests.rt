@@ -113,7 +113,7 @@ fn attempts<W: Wait>(
         solver,
         attempts: &attempts,
     };
-    let mut racer = Cached::make(rt, 15, &cache, worker, counted);
+    let mut racer = Cached::make(rt, alloc, 15, &cache, worker, counted);
     for (set, fits, count) in rows {
         let said = says(alloc, &mut racer, &book, set, *fits)?;
         if !said || attempts.load(Ordering::SeqCst) != *count {

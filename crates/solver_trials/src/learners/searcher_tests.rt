@@ -1,7 +1,7 @@
 //! The kept searcher by itself: without memory it knows nothing and can be used again, and of a long log it says a shorter one.
 
 use crate::learners::samples::packing;
-use kept_search::searcher::{Progress, Searcher};
+use kept_search::searcher::{LogLength, Progress, Searcher};
 use kept_search::suggestion::Suggestion;
 use pack_defs::book::Book;
 use pack_defs::channel_map::ChannelMap;
@@ -93,7 +93,7 @@ fn a_searcher_without_memory_can_be_used_again(rt: HostRuntime) -> Result<(), Fa
     let alloc = rt.alloc();
     let book = six_on_five(alloc).ok_or("no memory")?;
     let none = ChannelMap::of(alloc, &[])?;
-    let mut searcher = Searcher::new(0);
+    let mut searcher = Searcher::new(0, LogLength::Short);
     let five = asked_again(alloc, &mut searcher, &book, &STATIONS[..5], &none, 1000)?;
     assert_eq!(rt; five, Told::Fit);
     let six = asked_again(alloc, &mut searcher, &book, &STATIONS, &none, 1000)?;
