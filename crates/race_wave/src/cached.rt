@@ -26,11 +26,13 @@ use std::alloc::{AllocError as NoMemory, Global};
 use std::sync::{Mutex, Wait};
 use std::thread::Threads;
 
-/// A worker's racer, first looks, and the cache that is asked between them. What no look answers the cache does, if it suggests what
-/// the check lets through; else the racer tries, and what it says is put into the cache. What a look finds isn't: to look again takes
-/// less than to ask for it, and it would take the place of what a search found. The cache is locked while it looks for a suggestion or is put into, and
-/// neither while a suggestion is checked nor while the racer tries. Only where one is refused the cache is asked for an answer,
-/// and locked while it looks for one among all that it keeps, and checks each.
+/// A worker's racer, with first looks and a cache before it. What no look answers the cache does, if the check lets through what it
+/// suggests; else the racer tries, and what it says is put into the cache. What a look finds isn't: another look takes less time than
+/// the cache, and it would take the place of what a search found.
+///
+/// The cache is locked while it looks for a suggestion or is put into, and neither while a suggestion is checked nor while the racer
+/// tries. Only where one is refused the cache is asked for an answer, and locked while it looks for one among all that it keeps, and
+/// checks each.
 #[derive(Drop)]
 pub struct Cached<'a, W: Wait, R: Racer> {
     rt: &'a W,

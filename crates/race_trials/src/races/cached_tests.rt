@@ -1,4 +1,5 @@
-//! A test of a racer behind a cache: what was said once isn't tried again, and what is kept and no fit is passed over.
+//! Tests of a racer behind first looks and a cache: what was said once isn't tried again, what is kept and no fit is passed over, and
+//! what a look finds is neither tried nor kept.
 
 use batch_cache::cache::Cache;
 use cert_types::answer::Answer;
@@ -46,14 +47,15 @@ impl Racer for Counted<'_> {
     }
 }
 
-// The test of a set, none of whose stations has a channel yet.
-fn task_of(alloc: Global, set: &[u32]) -> Result<Task, NoMemory> {
+// The test of a set whose stations have these channels: of its last station, or of all where none has one.
+fn task_of(alloc: Global, set: &[u32], last: &[Entry]) -> Result<Task, NoMemory> {
+    let tested = if last.is_empty() { None } else { set.last() };
     Ok(Task {
         number: 1,
         round: 0,
-        station: None,
+        station: tested.copied(),
         set: Items::from_vec(Vec::from_slice(alloc, set)?),
-        last: ChannelMap::of(alloc, &[])?,
+        last: map_of(alloc, last)?,
     })
 }
 
@@ -70,22 +72,23 @@ fn map_of(alloc: Global, entries: &[Entry]) -> Result<ChannelMap, NoMemory> {
 fn cache_of(alloc: Global, kept: &[(&[u32], &[Entry])]) -> Result<Cache, NoMemory> {
     let mut cache = Cache::make(alloc, 4)?;
     for (set, entries) in kept {
-        let task = task_of(alloc, set)?;
+        let task = task_of(alloc, set, &[])?;
         let map = map_of(alloc, entries)?;
         cache.put(alloc, 15, &task, &Answer::Fit(map))?;
     }
     Ok(cache)
 }
 
-// Whether the racer says that the set fits, if `fits`, or that it doesn't.
+// Whether the racer says that the set fits beside these channels, if `fits`, or that it doesn't.
 fn says<R: Racer>(
     alloc: Global,
     racer: &mut R,
     book: &Book,
     set: &[u32],
+    last: &[Entry],
     fits: bool,
 ) -> Result<bool, NoMemory> {
-    let task = task_of(alloc, set)?;
+    let task = task_of(alloc, set, last)?;
     if !is_query(book, &task) {
         return Ok(false);
     }
@@ -103,7 +106,7 @@ fn attempts<W: Wait>(
     alloc: Global,
     worker: &Worker,
     kept: &[(&[u32], &[Entry])],
-    rows: &[(&[u32], bool, u64)],
+    rows: &[(&[u32], &[Entry], bool, u64)],
 ) -> Result<bool, NoMemory> {
     let book = three_stations(alloc)?;
     let cache = Mutex::new(cache_of(alloc, kept)?);
@@ -114,8 +117,8 @@ fn attempts<W: Wait>(
         attempts: &attempts,
     };
     let mut racer = Cached::make(rt, alloc, 15, &cache, worker, counted);
-    for (set, fits, count) in rows {
-        let said = says(alloc, &mut racer, &book, set, *fits)?;
+    for (set, last, fits, count) in rows {
+        let said = says(alloc, &mut racer, &book, set, last, *fits)?;
         if !said || attempts.load(Ordering::SeqCst) != *count {
             return Ok(false);
         }
@@ -127,26 +130,39 @@ fn attempts<W: Wait>(
 // that is no fit is passed over, for an older one or a refutation that is valid; where there is none the solver tries.
 #[test]
 fn what_was_said_is_not_tried_again(rt: HostRuntime) -> Result<(), Fail> {
-    let rows: &[(&[u32], bool, u64)] = &[
-        (&[1, 2], true, 1),
-        (&[1, 2], true, 1),
-        (&[2], true, 1),
-        (&[1, 2, 3], false, 2),
-        (&[1, 2, 3], false, 2),
-        (&[1, 3], true, 3),
+    let rows: &[(&[u32], &[Entry], bool, u64)] = &[
+        (&[1, 2], &[], true, 1),
+        (&[1, 2], &[], true, 1),
+        (&[2], &[], true, 1),
+        (&[1, 2, 3], &[], false, 2),
+        (&[1, 2, 3], &[], false, 2),
+        (&[1, 3], &[], true, 3),
     ];
     assert!(rt; attempts(&rt, rt.alloc(), &learner(1000), &[], rows)?);
     let kept: &[(&[u32], &[Entry])] = &[
         (&[1, 2], &[(1, 14), (2, 15)]),
         (&[1, 2, 3], &[(1, 14), (2, 14), (3, 14)]),
     ];
-    let passing_over: &[(&[u32], bool, u64)] = &[
-        (&[1, 2], true, 0),
-        (&[3], true, 0),
-        (&[1, 3], true, 1),
-        (&[1, 2, 3], false, 2),
-        (&[1, 2, 3], false, 2),
+    let passing_over: &[(&[u32], &[Entry], bool, u64)] = &[
+        (&[1, 2], &[], true, 0),
+        (&[3], &[], true, 0),
+        (&[1, 3], &[], true, 1),
+        (&[1, 2, 3], &[], false, 2),
+        (&[1, 2, 3], &[], false, 2),
     ];
     assert!(rt; attempts(&rt, rt.alloc(), &learner(1000), kept, passing_over)?);
+    Ok(())
+}
+
+// A free channel of the tested station is said without the cache and the solver. It isn't kept: where no look is had, the solver
+// tries the same set, and only then the cache has it.
+#[test]
+fn what_a_look_finds_is_neither_tried_nor_kept(rt: HostRuntime) -> Result<(), Fail> {
+    let rows: &[(&[u32], &[Entry], bool, u64)] = &[
+        (&[1, 2], &[(1, 14)], true, 0),
+        (&[1, 2], &[], true, 1),
+        (&[1, 2], &[], true, 1),
+    ];
+    assert!(rt; attempts(&rt, rt.alloc(), &learner(1000), &[], rows)?);
     Ok(())
 }
