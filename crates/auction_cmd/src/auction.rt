@@ -51,9 +51,8 @@ fn carry_out<F: Folder, K: Sink, G: Gate + Sync, W: Threads + Wait + Sync>(
     out: &mut K,
     gate: &G,
 ) -> Finish
-    ensures ends { ProgramEnds (plan_of (map string_bytes words.now))
-        (outside (F.told folder.old) (K.told out.old)) (outside (F.told folder.new) (K.told out.new))
-        result.status result.result result.below result.batch }
+    ensures ends { ProgramEnds (plan_of (map string_bytes words.now)) (outside (F.told folder.old) (K.told out.old))
+        (outside (F.told folder.new) (K.told out.new)) result.status result.result result.below result.batch }
     ensures counted { AreFaultsCounted
         (outside (F.told folder.old) (K.told out.old)) (outside (F.told folder.new) (K.told out.new)) result.status }
 {
@@ -155,14 +154,12 @@ pub fn auction_main<F: Folder, K: Sink, G: Gate + Sync, W: Threads + Wait + Sync
     gate: &G,
 ) -> Finish
     // How it ends, case by case.
-    ensures ends { ProgramEnds (plan_of (map string_bytes words.now))
-        (outside (F.told folder.old) (K.told out.old)) (outside (F.told folder.new) (K.told out.new))
-        result.status result.result result.below result.batch }
+    ensures ends { ProgramEnds (plan_of (map string_bytes words.now)) (outside (F.told folder.old) (K.told out.old))
+        (outside (F.told folder.new) (K.told out.new)) result.status result.result result.below result.batch }
 
     // What may be relied on, a clause each.
-    ensures promises { ProgramPromises (plan_of (map string_bytes words.now))
-        (outside (F.told folder.old) (K.told out.old)) (outside (F.told folder.new) (K.told out.new))
-        result.status result.result result.below result.batch }
+    ensures promises { ProgramPromises (plan_of (map string_bytes words.now)) (outside (F.told folder.old) (K.told out.old))
+        (outside (F.told folder.new) (K.told out.new)) result.status result.result result.below result.batch }
 
     // At which statuses the outside's counts of faults stand.
     ensures counted { AreFaultsCounted

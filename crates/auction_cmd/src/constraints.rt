@@ -90,8 +90,7 @@ pub(crate) fn domains_from<F: Folder>(
     folder: &mut F,
     name: &str,
 ) -> Result<Domains, Stop>
-    ensures told { (files : List StoredFile) → (F.told folder.old).files ≡ Some files →
-        Agrees (λ d. d) (F.told folder.old).steady
+    ensures told { (files : List StoredFile) → (F.told folder.old).files ≡ Some files → Agrees (λ d. d) (F.told folder.old).steady
         (and_then (file_of files name.now Input.Domains) (λ bytes. rows_read Input.Domains (domains_of bytes))) result }
     ensures files { (F.told folder.new).files ≡ (F.told folder.old).files }
     ensures steady { (F.told folder.new).steady ≡ (F.told folder.old).steady }
@@ -114,8 +113,7 @@ fn feed_pairs<'a, F: Folder>(
     reader: PairReader<'a>,
 ) -> Result<PairReader<'a>, Stop>
     ensures told { (done rest : List ℕ) (domains : List Domain) → F.left folder.old ≡ Some rest → pairs_fed done domains ≡ Ok reader.entry →
-        IsFed (F.told folder.old).steady (pairs_fed (done ++ rest) domains)
-        (rows_read Input.Rows (pairs_of (done ++ rest) domains)) result }
+        IsFed (F.told folder.old).steady (pairs_fed (done ++ rest) domains) (rows_read Input.Rows (pairs_of (done ++ rest) domains)) result }
     ensures files { (F.told folder.new).files ≡ (F.told folder.old).files }
     ensures steady { (F.told folder.new).steady ≡ (F.told folder.old).steady }
     ensures counted { CountsFault (F.told folder.old).faults (F.told folder.new).faults result }
@@ -141,8 +139,7 @@ pub(crate) fn pairs_from<F: Folder>(
     name: &str,
     domains: &Domains,
 ) -> Result<Pairs, Stop>
-    ensures told { (files : List StoredFile) → (F.told folder.old).files ≡ Some files →
-        Agrees (λ p. p) (F.told folder.old).steady
+    ensures told { (files : List StoredFile) → (F.told folder.old).files ≡ Some files → Agrees (λ p. p) (F.told folder.old).steady
         (and_then (file_of files name.now Input.Rows) (λ bytes. rows_read Input.Rows (pairs_of bytes domains.now))) result }
     ensures files { (F.told folder.new).files ≡ (F.told folder.old).files }
     ensures steady { (F.told folder.new).steady ≡ (F.told folder.old).steady }

@@ -100,8 +100,7 @@ fn deliver<F: Folder, K: Sink>(
     done: u8,
 ) -> u8
     ensures delivers { Delivers (pair_of_texts (import_seen names.now) texts.now.result.items texts.now.transcript.items)
-        texts.now.summary.items done
-        (outside (F.told folder.old) (K.told out.old)) (outside (F.told folder.new) (K.told out.new)) result }
+        texts.now.summary.items done (outside (F.told folder.old) (K.told out.old)) (outside (F.told folder.new) (K.told out.new)) result }
     ensures counted { AreFaultsCounted
         (outside (F.told folder.old) (K.told out.old)) (outside (F.told folder.new) (K.told out.new)) result }
 {

@@ -94,8 +94,7 @@ pub(crate) fn scenario_from<F: Folder>(
     folder: &mut F,
     name: &str,
 ) -> Result<Scenario, Stop>
-    ensures told { (files : List StoredFile) → (F.told folder.old).files ≡ Some files →
-        Agrees (λ sc. sc) (F.told folder.old).steady
+    ensures told { (files : List StoredFile) → (F.told folder.old).files ≡ Some files → Agrees (λ sc. sc) (F.told folder.old).steady
         (and_then (file_of files name.now Input.Scenario) (λ bytes. scenario_read (scenario_of bytes))) result }
     ensures limits { IfOk result IsWithinLimits }
     ensures files { (F.told folder.new).files ≡ (F.told folder.old).files }

@@ -124,9 +124,8 @@ pub fn seek<F: Folder, K: Sink, G: Gate + Sync, W: Threads + Wait + Sync>(
     out: &mut K,
     gate: &G,
 ) -> Finish
-    ensures ends { SeekEnds (seek_seen files.now)
-        (outside (F.told folder.old) (K.told out.old)) (outside (F.told folder.new) (K.told out.new))
-        result.status result.result result.below }
+    ensures ends { SeekEnds (seek_seen files.now) (outside (F.told folder.old) (K.told out.old))
+        (outside (F.told folder.new) (K.told out.new)) result.status result.result result.below }
     ensures no_batch { result.batch ≡ [] }
     ensures counted { AreFaultsCounted
         (outside (F.told folder.old) (K.told out.old)) (outside (F.told folder.new) (K.told out.new)) result.status }

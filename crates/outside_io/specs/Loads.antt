@@ -1,10 +1,11 @@
 -- What a folder and a sink answer, by what they tell.
-use Rattle.std.specs.Prelude.{◌≡◌, ◌<◌, ◌≤◌, ℕ, List, ◌++◌, length, take, Option, Some, None, Result, Ok, Err, ⊤, MatchOption, MatchResult}
+use Rattle.std.specs.Prelude.{◌≡◌, ◌≢◌, ◌<◌, ◌≤◌, ℕ, true, List, ◌++◌, length, take, Option, Some, None, Result, Ok, Err, ⊤, MatchOption, MatchResult}
 use Rattle.outside_io.specs.declared.folder.LoadErr.{LoadErr}
 use Rattle.outside_io.specs.declared.folder.LoadErr.TheVariants.{Failed, TooLong, NoMemory}
 use Rattle.outside_io.specs.declared.folder.StoreErr.{StoreErr}
 use Rattle.outside_io.specs.declared.sink.Failed.{Failed as WriteFailed}
 use Rattle.outside_io.specs.Files.{StoredFile, bytes_of, OthersStand, Puts}
+use Rattle.outside_io.specs.Told.{FolderTold}
 
 -- What a load of a told file answers: its bytes, where they are within the limit, and too long only where they are not.
 -- A name that isn't there is never loaded.
@@ -21,6 +22,11 @@ LoadsFile None limit (Err NoMemory) into = ⊤
 -- over a folder that tells its files
 abbrev pub Loads : Option (List StoredFile) → List ℕ → ℕ → Result (Unit {0}) LoadErr → List ℕ → Type 0
 Loads told name limit result into = MatchOption told ⊤ (λ files. LoadsFile (bytes_of files name) limit result into)
+
+-- a steady folder that tells its files doesn't fail to load or begin one that is there
+abbrev pub FindsWhatIsThere : FolderTold → List ℕ → Result (Unit {0}) LoadErr → Type 0
+FindsWhatIsThere told name result = (files : List StoredFile) (bytes : List ℕ) →
+    told.steady ≡ true → told.files ≡ Some files → bytes_of files name ≡ Some bytes → result ≢ Err Failed
 
 -- What a store leaves, where the folder tells its files: the bytes under the name, and all other files as they were. After
 -- an error the name may hold anything, or be gone.

@@ -1,8 +1,7 @@
 //! What a program asks of the files outside: the trait `Folder`, and why a call of it fails.
 ghost use Rattle.std.specs.Prelude.{◌≡◌, ◌≢◌, ◌<◌, ◌≤◌, ◌+◌, ℕ, [], List, Option, true, Some, OnErr, OnOk, length};
-ghost use Rattle.outside_io.specs.Files.{StoredFile, bytes_of};
 ghost use Rattle.outside_io.specs.Faults.{HasRisen};
-ghost use Rattle.outside_io.specs.Loads.{Loads, Stores};
+ghost use Rattle.outside_io.specs.Loads.{FindsWhatIsThere, Loads, Stores};
 ghost use Rattle.outside_io.specs.Pieces.{Begins, HandsOut, piece_size};
 ghost use Rattle.outside_io.specs.Told.{FolderTold};
 
@@ -78,9 +77,7 @@ pub trait Folder {
         ensures come { come self.new ≡ come self.old }
         ensures most { most self.new ≡ most self.old }
         ensures steady { (told self.new).steady ≡ (told self.old).steady }
-        ensures surely { (files : List StoredFile) (bytes : List ℕ) →
-            (told self.old).steady ≡ true → (told self.old).files ≡ Some files → bytes_of files name.now ≡ Some bytes →
-            result ≢ Err LoadErr.Failed };
+        ensures surely { FindsWhatIsThere (told self.old) name.now result };
 
     /// Stores these bytes under the name, in place of what it held. After an error the name may hold anything, or be gone,
     /// and the other files are what they were.
@@ -108,9 +105,7 @@ pub trait Folder {
         ensures failed { result ≡ Err LoadErr.Failed → HasRisen (told self.old).faults (told self.new).faults }
         ensures uncounted { result ≢ Err LoadErr.Failed → (told self.new).faults ≡ (told self.old).faults }
         ensures steady { (told self.new).steady ≡ (told self.old).steady }
-        ensures surely { (files : List StoredFile) (bytes : List ℕ) →
-            (told self.old).steady ≡ true → (told self.old).files ≡ Some files → bytes_of files name.now ≡ Some bytes →
-            result ≢ Err LoadErr.Failed };
+        ensures surely { FindsWhatIsThere (told self.old) name.now result };
 
     /// Puts the next bytes of the file that is begun into `into`, in place of what it held: no bytes at the end of the file,
     /// and where no file is begun. After an error there are no bytes either, and no file is begun: no bytes are left. A file

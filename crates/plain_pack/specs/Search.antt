@@ -19,7 +19,12 @@ pub record Extends (book : BookView) (chosen : List (ℕ × ℕ)) (left : List �
 abbrev pub NoneExtends : BookView → List (ℕ × ℕ) → List ℕ → Type 0
 NoneExtends book chosen left = list_any (λ more. is_apart book (chosen ++ more)) (assignments book left) ≡ false
 
--- the same of one station more, on one of these channels
+-- whether the stations left could be given channels beside the chosen entries: then they were, else nothing changed
+abbrev pub IsExtended : BookView → List (ℕ × ℕ) → List ℕ → List (ℕ × ℕ) → Bool → Type 0
+IsExtended book chosen left after true = Extends book chosen left after
+IsExtended book chosen left after false = (after ≡ chosen) × NoneExtends book chosen left
+
+-- none extends them with one station more, on one of these channels
 abbrev pub NoneExtendsBy : BookView → List (ℕ × ℕ) → ℕ → List ℕ → List ℕ → Type 0
 NoneExtendsBy book chosen s channels left =
     list_any (λ more. is_apart book (chosen ++ more))

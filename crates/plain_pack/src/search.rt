@@ -1,9 +1,9 @@
 //! Whether a set of stations fits, by a plain depth-first search without a budget.
 
-ghost use Rattle.std.specs.Prelude.{◌≡◌, true, IfOk, IsTrue, IsFalse, MatchOption, MatchBool};
+ghost use Rattle.std.specs.Prelude.{◌≡◌, true, IfOk, IsTrue, IsFalse, MatchOption};
 ghost use Rattle.pack_defs.specs.Lists.{is_ascending};
 ghost use Rattle.pack_defs.specs.Packing.{IsPacking, fits, is_apart};
-ghost use Rattle.plain_pack.specs.Search.{Extends, NoneExtends, stands_with};
+ghost use Rattle.plain_pack.specs.Search.{IsExtended, stands_with};
 
 use pack_defs::book::Book;
 use pack_defs::channel_map::ChannelMap;
@@ -24,9 +24,7 @@ pub fn fits(alloc: Global, book: &Book, set: &[u32]) -> Result<Option<ChannelMap
 // Gives each of the stations left a channel beside those chosen, or leaves the chosen ones where it can't.
 fn extend(book: &Book, left: &[u32], chosen: &mut Vec<(u32, u8)>) -> Result<bool, NoMemory>
     requires { is_apart book.now chosen.old.items ≡ true }
-    ensures { IfOk result (λ found. MatchBool found
-        (Extends book.now chosen.old.items left.now chosen.new.items)
-        ((chosen.new.items ≡ chosen.old.items) × NoneExtends book.now chosen.old.items left.now)) }
+    ensures { IfOk result (IsExtended book.now chosen.old.items left.now chosen.new.items) }
 {
     let Some((station, others)) = left.split_first() else {
         return Ok(true);

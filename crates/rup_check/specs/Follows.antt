@@ -1,6 +1,6 @@
 -- When a line of a log follows from the clauses and the lines before it, and when a log refutes. A line and its hints are
 -- those of LRAT (Cruz-Filipe, Heule, Hunt, Kaufmann and Schneider-Kamp 2017), without the steps that are not RUP.
-use Rattle.std.specs.Prelude.{ℕ, Bool, false, ◌||◌, ◌+◌, ◌==◌, ◌≡◌, nat_lt, if◌then◌else◌, List, [], ◌∷◌, ◌++◌, map, Option, Some, None, Result, Ok, Err}
+use Rattle.std.specs.Prelude.{ℕ, Bool, false, ◌||◌, ◌+◌, ◌==◌, ◌≡◌, nat_lt, if◌then◌else◌, List, [], ◌∷◌, ◌++◌, map, take, Option, Some, None, Result, Ok, Err}
 use Rattle.std.specs.List.{list_any}
 use Rattle.clause_db.specs.declared.lit.Lit.{Lit}
 use Rattle.clause_db.specs.Clause.{opposite, is_empty_clause, clause_at}
@@ -58,6 +58,10 @@ line_fault vars clauses line =
 -- the clauses, and after them the earlier lines
 abbrev pub clauses_before : List (List Lit) → List Line → List (List Lit)
 clauses_before clauses lines = clauses ++ map (λ line. line.lits) lines
+
+-- the clause of this number, counted from 1 through the clauses and then through the first `before` lines, if there is one
+abbrev pub clause_numbered : List (List Lit) → List Line → ℕ → ℕ → Option (List Lit)
+clause_numbered clauses lines before n = clause_at (clauses_before clauses (take before lines)) n
 
 -- the fault of the line at this place, else that of the rest
 abbrev pub line_or : ℕ → Option LineErr → Option LogErr → Option LogErr

@@ -1,6 +1,6 @@
 -- How the numbers of a log's lines stand in bytes: seven bits a byte, the least first, and 128 more on each byte but a
 -- number's last (LEB128).
-use Rattle.std.specs.Prelude.{ℕ, ◌+◌, ◌-◌, ◌*◌, ◌/◌, ◌%◌, ◌^◌, ◌==◌, ◌≡◌, ◌≤◌, nat_lt, if◌then◌else◌, List, [], ◌∷◌, ◌++◌, map, slice_index_or, slice_range}
+use Rattle.std.specs.Prelude.{ℕ, ◌+◌, ◌-◌, ◌*◌, ◌/◌, ◌%◌, ◌^◌, ◌==◌, ◌≡◌, ◌≤◌, nat_lt, true, false, if◌then◌else◌, Option, Some, None, List, [], ◌∷◌, ◌++◌, map, slice_index_or, slice_range}
 use Rattle.clause_db.specs.declared.lit.Lit.{Lit}
 use Rattle.rup_check.specs.declared.line.Line.{Line}
 use Rattle.rup_check.specs.declared.digits.Digits.{Digits}
@@ -17,6 +17,11 @@ part_with d digit = (d.part + (digit * d.weight) % 2 ^ 64) % 2 ^ 64
 -- what is read of a number with one digit more that isn't its last
 abbrev pub digits_with : Digits → ℕ → Digits
 digits_with d digit = record { part = part_with d digit; weight = (d.weight * 128) % 2 ^ 64 }
+
+-- what a byte more makes of a number: its value, where the byte is its last, else what is read of it then
+abbrev pub TakesByte : Digits → Digits → ℕ → Option ℕ → Type 0
+TakesByte old new b None = (nat_lt b 128 ≡ false) × (new ≡ digits_with old (b - 128))
+TakesByte old new b (Some n) = (nat_lt b 128 ≡ true) × (n ≡ part_with old b)
 
 -- the numbers that the bytes spell, where so much of the first is read
 abbrev pub numbers_from : Digits → List ℕ → List ℕ

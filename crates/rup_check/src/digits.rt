@@ -1,7 +1,7 @@
 //! Numbers in bytes: seven bits a byte, the least first, and 128 more on each byte but a number's last (LEB128).
 
-ghost use Rattle.std.specs.Prelude.{◌≡◌, ◌-◌, ◌++◌, ◌∷◌, [], List, ℕ, MatchOption, OnOk, nat_lt, true, false};
-ghost use Rattle.rup_check.specs.Packed.{Spells, digits_with, no_digits, numbers_of, part_with};
+ghost use Rattle.std.specs.Prelude.{◌≡◌, ◌++◌, ◌∷◌, [], List, ℕ, MatchOption, OnOk};
+ghost use Rattle.rup_check.specs.Packed.{Spells, TakesByte, no_digits, numbers_of, part_with};
 
 use std::alloc::AllocError as NoMemory;
 
@@ -22,9 +22,7 @@ impl Digits {
 
     // Reads a byte: the number, where this is its last.
     fn take(&mut self, byte: u8) -> Option<u64>
-        ensures { MatchOption result
-            ((nat_lt byte 128 ≡ false) × (self.new ≡ digits_with self.old (byte - 128)))
-            (λ n. (nat_lt byte 128 ≡ true) × (n ≡ part_with self.old byte)) }
+        ensures { TakesByte self.old self.new byte result }
     {
         let byte = byte as u64;
         if byte < 128 {
@@ -45,9 +43,7 @@ impl Digits {
 
 /// The first number of the bytes, and the bytes behind it.
 pub(crate) fn first_number(bytes: &[u8]) -> Option<(u64, &[u8])>
-    ensures { MatchOption result
-        (numbers_of bytes.now ≡ [])
-        (λ found. numbers_of bytes.now ≡ found.0 ∷ numbers_of found.1.now) }
+    ensures { MatchOption result (numbers_of bytes.now ≡ []) (λ found. numbers_of bytes.now ≡ found.0 ∷ numbers_of found.1.now) }
 {
     let mut digits = Digits::none();
     for (i, byte) in bytes.iter().enumerate() {

@@ -1,5 +1,5 @@
 -- The auction of a seed: its stations, who interferes with whom, and the bytes of its three files.
-use Rattle.std.specs.Prelude.{ℕ, zero, suc, ◌+◌, ◌-◌, ◌*◌, ◌/◌, ◌==◌, ◌&&◌, Bool, nat_lt, min, if◌then◌else◌, List, [], ◌∷◌, ◌++◌, map, filter, replicate, Some, None, codes, decimal}
+use Rattle.std.specs.Prelude.{ℕ, ◌≡◌, zero, suc, ◌+◌, ◌-◌, ◌*◌, ◌/◌, ◌==◌, ◌&&◌, Bool, nat_lt, min, if◌then◌else◌, List, [], ◌∷◌, ◌++◌, map, filter, replicate, Some, None, codes, decimal}
 use Rattle.std.specs.List.{flat_map, range_with_len}
 use Rattle.rand_pcg.specs.Lcg.{Lcg}
 use Rattle.serde_json.specs.Written.{compact_text}
@@ -130,3 +130,9 @@ made_scenario seed size = scenario_with seed (map (made_station (generator_of se
 -- the scenario file
 abbrev pub made_scenario_text : ℕ → ℕ → List ℕ
 made_scenario_text seed size = compact_text (data_for (made_scenario seed size))
+
+-- these are the three files of the auction of this seed and size
+pub record AreMade (seed size : ℕ) (domains rows scenario : List ℕ) : Type 0 where
+  pub domains_are : domains ≡ made_domains size
+  pub rows_are : rows ≡ made_rows seed size
+  pub scenario_is : scenario ≡ made_scenario_text seed size

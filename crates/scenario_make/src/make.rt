@@ -2,7 +2,7 @@
 
 ghost use Rattle.std.specs.Prelude.{◌≡◌, ◌≤◌, IfOk};
 ghost use Rattle.scenario_make.specs.Accepted.{AreAccepted};
-ghost use Rattle.scenario_make.specs.MadeFiles.{made_domains, made_rows, made_scenario_text, made_workers, scenario_with};
+ghost use Rattle.scenario_make.specs.MadeFiles.{AreMade, made_domains, made_workers, scenario_with};
 
 use crate::lines::push_line;
 use crate::rows::draw_rows;
@@ -75,9 +75,7 @@ fn scenario_with(alloc: Global, seed: u64, stations: Vec<Station>) -> Result<Sce
 // The three files, the stations drawn first and the links behind them.
 fn draw_files(alloc: Global, seed: u64, size: u32) -> Result<Made, NoMemory>
     requires { size ≤ 4096 }
-    ensures { IfOk result (λ made. (made.domains.items ≡ made_domains size)
-        × (made.rows.items ≡ made_rows seed size)
-        × (made.scenario.items ≡ made_scenario_text seed size)) }
+    ensures { IfOk result (λ made. AreMade seed size made.domains.items made.rows.items made.scenario.items) }
 {
     let domains = domain_file(alloc, size)?;
     let mut words = Lcg64Xsh32::new(seed, 0);
@@ -100,9 +98,7 @@ fn draw_files(alloc: Global, seed: u64, size: u32) -> Result<Made, NoMemory>
 pub fn make(alloc: Global, seed: u64, size: u32) -> Result<Made, NoMemory>
     requires some { 1 ≤ size }
     requires most { size ≤ 4096 }
-    ensures files { IfOk result (λ made. (made.domains.items ≡ made_domains size)
-        × (made.rows.items ≡ made_rows seed size)
-        × (made.scenario.items ≡ made_scenario_text seed size)) }
+    ensures files { IfOk result (λ made. AreMade seed size made.domains.items made.rows.items made.scenario.items) }
     ensures accepted { IfOk result (λ made. AreAccepted made.domains.items made.rows.items made.scenario.items) }
 {
     let made = draw_files(alloc, seed, size)?;

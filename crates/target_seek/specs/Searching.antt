@@ -1,5 +1,5 @@
 -- What a search for the least top keeps of what it asked and was told.
-use Rattle.std.specs.Prelude.{ℕ, ◌≡◌, ◌≤◌, ◌<◌, ◌+◌, ◌-◌, ◌^◌, List, [], ◌∷◌, Some, length}
+use Rattle.std.specs.Prelude.{ℕ, ◌≡◌, ◌≤◌, ◌<◌, ◌+◌, ◌-◌, ◌^◌, List, [], ◌∷◌, ◌++◌, Some, None, Result, IfOk, length}
 use Rattle.target_seek.specs.declared.search.Below.{Below}
 use Rattle.target_seek.specs.declared.search.Below.TheVariants as below
 use Rattle.target_seek.specs.declared.search.Left.{Left}
@@ -7,8 +7,9 @@ use Rattle.target_seek.specs.declared.search.Stage.{Stage}
 use Rattle.target_seek.specs.declared.search.Stage.TheVariants.{Unasked, LastIsUnfit, LastIsOpen, Halving}
 use Rattle.target_seek.specs.declared.search.TopSearch.{TopSearch}
 use Rattle.target_seek.specs.declared.top_test.TopAnswer.TheVariants.{Fits, Unfit, Open}
-use Rattle.target_seek.specs.Halving.{next_at, stage_after}
-use Rattle.target_seek.specs.Tops.{AskedTop, WasTold}
+use Rattle.target_seek.specs.declared.seek.Sought.{Sought}
+use Rattle.target_seek.specs.Halving.{next_at, next_of, stage_after}
+use Rattle.target_seek.specs.Tops.{AskedTop, IsSought, WasTold}
 
 -- what was told of the top below the lowest one that is left
 abbrev pub IsBelow : ℕ → List AskedTop → ℕ → Below → Type 0
@@ -56,3 +57,13 @@ Leads from (x ∷ xs) to = (next_at from ≡ Some x.top) × Leads (stage_after f
 pub record IsSearching (first last : ℕ) (asked : List AskedTop) (search : TopSearch) : Type 0 where
   pub stage : IsStage first last asked search.stage
   pub halved : Leads (Unasked first last) asked search.stage
+
+-- a search from the first to the last of these tops asked by halving, about seven of them at most, behind what was asked
+-- before; and where it came to an answer, it is over, and this is what it found
+pub record HasSearched {E : Type 0} (first last : ℕ) (before after : List AskedTop) (result : Result Sought E) : Type 0 where
+  pub more : List AskedTop
+  pub search : TopSearch
+  pub asked : after ≡ before ++ more
+  pub few : length more ≤ 7
+  pub searching : IsSearching first last more search
+  pub found : IfOk result (λ sought. (next_of search ≡ None) × IsSought first last more sought)

@@ -1,9 +1,8 @@
 //! The search for the least top channel.
 
-ghost use Rattle.std.specs.Prelude.{◌≡◌, ◌≤◌, ◌++◌, List, None, length, IfOk};
-ghost use Rattle.target_seek.specs.Halving.{next_of};
-ghost use Rattle.target_seek.specs.Searching.{IsSearching};
-ghost use Rattle.target_seek.specs.Tops.{AskedTop, IsSought, IsTruth};
+ghost use Rattle.std.specs.Prelude.{◌≡◌, ◌≤◌, IfOk};
+ghost use Rattle.target_seek.specs.Searching.{HasSearched};
+ghost use Rattle.target_seek.specs.Tops.{IsTruth};
 
 use crate::search::TopSearch;
 use crate::top_test::TopTest;
@@ -31,9 +30,7 @@ pub fn seek_top<T: TopTest>(first: u8, last: u8, test: &mut T) -> Result<Sought,
     requires ordered { first ≤ last }
     requires most { last ≤ 51 }
     ensures base { T.base test.new ≡ T.base test.old }
-    ensures asked { (more : List AskedTop) × (search : TopSearch) × (T.asked test.new ≡ T.asked test.old ++ more)
-        × (length more ≤ 7) × IsSearching first last more search
-        × IfOk result (λ sought. (next_of search ≡ None) × IsSought first last more sought) }
+    ensures asked { HasSearched first last (T.asked test.old) (T.asked test.new) result }
     ensures truth { IfOk result (IsTruth (T.base test.old) first last) }
 {
     let mut search = TopSearch::new(first, last);

@@ -1,8 +1,8 @@
 //! Who is on air, who is frozen and who is still asked, as the clock rule tells it.
 
-ghost use Rattle.std.specs.Prelude.{◌≡◌, ◌==◌, [], ◌∷◌, ◌++◌, IfOk};
-ghost use Rattle.pack_defs.specs.Lists.{without};
+ghost use Rattle.std.specs.Prelude.{◌≡◌, ◌==◌, [], IfOk};
 ghost use Rattle.pack_defs.specs.ClockRule.{goes_on_air, is_active, is_frozen, is_on_air};
+ghost use Rattle.threshold_laws.specs.Freezing.{freezes_at};
 
 use std::alloc::{AllocError as NoMemory, Global};
 use std::marker::Model;
@@ -116,11 +116,7 @@ impl PlainClock {
 
     /// The station is frozen in this round, at this price, in cents. The only error is want of memory.
     pub fn freeze(&mut self, s: u32, round: usize, price: u64) -> Result<(), NoMemory>
-        ensures { IfOk result (λ _. self.new ≡ record {
-          on_air = self.old.on_air;
-          frozen = self.old.frozen ++ record { station = s; round = round; price = price } ∷ [];
-          active = without self.old.active s;
-        }) }
+        ensures { IfOk result (λ _. self.new ≡ freezes_at self.old (record { station = s; round = round; price = price })) }
     {
         self.frozen.push(Bought {
             station: s,

@@ -10,12 +10,12 @@ pub returns-in-Err-clause-ends : goal.returns-in-Err-clause-ends
 returns-in-Err-clause-ends g c =
     let files = c.in-Ok.ensures.files in
     rw c.without_record.ensures.status
-    (MakeStopped (rw (files.0, files.1, files.2) at c.in-Err.ensures.stopped) c.without_record.ensures.none)
+    (MakeStopped (rw (files.domains_are, files.rows_are, files.scenario_is) at c.in-Err.ensures.stopped) c.without_record.ensures.none)
 
 pub returns-in_default-carry_out-clause-ends : goal.returns-in_default-carry_out-clause-ends
 returns-in_default-carry_out-clause-ends g c =
     let files = c.in-Ok.ensures.files in
-    AuctionStarved _ (rw (files.0, files.1, files.2) at c.in_default-store_files.ensures.stored) (record {
+    AuctionStarved _ (rw (files.domains_are, files.rows_are, files.scenario_is) at c.in_default-store_files.ensures.stored) (record {
       status_is = c.starve-in_default-carry_out.ensures.status;
       found_is = c.starve-in_default-carry_out.ensures.none;
       line = c.starve-in_default-carry_out.ensures.line;
@@ -26,8 +26,8 @@ pub returns-in-Ok-write-clause-ends : goal.returns-in-Ok-write-clause-ends
 returns-in-Ok-write-clause-ends g c =
     let files = c.in-Ok.ensures.files in
     Carried _ c.in-Ok-carry_out.carried.record c.in-Ok-carry_out.carried.summary.items
-    (rw (files.0, files.1, files.2) at c.in_default-store_files.ensures.stored)
-    (rw (files.0, files.1, files.2) at c.in-Ok-carry_out.ensures)
+    (rw (files.domains_are, files.rows_are, files.scenario_is) at c.in_default-store_files.ensures.stored)
+    (rw (files.domains_are, files.rows_are, files.scenario_is) at c.in-Ok-carry_out.ensures)
     c.with_record.ensures.kept
     (Written (c.with_record.ensures.status ∙ c.done_status-done.ensures) refl (rw c.deref.ensures.value at c.in-Ok-write.ensures.told))
 
@@ -35,8 +35,8 @@ pub returns-clause-ends : goal.returns-clause-ends
 returns-clause-ends g c =
     let files = c.in-Ok.ensures.files in
     Carried _ c.in-Ok-carry_out.carried.record c.in-Ok-carry_out.carried.summary.items
-    (rw (files.0, files.1, files.2) at c.in_default-store_files.ensures.stored)
-    (rw (files.0, files.1, files.2) at c.in-Ok-carry_out.ensures)
+    (rw (files.domains_are, files.rows_are, files.scenario_is) at c.in_default-store_files.ensures.stored)
+    (rw (files.domains_are, files.rows_are, files.scenario_is) at c.in-Ok-carry_out.ensures)
     c.with_record-in-Err-write.ensures.kept
     (CutShort c.with_record-in-Err-write.ensures.status refl c.in-Err-write.ensures.failed
     (cut-over _ _ _ (rw c.deref.ensures.value at c.in-Err-write.ensures.surely))

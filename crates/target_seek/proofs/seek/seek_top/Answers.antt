@@ -14,7 +14,7 @@ pub returns-clause-asked : goal.returns-clause-asked
 returns-clause-asked g c =
     let mid = c.loop-top.invariant in
     let found = c.found.ensures.sought c.args.first c.args.last mid.more mid.searching in
-    (mid.more, c.loop-top.search, mid.asked, found.1, mid.searching, (cc, found.0))
+    record { more = mid.more; search = c.loop-top.search; asked = mid.asked; few = found.1; searching = mid.searching; found = (cc, found.0) }
 
 pub returns-clause-truth : goal.returns-clause-truth
 returns-clause-truth g c =
