@@ -74,7 +74,6 @@ fn is_in_trouble(book: &Book, map: &Assignment, s: u32) -> bool
 fn stands(map: &Assignment, x: (u32, u8)) -> bool
     ensures { result ≡ has_entry map.now.entries x }
 {
-    // With its entries a map says that it ascends.
-    let _entries = map.entries();
+    map.keeps_order();
     map.channel(x.0) == Some(x.1)
 }

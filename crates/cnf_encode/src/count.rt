@@ -55,9 +55,9 @@ fn pair_count(book: &Book, set: &[u32]) -> u64
     ensures count { result ≡ length (filter (is_inside set.now) book.now.pairs) }
     ensures few { result < 2 ^ 62 }
 {
-    // There are no more pairs than a slice has.
+    // So the sum fits.
     book.keeps_order();
-    let _pairs = book.pairs();
+    book.keeps_to_memory();
     let mut count = 0;
     for i in 0..set.len() {
         count += pairs_inside(book, set, i);

@@ -98,10 +98,17 @@ impl PlainTrail {
 
     /// The entries in order.
     pub fn entries(&self) -> &[TrailEntry]
-        ensures entries { result.now ≡ self.now.entries }
-        ensures trail { IsTrail self.now.clauses self.now.entries }
+        ensures { result.now ≡ self.now.entries }
     {
         self.assigned.entries()
+    }
+
+    /// Does nothing, and answers nothing: it says of each trail that every entry has the number of decisions up to it, and is
+    /// decided, or forced by its clause and the entries before.
+    pub fn keeps_reasons(&self)
+        ensures { IsTrail self.now.clauses self.now.entries }
+    {
+        let _assigned = &self.assigned;
     }
 
     /// The number of decisions.

@@ -236,7 +236,9 @@ fn look_again(watching: &mut Watching) -> PropagationStep
             ClauseLook::Settled => {}
         }
     }
-    if watching.plain().entries().len() > before {
+    let plain = watching.plain();
+    plain.keeps_reasons();
+    if plain.entries().len() > before {
         PropagationStep::Moved
     } else {
         PropagationStep::Quiet

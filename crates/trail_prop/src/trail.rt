@@ -53,10 +53,17 @@ impl Trail {
     /// The entries in order: each with the number of decisions up to it, and the number of the clause that forced it by
     /// the entries before.
     pub fn entries(&self) -> &[TrailEntry]
-        ensures entries { result.now ≡ self.now.entries }
-        ensures trail { IsTrail self.now.clauses self.now.entries }
+        ensures { result.now ≡ self.now.entries }
     {
         self.watching.plain().entries()
+    }
+
+    /// Does nothing, and answers nothing: it says of each trail that every entry has the number of decisions up to it, and is
+    /// decided, or forced by its clause and the entries before, which callers need for their proofs alone.
+    pub fn keeps_reasons(&self)
+        ensures { IsTrail self.now.clauses self.now.entries }
+    {
+        self.watching.plain().keeps_reasons();
     }
 
     /// The number of decisions.

@@ -96,6 +96,7 @@ impl Watching {
     pub fn next(&self) -> Option<TrailEntry>
         ensures { NextIs self.now result }
     {
+        self.plain.keeps_reasons();
         let entries = self.plain.entries();
         if self.head < entries.len() {
             Some(entries[self.head])
@@ -177,6 +178,7 @@ impl Watching {
         ensures level { level_of self.new.trail.entries ≡ level }
     {
         self.plain.backjump(level);
+        self.plain.keeps_reasons();
         self.head = self.head.min(self.plain.entries().len());
     }
 
@@ -207,6 +209,7 @@ impl Watching {
         ensures head { self.new.head ≡ self.old.head + 1 }
         ensures room { length self.new.trail.entries + self.new.head ≤ 2 * self.new.trail.clauses.vars }
     {
+        self.plain.keeps_reasons();
         if self.head < self.plain.entries().len() {
             self.head += 1;
         }

@@ -42,7 +42,7 @@ pub(crate) fn refutation(course: &WalkCourse, pair: Pair) -> Answer
     ensures { (task : Task) (worker : Worker) → is_dead course.now.book (map_stations course.now.entries) pair ≡ true →
         course.now.start ≡ start_map course.now.book task.last task.set → IsValid course.now.book task worker result }
 {
-    let _entries = course.entries();
+    course.keeps_course();
     Answer::Refuted(Refutation::Dead(pair))
 }
 

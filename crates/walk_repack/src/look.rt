@@ -41,8 +41,7 @@ fn look_at(book: &Book, course: &WalkCourse, pair: Pair, heads: bool) -> Sight
     ensures { SightIs course.now.book course.now.entries result }
 {
     book.keeps_order();
-    // With its entries a walk says that it is on its domains.
-    let _entries = course.entries();
+    course.keeps_course();
     let one = Sight::Open {
         station: pair.f,
         channel: pair.a,

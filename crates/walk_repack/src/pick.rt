@@ -68,6 +68,7 @@ fn first_violated(book: &Book, course: &WalkCourse) -> Option<Pair>
     ensures some { IfSome result (λ p. IsViolated course.now.book course.now.entries p) }
     ensures none { IfNone result (violates_some course.now.book course.now.entries ≡ false) }
 {
+    course.keeps_course();
     for x in course.entries() {
         if let Some(pair) = violated_from(book, course, *x) {
             return Some(pair);

@@ -75,8 +75,7 @@ fn advance(book: &Book, course: &mut WalkCourse, guide: &mut Guide) -> Result<Wa
     ensures step { IfOk result (λ step. WalkStepIs course.old course.new step) }
 {
     book.keeps_order();
-    // With its entries a walk says that they ascend.
-    let _entries = course.entries();
+    course.keeps_course();
     match look(book, course, guide) {
         Sight::Clean => Ok(WalkStep::Clean),
         Sight::Dead(pair) => Ok(WalkStep::Dead(pair)),

@@ -5,4 +5,4 @@ use Rattle.cert_types.proofs.moves.stands.Goals as goal
 
 pub returns : goal.returns
 returns c =
-    c.eq.ensures ∙ ap (λ o. option_eq nat_eq o (Some c.args.x.1)) c.channel.ensures ∙ stands-exactly c.args.x.0 c.args.x.1 c.args.map.now.entries c.entries-entries.ensures.ascending
+    c.eq.ensures ∙ ap (λ o. option_eq nat_eq o (Some c.args.x.1)) c.channel.ensures ∙ stands-exactly c.args.x.0 c.args.x.1 c.args.map.now.entries c.keeps_order.ensures

@@ -1,4 +1,4 @@
-use Rattle.std.proofs.Common.{◌≡◌, ◌+◌, ◌∙◌, arith, ap, length, take_all}
+use Rattle.std.proofs.Common.{◌+◌, ◌∙◌, arith, ap, length, take_all}
 use Rattle.std.specs.List.{sum_by}
 use Rattle.cnf_encode.specs.ByStation.{pairs_inside_from}
 use Rattle.cnf_encode.proofs.CountLemmas.{pairs-counted, pairs-most, sum-more}
@@ -10,8 +10,7 @@ overflow_add-count c =
     let set = c.args.set.now in
     let most = pairs-most book set (c.loop-i.i + 1) c.requires c.keeps_order.ensures.pairs in
     let more = sum-more (λ s. length (pairs_inside_from book set s)) set c.loop-i.i (omega arith) in
-    let all : length c.pairs-pairs.result.now ≡ length book.pairs = ap length c.pairs-pairs.ensures in
-    omega (arith, most, more, c.loop-i.invariant, c.pairs_inside-count.ensures, all, c.pairs-pairs.type_inv)
+    omega (arith, most, more, c.loop-i.invariant, c.pairs_inside-count.ensures, c.keeps_to_memory.ensures)
 
 pub returns-clause-count : goal.returns-clause-count
 returns-clause-count c =
@@ -22,5 +21,4 @@ returns-clause-count c =
 pub returns-clause-few : goal.returns-clause-few
 returns-clause-few c =
     let most = pairs-most c.args.book.now c.args.set.now c.loop-i.i c.requires c.keeps_order.ensures.pairs in
-    let all : length c.pairs-pairs.result.now ≡ length c.args.book.now.pairs = ap length c.pairs-pairs.ensures in
-    omega (arith, most, c.loop-i.invariant, all, c.pairs-pairs.type_inv)
+    omega (arith, most, c.loop-i.invariant, c.keeps_to_memory.ensures)

@@ -59,11 +59,11 @@ loop-at-preserved c =
 pub returns-then-entries-before-clause-step : goal.returns-then-entries-before-clause-step
 returns-then-entries-before-clause-step c =
     let v = c.loop-at.watching in
-    let trail : IsTrail v.trail.clauses v.trail.entries = subst (λ (t : TrailView). IsTrail t.clauses t.entries) c.plain-2.ensures.plain c.entries.ensures.trail in
+    let trail : IsTrail v.trail.clauses v.trail.entries = subst (λ (t : TrailView). IsTrail t.clauses t.entries) c.plain-plain-2.ensures.plain c.keeps_reasons.ensures in
     let few = no-more-entries v.trail.clauses v.trail.entries trail in
-    let low = c.plain-2.ensures.watchful.head in
-    let now : length c.entries.result.now ≡ length v.trail.entries = ap (λ (z : List TrailEntry). length z) c.entries.ensures.entries ∙ ap (λ (t : TrailView). length t.entries) c.plain-2.ensures.plain in
-    let before : length c.entries-before.result.now ≡ length c.args.watching.now.trail.entries = ap (λ (z : List TrailEntry). length z) c.entries-before.ensures.entries ∙ ap (λ (t : TrailView). length t.entries) c.plain.ensures.plain in
+    let low = c.plain-plain-2.ensures.watchful.head in
+    let now : length c.entries.result.now ≡ length v.trail.entries = ap (λ (z : List TrailEntry). length z) c.entries.ensures ∙ ap (λ (t : TrailView). length t.entries) c.plain-plain-2.ensures.plain in
+    let before : length c.entries-before.result.now ≡ length c.args.watching.now.trail.entries = ap (λ (z : List TrailEntry). length z) c.entries-before.ensures ∙ ap (λ (t : TrailView). length t.entries) c.plain.ensures.plain in
     let more = c.if-entries-before.true in
     let head = c.loop-at.invariant.head in
     (omega arith, omega arith)
@@ -73,9 +73,9 @@ returns-else-entries-before-clause-step c =
     let v = c.loop-at.watching in
     let start = c.args.watching.now in
     let i = c.loop-at.invariant in
-    let trail : IsTrail v.trail.clauses v.trail.entries = subst (λ (t : TrailView). IsTrail t.clauses t.entries) c.plain-2.ensures.plain c.entries.ensures.trail in
-    let now : length c.entries.result.now ≡ length v.trail.entries = ap (λ (z : List TrailEntry). length z) c.entries.ensures.entries ∙ ap (λ (t : TrailView). length t.entries) c.plain-2.ensures.plain in
-    let before : length c.entries-before.result.now ≡ length start.trail.entries = ap (λ (z : List TrailEntry). length z) c.entries-before.ensures.entries ∙ ap (λ (t : TrailView). length t.entries) c.plain.ensures.plain in
+    let trail : IsTrail v.trail.clauses v.trail.entries = subst (λ (t : TrailView). IsTrail t.clauses t.entries) c.plain-plain-2.ensures.plain c.keeps_reasons.ensures in
+    let now : length c.entries.result.now ≡ length v.trail.entries = ap (λ (z : List TrailEntry). length z) c.entries.ensures ∙ ap (λ (t : TrailView). length t.entries) c.plain-plain-2.ensures.plain in
+    let before : length c.entries-before.result.now ≡ length start.trail.entries = ap (λ (z : List TrailEntry). length z) c.entries-before.ensures ∙ ap (λ (t : TrailView). length t.entries) c.plain.ensures.plain in
     let grown : length v.trail.entries ≡ length start.trail.entries + length i.grows.more = ap (λ (z : List TrailEntry). length z) i.grows.follows ∙ length-append start.trail.entries i.grows.more in
     let no-more = c.if-entries-before.false in
     let same : length v.trail.entries ≡ length start.trail.entries = omega arith in
@@ -83,4 +83,4 @@ returns-else-entries-before-clause-step c =
     let over = c.loop-at-test.false in
     let count = i.count in
     let all = subst (λ (z : List ℕ). All (λ (n : ℕ). IsClauseSettled (lits_of v.trail.entries) (clause_of v.trail.clauses.list (n - 1))) z) (take_all c.loop-at.at v.pending (omega arith)) (i.quiet same) in
-    watchful-complete v c.plain-2.ensures.watchful (fits-opens v.trail.clauses [] v.trail.entries trail) head all
+    watchful-complete v c.plain-plain-2.ensures.watchful (fits-opens v.trail.clauses [] v.trail.entries trail) head all

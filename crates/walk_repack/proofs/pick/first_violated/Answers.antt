@@ -14,14 +14,14 @@ pub loop-x-preserved : goal.loop-x-preserved
 loop-x-preserved c =
     let map = c.args.course.now.entries in
     let pairs = c.args.course.now.book.pairs in
-    let size = ap length c.entries-x-items.ensures.entries in
+    let size = ap length c.entries-x-items.ensures in
     let none : find (is_violated map) (filter (λ p. p.f == (get_or map c.loop-x.x-index (0, 0)).0) pairs) ≡ None =
-    subst (λ (es : List (ℕ × ℕ)). find (is_violated map) (filter (λ p. p.f == (get_or es c.loop-x.x-index (0, 0)).0) pairs) ≡ None) c.entries-x-items.ensures.entries (sym c.violated_from.ensures ∙ c.in_default.is) in
+    subst (λ (es : List (ℕ × ℕ)). find (is_violated map) (filter (λ p. p.f == (get_or es c.loop-x.x-index (0, 0)).0) pairs) ≡ None) c.entries-x-items.ensures (sym c.violated_from.ensures ∙ c.in_default.is) in
     none-more map pairs c.loop-x.x-index (omega (arith, size, c.loop-x-test.true)) c.loop-x.invariant none
 
 pub returns-clause-none : goal.returns-clause-none
 returns-clause-none c =
     let map = c.args.course.now.entries in
     let pairs = c.args.course.now.book.pairs in
-    let size = ap length c.entries-x-items.ensures.entries in
+    let size = ap length c.entries-x-items.ensures in
     found-none (is_violated map) pairs (none-violated map pairs c.loop-x.x-index (omega (arith, size, c.loop-x-test.false)) c.loop-x.invariant)

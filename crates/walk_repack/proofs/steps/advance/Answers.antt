@@ -11,4 +11,4 @@ other_channel-to-requires-clause-ascending c =
 
 pub make-requires-clause-elsewhere : goal.make-requires-clause-elsewhere
 make-requires-clause-elsewhere c =
-    not-elsewhere c.args.course.now.entries c.in-Open.station c.in-Open.channel c.other_channel-to.result c.entries-entries.ensures.course.ascending c.in-Open.ensures.stands c.other_channel-to.ensures.other
+    not-elsewhere c.args.course.now.entries c.in-Open.station c.in-Open.channel c.other_channel-to.result c.keeps_course.ensures.ascending c.in-Open.ensures.stands c.other_channel-to.ensures.other
