@@ -1,8 +1,7 @@
 -- What is said of an answer, and what a posting leaves.
-use Rattle.std.proofs.Common.{◌≡◌, ◌∙◌, ℕ, ◌<◌, ◌==◌, Bool, true, false, not, nat_le, if◌then◌else◌, List, [], ◌∷◌, ◌++◌, length, Option, Some, None, is_some, option_and_then, refl, sym, ap, subst, arith, inl, inr, append_assoc}
+use Rattle.std.proofs.Common.{◌≡◌, ◌∙◌, ℕ, true, false, List, [], ◌∷◌, ◌++◌, Option, Some, None, is_some, option_and_then, refl, sym, ap, subst, inl, inr, append_assoc}
 use Rattle.std.specs.Prelude.{slice_get, MatchOption}
 use Rattle.std.proofs.lemmas.Bool.{cases_Bool, false≢true}
-use Rattle.std.proofs.lemmas.Bool.Decides.{nat_tests}
 use Rattle.pack_defs.specs.Book.{BookView}
 use Rattle.pack_defs.specs.declared.scenario.Scenario.{Scenario}
 use Rattle.pack_defs.specs.declared.worker.Worker.{Worker}
@@ -13,7 +12,6 @@ use Rattle.cert_types.specs.Certificate.{Certificate}
 use Rattle.cert_types.specs.Valid.{IsValid, answer_fault}
 use Rattle.auction_core.specs.declared.posting.Posting.{Posting}
 use Rattle.auction_core.specs.declared.posting.Reply.{Reply}
-use Rattle.auction_core.specs.declared.posting.Reply.TheVariants.{Ended, WrongQuery, Stranger}
 use Rattle.auction_core.specs.declared.posting.Said.{Said}
 use Rattle.auction_core.specs.declared.posting.Said.TheVariants.{Good, Bad}
 use Rattle.auction_core.specs.Auction.{AuctionView, entry_told, let_through}
@@ -46,21 +44,6 @@ ended-of sc book state none = elim (cases_Bool (has_ended state)) [
   | inl ended ↦ ended
   | inr on ↦ absurd (no-task sc book state on none)
 ]
-
-within : (a b c : Bool) (n : ℕ) → (if a then Some Ended else (if not b then Some (WrongQuery n) else (if c then Some Stranger else None))) ≡ None → (a ≡ false) × (c ≡ false)
-within true b c n e = cc
-within false false c n e = cc
-within false true true n e = cc
-within false true false n e = (refl, refl)
-
--- a posting that isn't turned away meets a query, and is of a worker
-pub looked-at : (sc : Scenario) (state : CoreState) (w number : ℕ) → turned_away sc state w number ≡ None → (has_ended state ≡ false) × (w < length sc.workers)
-looked-at sc state w number e =
-    let h = within (has_ended state) (number == state.number) (nat_le (length sc.workers) w) state.number e in
-    (h.0, below (length sc.workers) w h.1)
-  where
-    below : (n w : ℕ) → nat_le n w ≡ false → w < n
-    below n w e = grind (arith, nat_tests)
 
 -- ---- what is said of an answer
 

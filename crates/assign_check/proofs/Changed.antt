@@ -11,11 +11,11 @@ use Rattle.pack_defs.specs.ChannelMap.{IsAscending, channel_of, overlaid}
 use Rattle.pack_defs.specs.Lists.{has_entry}
 use Rattle.pack_defs.proofs.MapLemmas.{overlaid-ascending}
 use Rattle.pack_defs.proofs.Members.{Contains-filter, Contains-from_filter, list_any-from}
-use Rattle.pack_defs.proofs.Words.{entry, Contains-from_has_entry, list_any-from_each}
+use Rattle.pack_defs.proofs.Words.{entry, Contains-from_has_entry, list_any-from_each, mapped-none}
 use Rattle.assign_check.specs.declared.fault.MapFault.TheVariants.{Violates}
 use Rattle.assign_check.specs.Changes.{violates_at, violates_at_some}
 use Rattle.assign_check.specs.Fault.{is_violated, violation}
-use Rattle.assign_check.proofs.Faultless.{found-none, no_map, none-found}
+use Rattle.assign_check.proofs.Faultless.{found-none, none-found}
 use Rattle.assign_check.proofs.Finds.{stands-exactly}
 use Rattle.assign_check.proofs.Overlays.{change-stands, over-channel, overlaid-from}
 use Rattle.assign_check.proofs.Violations.{from_own, is_violated_from, own-channel}
@@ -94,7 +94,7 @@ at-second book map changes p there h own =
     (list_any-from (is_violated map) (filter (λ q. q.g == p.g) book.pairs) p (Contains-filter (λ q. q.g == p.g) book.pairs p there (eq-eqb p.g p.g refl)) h))
 
 none-of-pairs : (book : BookView) (entries : List (ℕ × ℕ)) → violation book entries ≡ None → list_any (is_violated entries) book.pairs ≡ false
-none-of-pairs book entries e = found-none (is_violated entries) book.pairs (no_map Violates (find (is_violated entries) book.pairs) e)
+none-of-pairs book entries e = found-none (is_violated entries) book.pairs (mapped-none Violates (find (is_violated entries) book.pairs) e)
 
 -- a violated pair of the map is one of a changed station, where the last map violates none
 violated-at : (book : BookView) (last changes : List (ℕ × ℕ)) (p : Pair) → violation book last ≡ None → Contains book.pairs p → is_violated (overlaid last changes) p ≡ true → violates_at_some book (overlaid last changes) changes ≡ true

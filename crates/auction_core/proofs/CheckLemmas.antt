@@ -1,5 +1,5 @@
 -- The start of a check, and each step on.
-use Rattle.std.proofs.Common.{◌≡◌, ◌<◌, ◌≤◌, ℕ, ◌+◌, Bool, true, false, if◌then◌else◌, List, [], ◌∷◌, ◌++◌, map, find, length, take, drop, get_or, Option, Some, None, option_map, is_none, is_some, refl, sym, ap, ap₂, subst, ◌∙◌, arith}
+use Rattle.std.proofs.Common.{◌≡◌, ◌<◌, ◌≤◌, ℕ, ◌+◌, Bool, true, false, if◌then◌else◌, List, [], ◌∷◌, ◌++◌, find, length, take, drop, get_or, Option, Some, None, option_map, is_none, is_some, refl, sym, ap, ap₂, subst, ◌∙◌, arith}
 use Rattle.std.specs.Option.{option_map_or}
 use Rattle.std.proofs.lemmas.List.{drop_more, take_more, map-append, length-drop, length-take-le, length-map}
 use Rattle.pack_defs.specs.declared.scenario.Scenario.{Scenario}
@@ -7,8 +7,7 @@ use Rattle.pack_defs.specs.Book.{BookView, domain_of}
 use Rattle.pack_defs.specs.declared.order.Order.{Order}
 use Rattle.pack_defs.specs.Lists.{is_empty}
 use Rattle.pack_defs.specs.Prices.{start_set}
-use Rattle.pack_defs.specs.ClockRule.{ClockTest, clock_tests}
-use Rattle.cert_types.specs.declared.task.Task.{Task}
+use Rattle.pack_defs.specs.ClockRule.{clock_tests}
 use Rattle.cert_types.specs.declared.answer.Place.TheVariants.{Kind}
 use Rattle.cert_types.specs.Valid.{fit_fault, unless}
 use Rattle.auction_core.specs.declared.record.Shown.{Shown}

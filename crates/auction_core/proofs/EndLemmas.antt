@@ -1,5 +1,5 @@
 -- What the check of a transcript's start and steps comes to.
-use Rattle.std.proofs.Common.{◌≡◌, ℕ, ◌+◌, Bool, true, false, if◌then◌else◌, List, [], ◌∷◌, map, length, Option, Some, None, option_map, sum_by, refl, sym, ap, ap₂, subst, ◌∙◌, inl, inr}
+use Rattle.std.proofs.Common.{◌≡◌, ℕ, ◌+◌, Bool, true, false, if◌then◌else◌, List, [], length, Option, Some, None, option_map, refl, sym, ap, ap₂, subst, ◌∙◌, inl, inr}
 use Rattle.std.proofs.lemmas.List.{length-map}
 use Rattle.pack_defs.specs.declared.scenario.Scenario.{Scenario}
 use Rattle.pack_defs.specs.Book.{BookView}
@@ -7,12 +7,8 @@ use Rattle.pack_defs.specs.declared.order.Order.{Order}
 use Rattle.pack_defs.specs.ClockRule.{clock_tests}
 use Rattle.cert_types.specs.declared.answer.Place.{Place}
 use Rattle.auction_core.specs.declared.record.Shown.{Shown}
-use Rattle.auction_core.specs.declared.record.Step.{Step}
-use Rattle.auction_core.specs.declared.record.Record.{Record}
-use Rattle.auction_core.specs.declared.record.Ending.TheVariants.{Done}
 use Rattle.auction_core.specs.State.{CoreState, has_ended}
-use Rattle.auction_core.specs.Backed.{after_start, after_steps, ending_of, IsBacked, record_of, shown_start}
-use Rattle.auction_core.specs.Rule.{IsAuction}
+use Rattle.auction_core.specs.Backed.{after_start}
 use Rattle.auction_core.specs.declared.transcript.Transcript.{Transcript}
 use Rattle.auction_core.specs.declared.transcript.TranscriptStep.{TranscriptStep}
 use Rattle.auction_core.specs.declared.prefix.ShownWhy.{ShownWhy}
@@ -23,7 +19,6 @@ use Rattle.auction_core.specs.declared.prefix.ResumeErr.TheVariants as resume
 use Rattle.auction_core.specs.Checked.{FinishTells, IsAllShown, IsAt, found_in}
 use Rattle.auction_core.specs.NotShown.{NotShown, Explains, not_shown, not_shown_at, start_fault, started_fault, step_fault_or, steps_fault, within_steps}
 use Rattle.auction_core.specs.LogNumbers.{steps_in}
-use Rattle.auction_core.proofs.StartFaults.{start-shown}
 use Rattle.auction_core.proofs.FollowLemmas.{end-checked}
 use Rattle.auction_core.proofs.CheckLemmas.{explain}
 use Rattle.auction_core.proofs.KeptLemmas.{end-within}

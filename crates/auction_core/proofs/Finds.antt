@@ -40,11 +40,6 @@ find-push_new p (y ∷ xs) x none here =
       | false ↦ λ _. find-push_new p xs x (omega (arith, split, none)) here
     ]) refl
 
--- and where the new one doesn't pass
-pub find-push_other : {X : Type 0} (p : X → Bool) (xs : List X) (x : X) → p x ≡ false → find p (xs ++ x ∷ []) ≡ find p xs
-find-push_other p [] x other = cond-false (p x) (Some x) None other
-find-push_other p (y ∷ xs) x other = ap (λ o. cond (p y) (Some y) o) (find-push_other p xs x other)
-
 -- a number that stands in a list at most once leaves it when it is left out, and the others stay
 pub count-without : (xs : List ℕ) (t s : ℕ) → is_in xs t ≡ true → sum_by (one_at s) xs ≤ 1 → one_at s t + sum_by (one_at s) (without xs t) ≡ sum_by (one_at s) xs
 count-without xs t s there once =

@@ -1,8 +1,8 @@
 -- The auction that a transcript's steps settle, beside the walk that looks for the first step that is not shown.
-use Rattle.std.proofs.Common.{◌≡◌, ◌<◌, ℕ, ◌+◌, ◌==◌, ◌&&◌, Bool, true, false, if◌then◌else◌, List, [], ◌∷◌, ◌++◌, length, Option, Some, None, option_map, is_none, refl, sym, ap, ap₂, subst, ◌∙◌, arith, inl, inr, ◌⊎◌, append_assoc}
+use Rattle.std.proofs.Common.{◌≡◌, ℕ, ◌+◌, Bool, true, false, if◌then◌else◌, List, [], ◌∷◌, ◌++◌, length, Option, Some, None, option_map, refl, sym, ap, ◌∙◌, arith, inl, inr, append_assoc}
 use Rattle.std.specs.Prelude.{slice_get}
 use Rattle.std.specs.Option.{option_map_or}
-use Rattle.std.proofs.lemmas.Bool.{and_parts, both_ways}
+use Rattle.std.proofs.lemmas.Bool.{both_ways}
 use Rattle.std.proofs.lemmas.List.{length_push, length-append}
 use Rattle.std.proofs.lemmas.Option.{slice_get_past}
 use Rattle.pack_defs.specs.declared.scenario.Scenario.{Scenario}
@@ -11,9 +11,7 @@ use Rattle.pack_defs.specs.declared.order.Order.{Order}
 use Rattle.pack_defs.specs.Lists.{is_empty}
 use Rattle.pack_defs.specs.ClockRule.{ClockTest, clock_tests}
 use Rattle.cert_types.specs.declared.answer.Place.{Place}
-use Rattle.cert_types.specs.declared.answer.Place.TheVariants.{Kind}
 use Rattle.cert_types.specs.declared.task.Task.{Task}
-use Rattle.cert_types.specs.Valid.{unless}
 use Rattle.auction_core.specs.declared.record.Shown.{Shown}
 use Rattle.auction_core.specs.declared.record.Step.{Step}
 use Rattle.auction_core.specs.State.{CoreState, settled, settled_unasked, go_on, answered, first_task, task_of, test_of, test_task, has_ended}
@@ -25,12 +23,12 @@ use Rattle.auction_core.specs.declared.prefix.ShownWhy.TheVariants.{NotValid}
 use Rattle.auction_core.specs.declared.prefix.ShownWhy.TheVariants as Why
 use Rattle.auction_core.specs.Backed.{after_start}
 use Rattle.auction_core.specs.Prefix.{go_through, queries_taken, took_query}
-use Rattle.auction_core.specs.Checked.{IsAt, unasked_told, is_about, task_told, query_told, step_told, step_leaves}
-use Rattle.auction_core.specs.NotShown.{NotShown, query_fault, unasked_fault, step_fault, next_asked, step_fault_or, is_test, at_test, not_shown_at, steps_fault}
+use Rattle.auction_core.specs.Checked.{IsAt, unasked_told, task_told, query_told, step_told, step_leaves}
+use Rattle.auction_core.specs.NotShown.{NotShown, query_fault, unasked_fault, step_fault, next_asked, step_fault_or, is_test, not_shown_at, steps_fault}
 use Rattle.auction_core.proofs.StepLemmas.{unasked-shown}
 use Rattle.auction_core.proofs.WalkLemmas.{same-tests}
 use Rattle.auction_core.proofs.GoOnLemmas.{IsUnasked, IsStop, goes-on}
-use Rattle.auction_core.proofs.NumberLemmas.{beside, steps-beside}
+use Rattle.auction_core.proofs.NumberLemmas.{steps-beside}
 use Rattle.auction_core.proofs.ThroughLemmas.{taken-more, through-next, took-none, took-query}
 
 -- what a check of the next step comes to

@@ -125,19 +125,17 @@ opening-keeps sc book order a =
 
 -- ---- a query that is settled
 
-not-ended : (sc : Scenario) (state : CoreState) (w number : ℕ) → turned_away sc state w number ≡ None → (has_ended state ≡ false) × (w < length sc.workers)
+open-of : (a b c : Bool) (n : ℕ) → (if a then Some Ended else (if not b then Some (WrongQuery n) else (if c then Some Stranger else None))) ≡ None → (a ≡ false) × (c ≡ false)
+open-of true b c n e = cc
+open-of false false c n e = cc
+open-of false true true n e = cc
+open-of false true false n e = (refl, refl)
+
+-- a posting that isn't turned away meets a query, and is of a worker
+pub not-ended : (sc : Scenario) (state : CoreState) (w number : ℕ) → turned_away sc state w number ≡ None → (has_ended state ≡ false) × (w < length sc.workers)
 not-ended sc state w number e =
-    let go : (a b c : Bool) → nat_le (length sc.workers) w ≡ c → (if a then Some Ended else (if not b then Some (WrongQuery state.number) else (if c then Some Stranger else None))) ≡ None → (a ≡ false) × (w < length sc.workers) = λ a b c. elim a as (λ a. nat_le (length sc.workers) w ≡ c → (if a then Some Ended else (if not b then Some (WrongQuery state.number) else (if c then Some Stranger else None))) ≡ None → (a ≡ false) × (w < length sc.workers)) [
-      | true ↦ λ l f. cc
-      | false ↦ elim b as (λ b. nat_le (length sc.workers) w ≡ c → (if not b then Some (WrongQuery state.number) else (if c then Some Stranger else None)) ≡ None → (false ≡ false) × (w < length sc.workers)) [
-        | false ↦ λ l f. cc
-        | true ↦ elim c as (λ c. nat_le (length sc.workers) w ≡ c → (if c then Some Stranger else None) ≡ None → (false ≡ false) × (w < length sc.workers)) [
-          | true ↦ λ l f. cc
-          | false ↦ λ l f. (refl, leb-false (length sc.workers) w l)
-        ]
-      ]
-    ] in
-    go (has_ended state) (number == state.number) (nat_le (length sc.workers) w) refl e
+    let h = open-of (has_ended state) (number == state.number) (nat_le (length sc.workers) w) state.number e in
+    (h.0, leb-false (length sc.workers) w h.1)
 
 pub task-is : (sc : Scenario) (book : BookView) (state : CoreState) (o : Option Shown) (l : List ClockTest) → state.start ≡ o → state.left ≡ l → task_of sc book state ≡ (if is_none o then Some (start_task sc state.number) else first_task sc book state l)
 unfolding task_of

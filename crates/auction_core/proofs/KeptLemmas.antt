@@ -1,15 +1,14 @@
 -- What is kept of a transcript without a fault are the first tests that the rule asks, each shown as it has to be.
-use Rattle.std.proofs.Common.{◌≡◌, ℕ, suc, ◌+◌, ◌≤◌, Bool, true, false, not, ◌&&◌, nat_le, if◌then◌else◌, List, [], ◌∷◌, ◌++◌, map, length, take, Option, Some, None, refl, sym, ap, ap₂, subst, ◌∙◌, arith, append_assoc}
-use Rattle.std.specs.Prelude.{unwrap_or}
+use Rattle.std.proofs.Common.{◌≡◌, ℕ, suc, ◌+◌, ◌≤◌, Bool, true, false, not, ◌&&◌, nat_le, if◌then◌else◌, List, [], ◌∷◌, ◌++◌, map, length, take, Option, Some, None, refl, sym, ap, subst, ◌∙◌, arith, append_assoc}
 use Rattle.std.specs.Option.{option_map_or}
-use Rattle.std.proofs.lemmas.Bool.{and_parts, both_ways}
+use Rattle.std.proofs.lemmas.Bool.{both_ways}
 use Rattle.std.proofs.lemmas.Bool.Decides.{nat_tests}
 use Rattle.std.proofs.lemmas.List.{length-map}
 use Rattle.pack_defs.specs.declared.scenario.Scenario.{Scenario}
 use Rattle.pack_defs.specs.Book.{BookView}
 use Rattle.pack_defs.specs.Lists.{is_empty}
 use Rattle.pack_defs.specs.declared.order.Order.{Order}
-use Rattle.pack_defs.specs.ClockRule.{ClockState, ClockTest, after_tests, asked_from, asked_tests, clock_tests, is_active, opening_state}
+use Rattle.pack_defs.specs.ClockRule.{ClockTest, after_tests, asked_from, asked_tests, clock_tests, is_active, opening_state}
 use Rattle.pack_defs.proofs.TestOrder.{asked_in_turn}
 use Rattle.cert_types.specs.declared.answer.Place.{Place}
 use Rattle.auction_core.specs.declared.prefix.Prefix.{Prefix}

@@ -1,5 +1,5 @@
 -- Neither a query's number nor what an auction keeps beside its clock, map and steps changes a step's fault.
-use Rattle.std.proofs.Common.{◌≡◌, ℕ, ◌+◌, ◌==◌, ◌&&◌, Bool, true, false, if◌then◌else◌, List, [], ◌∷◌, length, Option, Some, None, refl, sym, ap, ap₂, ◌∙◌}
+use Rattle.std.proofs.Common.{◌≡◌, ℕ, ◌+◌, ◌==◌, ◌&&◌, if◌then◌else◌, List, [], ◌∷◌, length, Option, Some, None, refl, ap, ap₂}
 use Rattle.std.specs.Prelude.{slice_get}
 use Rattle.std.specs.Option.{option_map_or}
 use Rattle.pack_defs.specs.declared.scenario.Scenario.{Scenario}
@@ -14,15 +14,15 @@ use Rattle.cert_types.specs.declared.answer.Receipt.{Receipt}
 use Rattle.cert_types.specs.declared.answer.Refutation.{Refutation}
 use Rattle.cert_types.specs.declared.answer.Place.{Place}
 use Rattle.cert_types.specs.declared.answer.Place.TheVariants.{Kind}
-use Rattle.cert_types.specs.Valid.{answer_fault, unless}
+use Rattle.cert_types.specs.Valid.{unless}
 use Rattle.auction_core.specs.declared.record.Shown.{Shown}
 use Rattle.auction_core.specs.declared.record.Shown.TheVariants.{Empty, Fits, Same, NoChannel, Refuted, Outside, Undecided}
-use Rattle.auction_core.specs.State.{CoreState, NotedSpent, settled, settled_unasked, test_of, test_task}
+use Rattle.auction_core.specs.State.{CoreState, settled, settled_unasked, test_of, test_task}
 use Rattle.auction_core.proofs.Answers.{answer-number}
 use Rattle.auction_core.specs.declared.transcript.TranscriptStep.{TranscriptStep}
 use Rattle.auction_core.specs.LogNumbers.{clauses_in, first_of}
-use Rattle.auction_core.specs.declared.prefix.ShownWhy.TheVariants.{Order, NotValid}
-use Rattle.auction_core.specs.NotShown.{NotShown, or_first_line, receipt_fault, first_place_or, each_fault, receipts_fault, refuted_fault, query_fault, one_log_fault, unasked_fault, step_fault, next_asked, step_fault_or, is_test, at_test, not_shown_at, steps_fault}
+use Rattle.auction_core.specs.declared.prefix.ShownWhy.TheVariants.{Order}
+use Rattle.auction_core.specs.NotShown.{NotShown, or_first_line, first_place_or, each_fault, refuted_fault, query_fault, one_log_fault, unasked_fault, step_fault, next_asked, step_fault_or, is_test, at_test, not_shown_at, steps_fault}
 
 refuted-number : (book : BookView) (task : Task) (n : ℕ) (o : Option Worker) (how : Refutation) → refuted_fault book (record task { number = n }) o how ≡ refuted_fault book task o how
 refuted-number book task n None how = refl

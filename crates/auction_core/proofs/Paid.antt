@@ -15,7 +15,8 @@ use Rattle.auction_core.specs.declared.clock.Standing.{Standing}
 use Rattle.auction_core.specs.declared.clock.Standing.TheVariants.{Active, OnAir, Frozen}
 use Rattle.auction_core.specs.Clock.{ArePaid, AreStandings, ClockView, HasRoomToPay, IsClockOf, answered_clock, most_paid, opening_standing, stands_active, stands_frozen}
 use Rattle.auction_core.proofs.ClockLemmas.{answer-standings, idle_counts, once_at, opening-standings}
-use Rattle.auction_core.proofs.Finds.{find-push_new, find-push_other, find_cases}
+use Rattle.auction_core.proofs.Finds.{find-push_new, find_cases}
+use Rattle.pack_defs.proofs.Words.{find-push_other}
 
 -- ---- the greatest price
 

@@ -7,7 +7,7 @@ use Rattle.std.proofs.lemmas.List.{take_more}
 use Rattle.std.proofs.lemmas.List.Folds.{list_any-append}
 use Rattle.std.proofs.lemmas.List.Elements.{Contains-get_or}
 use Rattle.pack_defs.proofs.Members.{Contains-filter, Contains-from_filter, is_in-from, is_in-gives, list_any-from, list_any-gives}
-use Rattle.pack_defs.proofs.Words.{ascending-rest, below-later}
+use Rattle.pack_defs.proofs.Words.{ascending-rest, below-later, same-truth}
 use Rattle.pack_defs.specs.Book.{BookView}
 use Rattle.pack_defs.specs.Components.{interferes}
 use Rattle.pack_defs.specs.Lists.{is_ascending, is_in}
@@ -190,10 +190,6 @@ merged-from label vs (w ∷ ws) n z =
     ap (λ f. merged_labels f ws n z) same ∙ (merged-from label (vs ++ w ∷ []) ws n z ∙ ap (λ xs. at_once label xs n z) (append_assoc vs (w ∷ []) ws))
 
 -- ---- by the neighbours that a book has
-
-same-truth : (a b : Bool) → (a ≡ true → b ≡ true) → (b ≡ true → a ≡ true) → a ≡ b
-same-truth true b f g = sym (f refl)
-same-truth false b f g = sym (false_from_ne_true b (λ yes. let no : false ≡ true = g yes in cc))
 
 -- the list has just the stations that interfere with this one
 abbrev pub ListsNear : BookView → ℕ → List ℕ → Type 0

@@ -2,10 +2,8 @@
 use Rattle.std.proofs.Common.{◌≡◌, ℕ, zero, suc, ◌<◌, true, false, ◌==◌, if◌then◌else◌, List, [], ◌∷◌, ◌++◌, length, set, get_or, Option, Some, None, is_some, unwrap_or, refl, sym, ap, ◌∙◌, ⊎_elim, eq-eqb, ne_eqb, arith}
 use Rattle.std.proofs.lemmas.Bool.{cases_eq, cond-true, cond-false}
 use Rattle.std.proofs.lemmas.List.{length-set, get_or-set_same, get_or-set_other}
-use Rattle.std.proofs.lemmas.List.Elements.{Contains-get_or}
 use Rattle.pack_defs.specs.Lists.{is_ascending}
-use Rattle.pack_defs.proofs.Members.{is_in-from}
-use Rattle.pack_defs.proofs.Words.{ascending-rest, below-later}
+use Rattle.pack_defs.proofs.Words.{ascending-rest, after-first}
 use Rattle.auction_core.specs.declared.record.Shown.{Shown}
 use Rattle.auction_core.specs.declared.record.Step.{Step}
 use Rattle.auction_core.specs.Past.{AreLastFits, AreSeen}
@@ -34,10 +32,6 @@ now-seen stations on_air seen place inside h = record {
 }
 
 -- ---- where the last fits were told
-
--- a number behind the first of a list that ascends is greater
-after-first : (x : ℕ) (xs : List ℕ) (k : ℕ) → is_ascending (x ∷ xs) ≡ true → k < length xs → x < get_or xs k 0
-after-first x xs k up h = below-later x xs (get_or xs k 0) up (is_in-from xs (get_or xs k 0) (Contains-get_or xs k 0 h))
 
 -- no number of it stands at two places
 one-place : (xs : List ℕ) (i k : ℕ) → is_ascending xs ≡ true → i < length xs → k < length xs → get_or xs i 0 ≡ get_or xs k 0 → i ≡ k

@@ -4,15 +4,14 @@ use Rattle.std.specs.List.Sorted.{IsBinarySearchResult, IsSearchInRange}
 use Rattle.std.specs.Ordering.{nat_cmp}
 use Rattle.std.specs.Result.{result_ok}
 use Rattle.std.proofs.lemmas.Bool.{and_parts, and_from, or_parts, or_left, or_right, cond-true, cond-false, false_from_ne_true}
-use Rattle.std.proofs.lemmas.List.{drop_more, get_or_default}
+use Rattle.std.proofs.lemmas.List.{drop_more}
 use Rattle.std.proofs.Math.ListN.{drop_of_length-le}
 use Rattle.pack_defs.specs.ChannelMap.{IsAscending, channel_of, overlaid, put}
 use Rattle.pack_defs.specs.Lists.{has_station, is_ascending, is_in}
 use Rattle.pack_defs.proofs.Chains.{ascending-skip}
 use Rattle.pack_defs.proofs.MapLemmas.{channel_of-none, put-before, put-behind, put-here, stations}
-use Rattle.pack_defs.proofs.Members.{is_in-from}
 use Rattle.pack_defs.proofs.Searches.{found-key, found-number}
-use Rattle.pack_defs.proofs.Words.{ascending-rest, below-later}
+use Rattle.pack_defs.proofs.Words.{ascending-rest, below-later, after-first}
 use Rattle.auction_core.specs.AirMap.{placed_entries}
 
 -- ---- a search for a place
@@ -47,10 +46,6 @@ none-above s es a = channel_of-none es s (not-above s (stations es) a)
 
 -- ---- the channel of a station is the one at its place
 
-above-first : (s : ℕ) (ss : List ℕ) (i : ℕ) → is_ascending (s ∷ ss) ≡ true → i < length ss → s < get_or ss i 0
-above-first s ss i a l =
-    below-later s ss (get_or ss i 0) a (is_in-from ss (get_or ss i 0) (i, l, get_or_default ss i (get_or ss i 0) 0 l))
-
 channel-there : (ss : List ℕ) (cs : List (Option ℕ)) (i : ℕ) (d : Option ℕ) → is_ascending ss ≡ true → length cs ≡ length ss → i < length ss → channel_of (get_or ss i 0) (placed_entries ss cs) ≡ get_or cs i d
 channel-there [] cs i d a e l = absurd (omega arith)
 channel-there (s ∷ ss) [] i d a e l = absurd (omega arith)
@@ -58,7 +53,7 @@ channel-there (s ∷ ss) (None ∷ cs) zero d a e l = none-above s (placed_entri
 channel-there (s ∷ ss) (Some c ∷ cs) zero d a e l = cond-true (s == s) (Some c) (channel_of s (placed_entries ss cs)) (eq-eqb s s refl)
 channel-there (s ∷ ss) (None ∷ cs) (suc i) d a e l = channel-there ss cs i d (ascending-rest s ss a) (omega arith) (omega arith)
 channel-there (s ∷ ss) (Some c ∷ cs) (suc i) d a e l =
-    let less : s < get_or ss i 0 = above-first s ss i a (omega arith) in
+    let less : s < get_or ss i 0 = after-first s ss i a (omega arith) in
     cond-false (s == get_or ss i 0) (Some c) (channel_of (get_or ss i 0) (placed_entries ss cs)) (ne_eqb s (get_or ss i 0) (λ q. omega arith))
     ∙ channel-there ss cs i d (ascending-rest s ss a) (omega arith) (omega arith)
 
@@ -89,7 +84,7 @@ put-there (s ∷ ss) (Some d ∷ cs) zero c a e l = sym (put-here (s, c) (s, d) 
 put-there (s ∷ ss) (None ∷ cs) (suc i) c a e l = put-there ss cs i c (ascending-rest s ss a) (omega arith) (omega arith)
 put-there (s ∷ ss) (Some d ∷ cs) (suc i) c a e l =
     ap (λ (es : List (ℕ × ℕ)). (s, d) ∷ es) (put-there ss cs i c (ascending-rest s ss a) (omega arith) (omega arith))
-    ∙ sym (put-behind (get_or ss i 0, c) (s, d) (placed_entries ss cs) (above-first s ss i a (omega arith)))
+    ∙ sym (put-behind (get_or ss i 0, c) (s, d) (placed_entries ss cs) (after-first s ss i a (omega arith)))
 
 pub put-at : (ss : List ℕ) (cs : List (Option ℕ)) (i s c : ℕ) → is_ascending ss ≡ true → length cs ≡ length ss → (i < length ss) × (get_or ss i 0 ≡ s) → placed_entries ss (slice_set cs i (Some c)) ≡ put (s, c) (placed_entries ss cs)
 put-at ss cs i s c a e at = subst (λ t. placed_entries ss (slice_set cs i (Some c)) ≡ put (t, c) (placed_entries ss cs)) at.1 (put-there ss cs i c a e at.0)

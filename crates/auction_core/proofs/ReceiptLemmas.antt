@@ -1,5 +1,5 @@
 -- Receipts that are checked one after another.
-use Rattle.std.proofs.Common.{◌≡◌, ◌<◌, ◌+◌, ◌==◌, ◌∷◌, [], ℕ, List, Bool, true, false, if◌then◌else◌, Option, Some, None, option_map, refl, sym, ap, subst, ◌∙◌, arith, length, drop, get_or}
+use Rattle.std.proofs.Common.{◌≡◌, ◌<◌, ◌+◌, ◌==◌, ◌∷◌, ℕ, List, Bool, true, false, if◌then◌else◌, Option, Some, None, option_map, refl, sym, subst, ◌∙◌, length, drop, get_or}
 use Rattle.std.proofs.lemmas.List.{drop_more, get_or_default}
 use Rattle.pack_defs.specs.declared.worker.Worker.{Worker}
 use Rattle.pack_defs.specs.Book.{BookView}
@@ -14,7 +14,7 @@ use Rattle.auction_core.specs.declared.prefix.ShownWhy.TheVariants.{NotValid}
 use Rattle.auction_core.specs.declared.step_err.StepErr.{StepErr}
 use Rattle.auction_core.specs.declared.step_err.StepErr.TheVariants as step
 use Rattle.auction_core.specs.Checked.{IsStepFault, numbered_fault}
-use Rattle.auction_core.specs.NotShown.{or_first_line, receipt_fault, first_place_or, each_fault}
+use Rattle.auction_core.specs.NotShown.{or_first_line, first_place_or, each_fault}
 
 numbered-is : (b : Bool) (fault : Option Place) → numbered_fault b fault ≡ (if b then fault else or_first_line fault)
 numbered-is true fault = refl

@@ -27,6 +27,7 @@ use Rattle.auction_core.proofs.Before.{same-iff, was-active}
 use Rattle.auction_core.proofs.Sets.{AreOffAir, IsLater, asked-own}
 use Rattle.auction_core.proofs.Tied.{all-before, relabelled-parts}
 use Rattle.auction_core.proofs.Walk.{off-air}
+use Rattle.pack_defs.proofs.Words.{same-truth}
 
 -- ---- numbers
 
@@ -176,10 +177,6 @@ asked-rounds sc book U (u ∷ ts) after st t s k each active is =
     ]) refl
 
 -- ---- by the labels
-
-same-truth : (a b : Bool) → (a ≡ true → b ≡ true) → (b ≡ true → a ≡ true) → a ≡ b
-same-truth true b f g = sym (f refl)
-same-truth false b f g = sym (false_from_ne_true b (λ yes. let no_way : false ≡ true = g yes in cc))
 
 -- those with a label are the stations on air, and a test of another station asks of these and that one
 pub asks-with-one : (sc : Scenario) (book : BookView) (clock : ClockState) (parts : PartsView) (s : ℕ) → Contains (facilities sc) s → is_on_air clock s ≡ false → IsPartsOf sc book clock parts → IsWithOne (labelled parts) (asked_set sc clock s) s

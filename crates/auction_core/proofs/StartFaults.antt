@@ -1,34 +1,24 @@
 -- A start without a fault is shown as it has to be, and the other way round.
-use Rattle.std.proofs.Common.{◌≡◌, ℕ, Bool, true, false, if◌then◌else◌, List, [], ◌∷◌, ◌++◌, map, find, Option, Some, None, option_map, is_none, MatchOption, sum_by, refl, sym, ap, subst, ◌∙◌, append_assoc, append-nil}
+use Rattle.std.proofs.Common.{◌≡◌, ℕ, Bool, true, false, if◌then◌else◌, List, [], ◌∷◌, find, Option, Some, None, option_map, is_none, MatchOption, refl, sym, subst}
 use Rattle.pack_defs.specs.declared.scenario.Scenario.{Scenario}
 use Rattle.pack_defs.specs.Book.{BookView, domain_of}
 use Rattle.pack_defs.specs.Lists.{is_empty}
 use Rattle.pack_defs.specs.Prices.{start_set}
 use Rattle.pack_defs.specs.declared.order.Order.{Order}
-use Rattle.pack_defs.specs.ClockRule.{ClockState, ClockTest, FrozenAt, clock_tests, opening_state, after_answer, after_tests, asked_from, clock_rule, asked_tests}
-use Rattle.pack_defs.proofs.TestOrder.{TestsApart, clock_apart}
 use Rattle.cert_types.specs.declared.answer.Place.TheVariants.{Kind}
 use Rattle.cert_types.specs.Valid.{fit_fault, unless}
 use Rattle.cert_types.proofs.Validity.{unless-parts, fit-clean}
 use Rattle.auction_core.specs.declared.record.Shown.{Shown}
 use Rattle.auction_core.specs.declared.record.Shown.TheVariants.{Empty, Fits, Same, NoChannel, Refuted, Outside, Undecided}
 use Rattle.auction_core.specs.declared.record.Step.{Step}
-use Rattle.auction_core.specs.declared.record.Record.{Record}
 use Rattle.auction_core.specs.declared.record.Ending.TheVariants.{Done}
 use Rattle.auction_core.specs.State.{CoreState, before_start, settled, shows_room, start_task, start_unasked, test_of}
-use Rattle.auction_core.specs.Backed.{undecided_of, IsSettledBy, IsStartShown, AreShown, after_start, after_steps, ending_of, IsCarriedThrough, IsEnded, IsBacked}
+use Rattle.auction_core.specs.Backed.{IsSettledBy, IsStartShown, after_start, after_steps, ending_of}
 use Rattle.auction_core.specs.Rule.{IsAuction}
 use Rattle.auction_core.specs.Walked.{IsWalked}
 use Rattle.auction_core.proofs.Keeps.{first-walk}
-use Rattle.auction_core.proofs.Sets.{fits-stand-first}
-use Rattle.auction_core.proofs.Starts.{start-map}
-use Rattle.auction_core.proofs.Steps.{after_steps-steps}
-use Rattle.auction_core.proofs.Done.{AreListed, asked-apart, listed-shown, done-room}
-use Rattle.auction_core.specs.declared.transcript.Transcript.{Transcript}
-use Rattle.auction_core.specs.NotShown.{start_fault, steps_fault, not_shown}
-use Rattle.auction_core.specs.LogNumbers.{steps_in, AreNumbered}
+use Rattle.auction_core.specs.NotShown.{start_fault}
 use Rattle.auction_core.proofs.StepLemmas.{absurd-place, clean-fit}
-use Rattle.auction_core.proofs.WalkLemmas.{step_or-parts, followed, ruled}
 
 -- ---- the start
 

@@ -26,11 +26,11 @@ use Rattle.cert_types.proofs.Meaning.{unless-from}
 use Rattle.auction_core.specs.declared.record.Shown.{Shown}
 use Rattle.auction_core.specs.declared.record.Shown.TheVariants.{Empty, Fits, Same, NoChannel, Refuted, Outside, Undecided}
 use Rattle.auction_core.specs.State.{CoreState, settled_unasked, test_of, test_task}
-use Rattle.auction_core.specs.Backed.{IsValidOf, AreReceipts, IsSettledBy, IsStepShown}
+use Rattle.auction_core.specs.Backed.{AreReceipts, IsSettledBy, IsStepShown}
 use Rattle.auction_core.proofs.Sets.{unasked-cases}
 use Rattle.auction_core.specs.declared.transcript.TranscriptStep.{TranscriptStep}
 use Rattle.auction_core.specs.LogNumbers.{clauses_in, first_number, first_of, firsts_of}
-use Rattle.auction_core.specs.NotShown.{or_first_line, receipt_fault, first_place_or, each_fault, receipts_fault, refuted_fault, outside_log_fault, one_log_fault, query_fault, is_bare, is_like_before, is_unasked_so, unasked_fault, step_fault}
+use Rattle.auction_core.specs.NotShown.{or_first_line, receipt_fault, first_place_or, each_fault, refuted_fault, one_log_fault, query_fault, is_bare, is_like_before, is_unasked_so, unasked_fault, step_fault}
 use Rattle.auction_core.specs.LogNumbers.{IsNumbered}
 
 pub absurd-place : (place : Place) → Some place ≡ None → ⊥

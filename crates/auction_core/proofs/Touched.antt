@@ -5,7 +5,7 @@ use Rattle.std.proofs.lemmas.Bool.{and_parts, and_from, or_cases, or_left, or_ri
 use Rattle.std.proofs.lemmas.List.{get_or-replicate, length-replicate}
 use Rattle.std.proofs.lemmas.List.Elements.{filter_agree, filter_more}
 use Rattle.pack_defs.proofs.Members.{Contains-filter, Contains-from_filter, is_in-from, is_in-gives}
-use Rattle.pack_defs.proofs.Words.{ascending-from, same-ascending}
+use Rattle.pack_defs.proofs.Words.{ascending-from, same-ascending, or_turned}
 use Rattle.pack_defs.specs.Book.{BookView}
 use Rattle.pack_defs.specs.Lists.{is_ascending, is_in}
 use Rattle.pack_defs.specs.declared.scenario.Scenario.{Scenario}
@@ -34,12 +34,6 @@ marks-made label most none low is z = let h = low z in omega (arith, h, ap lengt
 pub marks-kept : (label : ℕ → ℕ) (vs : List ℕ) (before after : List Bool) → ((z : ℕ) → label z < length before) → after ≡ marked label vs before → (z : ℕ) → label z < length after
 marks-kept label vs before after inside is z = let h = inside z in omega (arith, h, ap length is, marked-length label vs before)
 
-or-swap : (a b c : Bool) → (a || (b || c)) ≡ ((b || a) || c)
-or-swap true true c = refl
-or-swap true false c = refl
-or-swap false true c = refl
-or-swap false false c = refl
-
 -- a label is marked where one of these has it, or it was before
 has-mark : (label : ℕ → ℕ) (vs : List ℕ) (marks : List Bool) (l : ℕ) → ((z : ℕ) → label z < length marks) → get_or (marked label vs marks) l false ≡ (list_any (λ v. label v == l) vs || get_or marks l false)
 has-mark label [] marks l inside = refl
@@ -52,7 +46,7 @@ has-mark label (v ∷ vs) marks l inside =
       | true ↦ λ e. subst (λ n. get_or next n false ≡ true) (eqb-true (label v) l e) (get_or-set_same marks (label v) true false (inside v))
       | false ↦ λ e. get_or-set_other marks (label v) l true false (λ k. both_ways (label v == l) e (eq-eqb (label v) l (sym k)))
     ]) refl in
-    rest ∙ (ap (λ b. list_any (λ w. label w == l) vs || b) one ∙ or-swap (list_any (λ w. label w == l) vs) (label v == l) (get_or marks l false))
+    rest ∙ (ap (λ b. list_any (λ w. label w == l) vs || b) one ∙ or_turned (list_any (λ w. label w == l) vs) (label v == l) (get_or marks l false))
 
 -- no station without a label is asked about, so it doesn't matter whether 0 is marked
 some-label : (label : ℕ → ℕ) (vs : List ℕ) (l : ℕ) → (l == 0) ≡ false → list_any (λ v. label v == l) vs ≡ meets label vs l

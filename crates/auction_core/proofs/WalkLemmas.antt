@@ -1,5 +1,5 @@
 -- The walk over the steps of a transcript, beside the walk of the clock rule.
-use Rattle.std.proofs.Common.{◌≡◌, ℕ, ◌+◌, Bool, true, false, ◌&&◌, ◌==◌, if◌then◌else◌, List, [], ◌∷◌, ◌++◌, map, Option, Some, None, Contains, refl, sym, ap, ap₂, subst, ◌∙◌, append_assoc, append-nil, eqb-true, eq-eqb}
+use Rattle.std.proofs.Common.{◌≡◌, ℕ, ◌+◌, Bool, true, false, ◌&&◌, ◌==◌, if◌then◌else◌, List, [], ◌∷◌, ◌++◌, map, Option, Some, None, refl, sym, ap, ap₂, subst, ◌∙◌, append_assoc, append-nil, eqb-true, eq-eqb}
 use Rattle.std.proofs.lemmas.Bool.{and_parts, and_from}
 use Rattle.pack_defs.specs.declared.scenario.Scenario.{Scenario}
 use Rattle.pack_defs.specs.Book.{BookView}
@@ -9,9 +9,8 @@ use Rattle.pack_defs.proofs.ClockSteps.{test_idle}
 use Rattle.pack_defs.proofs.TestOrder.{in_turn}
 use Rattle.cert_types.specs.declared.answer.Place.{Place}
 use Rattle.auction_core.specs.declared.record.Shown.{Shown}
-use Rattle.auction_core.specs.declared.record.Step.{Step}
 use Rattle.auction_core.specs.State.{CoreState, settled, test_of}
-use Rattle.auction_core.specs.Backed.{IsStepShown, AreShown, after_steps}
+use Rattle.auction_core.specs.Backed.{AreShown, after_steps}
 use Rattle.auction_core.specs.Rule.{IsAuction}
 use Rattle.auction_core.specs.Walked.{FitsStand, IsWalked}
 use Rattle.auction_core.proofs.Sets.{fits-stand-step}
@@ -24,14 +23,14 @@ use Rattle.auction_core.specs.NotShown.{NotShown, step_fault, next_asked, fault_
 use Rattle.auction_core.specs.LogNumbers.{steps_in, AreNumbered}
 use Rattle.auction_core.proofs.StepLemmas.{step-shown, step-none}
 
-absurd-fault : (x : NotShown) → Some x ≡ None → ⊥
+pub absurd-fault : (x : NotShown) → Some x ≡ None → ⊥
 absurd-fault x e = cc
 
 pub step_or-parts : (step : ℕ) (o : Option Place) (rest : Option NotShown) → step_fault_or step o rest ≡ None → (o ≡ None) × (rest ≡ None)
 step_or-parts step None rest e = (refl, e)
 step_or-parts step (Some place) rest e = absurd (absurd-fault (record { step = step; why = NotValid place }) e)
 
-if-parts : (b : Bool) (step : ℕ) (o : Option NotShown) → (if b then o else not_shown_at step Order) ≡ None → (b ≡ true) × (o ≡ None)
+pub if-parts : (b : Bool) (step : ℕ) (o : Option NotShown) → (if b then o else not_shown_at step Order) ≡ None → (b ≡ true) × (o ≡ None)
 if-parts true step o e = (refl, e)
 if-parts false step o e = absurd (absurd-fault (record { step = step; why = Order }) e)
 

@@ -14,15 +14,12 @@ use Rattle.batch_cache.specs.Answering.{gives_fit, gives_refutation, moved_by}
 use Rattle.batch_cache.specs.Looks.{fit_found, refutation_found}
 use Rattle.batch_cache.proofs.EntryLemmas.{promoted-first}
 use Rattle.batch_cache.proofs.NoneLaws.{fit-valid, refutation-valid}
+use Rattle.pack_defs.proofs.Words.{mapped-none}
 
 -- what is made of something that was found
 mapped-some : {A B : Type 0} (f : A → B) (o : Option A) (y : B) → option_map f o ≡ Some y → (x : A) × (o ≡ Some x) × (y ≡ f x)
 mapped-some f None y h = cc
 mapped-some f (Some x) y h = (x, refl, cc)
-
-mapped-none : {A B : Type 0} (f : A → B) (o : Option A) → option_map f o ≡ None → o ≡ None
-mapped-none f None h = refl
-mapped-none f (Some x) h = cc
 
 -- a cache of these two
 abbrev pub view_of : LruCache Key (List (ℕ × ℕ)) → LruCache Key Refutation → CacheView

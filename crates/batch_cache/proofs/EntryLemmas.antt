@@ -10,6 +10,7 @@ use Rattle.lru.specs.LruCache.{LruCache, lru_cache, IsValid, promoted, put_entri
 use Rattle.pack_defs.specs.Lists.{same_list}
 use Rattle.batch_cache.specs.declared.key.Key.{Key}
 use Rattle.batch_cache.specs.Kept.{same_key, without_key, to_front, first_kept}
+use Rattle.pack_defs.proofs.Words.{same_list-itself}
 
 -- ---- keys
 
@@ -22,10 +23,6 @@ same_list-is (x ∷ xs) (y ∷ ys) e =
     let first : x ≡ y = eqb-true x y parts.0 in
     let rest : xs ≡ ys = same_list-is xs ys parts.1 in
     cc
-
-same_list-itself : (xs : List ℕ) → same_list xs xs ≡ true
-same_list-itself [] = refl
-same_list-itself (x ∷ xs) = and_from (x == x) (same_list xs xs) (eq-eqb x x refl) (same_list-itself xs)
 
 same_key-is : (k l : Key) → same_key k l ≡ true → k ≡ l
 same_key-is k l e =

@@ -4,7 +4,7 @@ use Rattle.std.specs.Prelude.{slice_get}
 use Rattle.std.proofs.lemmas.Bool.Decides.{nat_tests}
 use Rattle.pack_defs.specs.ChannelMap.{IsAscending}
 use Rattle.pack_defs.specs.Lists.{has_entry, is_in, same_entry}
-use Rattle.pack_defs.proofs.Words.{one-entry}
+use Rattle.pack_defs.proofs.Words.{one-entry, same_entry-itself}
 
 or-true : (b : Bool) → (b || true) ≡ true
 or-true true = refl
@@ -20,14 +20,11 @@ number-stands (x ∷ xs) zero n h =
     ap (λ (m : ℕ). (m == n) || is_in xs n) same ∙ ap (λ (b : Bool). b || is_in xs n) (same-self n)
 number-stands (x ∷ xs) (suc p) n h = ap (λ (b : Bool). (x == n) || b) (number-stands xs p n h) ∙ or-true (x == n)
 
-entry-same : (x : ℕ × ℕ) → same_entry x x ≡ true
-entry-same x = ap (λ (b : Bool). b && (x.1 == x.1)) (same-self x.0) ∙ same-self x.1
-
 entry-stands : (es : List (ℕ × ℕ)) (p : ℕ) (x : ℕ × ℕ) → slice_get es p ≡ Some x → has_entry es x ≡ true
 entry-stands [] p x h = cc
 entry-stands (e ∷ es) zero x h =
     let same : e ≡ x = cc in
-    ap (λ (y : ℕ × ℕ). same_entry y x || has_entry es x) same ∙ ap (λ (b : Bool). b || has_entry es x) (entry-same x)
+    ap (λ (y : ℕ × ℕ). same_entry y x || has_entry es x) same ∙ ap (λ (b : Bool). b || has_entry es x) (same_entry-itself x)
 entry-stands (e ∷ es) (suc p) x h = ap (λ (b : Bool). same_entry e x || b) (entry-stands es p x h) ∙ or-true (same_entry e x)
 
 -- the channel at the station's place tells whether the map has its entry

@@ -8,14 +8,14 @@ use Rattle.clause_db.specs.declared.lit.Lit.{Lit}
 use Rattle.clause_db.specs.Clause.{opposite, same_lit, has_lit, clause_at}
 use Rattle.clause_db.specs.Clauses.{Clauses}
 use Rattle.clause_db.specs.Forced.{is_false_clause, not_false, only_open, forced_by}
-use Rattle.clause_db.proofs.Literals.{same_lit-is, lit-parts, has-push_new}
+use Rattle.clause_db.proofs.Literals.{same_lit-is, lit-parts, has-push_new, open-kept}
 use Rattle.rup_check.specs.declared.error.LineErr.{LineErr}
 use Rattle.rup_check.specs.Follows.{line_fault, hints_fault, end_fault, with_forced, after_hint, fault_or, has_bad_lits, has_repeat}
 use Rattle.trail_prop.specs.declared.entry.TrailEntry.{TrailEntry}
 use Rattle.trail_prop.specs.Entries.{lits_of}
 use Rattle.trail_prop.specs.Trails.{EachFits, IsTrail, HasReason, forced_at, IsFalseAt}
 use Rattle.trail_prop.proofs.Known.{open-apart}
-use Rattle.trail_prop.proofs.Forcing.{only_open-is, kept-here}
+use Rattle.trail_prop.proofs.Forcing.{only_open-is}
 use Rattle.trail_prop.proofs.Opening.{lits-push}
 use Rattle.cdcl_prove.specs.Analysis.{entries_passing, reason_of, learnt_line_of, hints_of, IsMetAt, IsReasonMet, AreClosed}
 
@@ -80,7 +80,7 @@ same-open kept resolved entries before (l ∷ ls) sub met unkept = step (λ o. s
         ∙ ih o
     step ih false e o =
         let k = unknown-where kept resolved entries before (opposite l) (All-head (λ (m : Lit). kept m.var ≡ false) l (not_false (lits_of before) ls) o) e in
-        kept-here (known_at kept resolved entries before) ls l k
+        open-kept (known_at kept resolved entries before) ls l k
         ∙ ap (λ (z : List Lit). l ∷ z) (ih (All-tail (λ (m : Lit). kept m.var ≡ false) l (not_false (lits_of before) ls) o))
 
 -- so the reason of an entry that is resolved away forces it

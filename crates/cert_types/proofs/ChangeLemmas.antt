@@ -6,12 +6,12 @@ use Rattle.pack_defs.specs.Book.{BookView, domain_of}
 use Rattle.pack_defs.specs.ChannelMap.{IsAscending, overlaid}
 use Rattle.pack_defs.specs.Lists.{has_entry, has_station, is_ascending, is_in}
 use Rattle.pack_defs.proofs.Members.{is_in-from, is_in-gives, list_all-from, list_all-gives}
-use Rattle.pack_defs.proofs.Words.{Contains-from_has_entry, has_entry-from_Contains, list_all-at}
+use Rattle.pack_defs.proofs.Words.{Contains-from_has_entry, has_entry-from_Contains, list_all-at, mapped-none}
 use Rattle.assign_check.specs.declared.fault.MapFault.TheVariants.{Violates}
 use Rattle.assign_check.specs.Changes.{violates_at_some}
 use Rattle.assign_check.specs.Fault.{first_fault, is_violated, IsCleanOn}
 use Rattle.assign_check.proofs.Changed.{none-changed_violated, none-violated_changed}
-use Rattle.assign_check.proofs.Faultless.{faultless, found-none, no-violation, no_map, not-joined}
+use Rattle.assign_check.proofs.Faultless.{faultless, found-none, no-violation, not-joined}
 use Rattle.assign_check.proofs.Overlays.{change-stands, overlaid-from, overlaid-has, overlaid-keeps}
 use Rattle.cert_types.specs.declared.task.Task.{Task}
 use Rattle.cert_types.specs.Query.{IsQuery, has_others, is_named, is_on_domains}
@@ -48,7 +48,7 @@ pub fits-changed : (book : BookView) (task : Task) (delta : List (ℕ × ℕ)) �
 fits-changed book task delta query named on e =
     let map = overlaid task.last delta in
     let parts = query-parts book task query in
-    let none = found-none (is_violated map) book.pairs (no_map Violates (find (is_violated map) book.pairs) (none-violated_changed book task.last delta parts.clean e)) in
+    let none = found-none (is_violated map) book.pairs (mapped-none Violates (find (is_violated map) book.pairs) (none-violated_changed book task.last delta parts.clean e)) in
     let clean : IsCleanOn book task.set map = record {
       each = has-each task.station task.set task.last delta parts.others named;
       only = λ x h. (either-on book task.set task.last delta x parts.domains on h).0;
@@ -72,7 +72,7 @@ fit-on_domains book task delta a e =
 pub fit-violates_none : (book : BookView) (task : Task) (delta : List (ℕ × ℕ)) → fit_fault book task delta ≡ None → violates_at_some book (overlaid task.last delta) delta ≡ false
 fit-violates_none book task delta e =
     let map = overlaid task.last delta in
-    none-changed_violated book map delta (no-violation book task.set map (no_map place_of (first_fault book task.set map) e))
+    none-changed_violated book map delta (no-violation book task.set map (mapped-none place_of (first_fault book task.set map) e))
 
 -- ---- the test by its steps
 

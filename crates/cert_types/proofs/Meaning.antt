@@ -8,7 +8,7 @@ use Rattle.pack_defs.specs.declared.worker.Worker.{Worker}
 use Rattle.pack_defs.specs.Book.{BookView}
 use Rattle.pack_defs.specs.ChannelMap.{overlaid}
 use Rattle.assign_check.specs.Fault.{IsCleanOn}
-use Rattle.assign_check.proofs.Faultless.{faultless, no_map}
+use Rattle.assign_check.proofs.Faultless.{faultless}
 use Rattle.cnf_encode.specs.Formula.{packing_formula, variables_in}
 use Rattle.rup_check.specs.declared.line.Line.{Line}
 use Rattle.rup_check.specs.declared.line.Log.{Log}
@@ -27,6 +27,7 @@ use Rattle.cert_types.specs.Valid.{answer_fault, learns, place_of, unless, IsVal
 use Rattle.cert_types.specs.Walks.{first_move, start_map}
 use Rattle.cert_types.proofs.Validity.{unless-parts, fit-clean, proof-follows, proof_line, some_line}
 use Rattle.cert_types.proofs.SpentLaws.{is-none, then-none, lines-spent, spent-lines, moves-spent, spent-moves}
+use Rattle.pack_defs.proofs.Words.{mapped-none}
 
 pub unless-from : (b : Bool) (place : Place) (rest : Option Place) → b ≡ true → rest ≡ None → unless b place rest ≡ None
 unless-from true place rest e f = f
@@ -74,7 +75,7 @@ proof-means book task worker subset log e =
     let count = unless-parts counted Count (unless (is_subset subset task.set) Subset (option_map LineAt (proof_line book subset lines))) kind.1 in
     let sub = unless-parts (is_subset subset task.set) Subset (option_map LineAt (proof_line book subset lines)) count.1 in
     let some = and_parts (nat_lt 0 (length lines)) (nat_le (length lines) worker.budget) count.0 in
-    let both = proof-follows (variables_in book subset) (packing_formula book subset) 1 lines (some_line lines some.0) (no_map LineAt (proof_line book subset lines) sub.1) in
+    let both = proof-follows (variables_in book subset) (packing_formula book subset) 1 lines (some_line lines some.0) (mapped-none LineAt (proof_line book subset lines) sub.1) in
     record {
       by_learner = kind.0;
       some_line = ltb-true 0 (length lines) some.0;
@@ -105,7 +106,7 @@ lines-means book task worker log e =
     record {
       by_learner = kind.0;
       whole_budget = eqb-true (length log.lines) worker.budget count.0;
-      spent = lines-spent (variables_in book task.set) (packing_formula book task.set) 1 log.lines (no_map LineAt (spent_line book task log.lines) count.1);
+      spent = lines-spent (variables_in book task.set) (packing_formula book task.set) 1 log.lines (mapped-none LineAt (spent_line book task log.lines) count.1);
     }
 
 pub means-lines : (book : BookView) (task : Task) (worker : Worker) (log : Log) → IsSpentLog book task worker log.lines → IsValid book task worker (Spent (Lines log))
@@ -126,7 +127,7 @@ moves-means book task worker moves e =
     record {
       by_walker = not-true (learns worker.kind) kind.0;
       whole_budget = eqb-true (length moves) worker.budget count.0;
-      spent = moves-spent book (start_map book task.last task.set) 1 moves (no_map MoveAt (spent_move book task moves) count.1);
+      spent = moves-spent book (start_map book task.last task.set) 1 moves (mapped-none MoveAt (spent_move book task moves) count.1);
     }
 
 pub means-moves : (book : BookView) (task : Task) (worker : Worker) (moves : List (ℕ × ℕ)) → IsSpentWalk book task worker moves → IsValid book task worker (Spent (Moves moves))

@@ -8,7 +8,7 @@ use Rattle.pack_defs.specs.declared.worker.Worker.{Worker}
 use Rattle.pack_defs.specs.Lists.{is_empty}
 use Rattle.pack_defs.specs.ChannelMap.{overlaid}
 use Rattle.assign_check.specs.Fault.{first_fault, IsCleanOn}
-use Rattle.assign_check.proofs.Faultless.{clean-on, no_map}
+use Rattle.assign_check.proofs.Faultless.{clean-on}
 use Rattle.cnf_encode.specs.Formula.{packing_formula, variables_in}
 use Rattle.rup_check.specs.declared.line.Line.{Line}
 use Rattle.rup_check.specs.Follows.{line_fault, lines_fault, ends_empty}
@@ -22,6 +22,7 @@ use Rattle.cert_types.specs.declared.answer.Place.TheVariants.{Kind, Count, Subs
 use Rattle.cert_types.specs.FirstLine.{first_line}
 use Rattle.cert_types.specs.Refutes.{Refutes, ByLog, ByPair, is_dead, is_subset, is_proof_line}
 use Rattle.cert_types.specs.Valid.{answer_fault, fit_fault, learns, place_of, unless}
+use Rattle.pack_defs.proofs.Words.{mapped-none}
 
 pub unless-parts : (b : Bool) (place : Place) (rest : Option Place) → unless b place rest ≡ None → (b ≡ true) × (rest ≡ None)
 unless-parts true place rest e = (refl, e)
@@ -71,11 +72,11 @@ valid-refutes book task worker (Proof subset log) e =
     let count = unless-parts counted Count (unless (is_subset subset task.set) Subset (option_map LineAt (proof_line book subset log.lines))) kind.1 in
     let sub = unless-parts (is_subset subset task.set) Subset (option_map LineAt (proof_line book subset log.lines)) count.1 in
     let some = and_parts (nat_lt 0 (length log.lines)) (nat_le (length log.lines) worker.budget) count.0 in
-    let both = proof-follows (variables_in book subset) (packing_formula book subset) 1 log.lines (some_line log.lines some.0) (no_map LineAt (proof_line book subset log.lines) sub.1) in
+    let both = proof-follows (variables_in book subset) (packing_formula book subset) 1 log.lines (some_line log.lines some.0) (mapped-none LineAt (proof_line book subset log.lines) sub.1) in
     ByLog subset log.lines sub.0 both.0 both.1
 valid-refutes book task worker (Dead p) e = ByPair p (unless-parts (is_dead book task.set p) (PairOf p) None e).0
 
 -- a fit without fault leaves a clean map of exactly the task's set
 pub fit-clean : (book : BookView) (task : Task) (delta : List (ℕ × ℕ)) → fit_fault book task delta ≡ None → IsCleanOn book task.set (overlaid task.last delta)
 fit-clean book task delta e =
-    clean-on book task.set (overlaid task.last delta) (no_map place_of (first_fault book task.set (overlaid task.last delta)) e)
+    clean-on book task.set (overlaid task.last delta) (mapped-none place_of (first_fault book task.set (overlaid task.last delta)) e)

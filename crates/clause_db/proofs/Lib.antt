@@ -1,3 +1,4 @@
 pub mod Cutting
+pub mod ChangedLists
 pub mod Literals
 pub mod Numbering

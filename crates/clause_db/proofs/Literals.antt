@@ -1,8 +1,11 @@
 -- Literals: when two are one, and what one more literal changes.
-use Rattle.std.proofs.Common.{◌≡◌, ◌≢◌, ℕ, ◌+◌, ◌<◌, Bool, true, false, not, ◌||◌, ◌==◌, if◌then◌else◌, List, [], ◌∷◌, ◌++◌, length, drop, get_or, refl, sym, ap, ◌∙◌, eqb-true, eq-eqb, drop-cons, add-one}
+use Rattle.std.proofs.Common.{◌≡◌, ◌≢◌, ℕ, ◌+◌, ◌<◌, Bool, true, false, not, ◌||◌, ◌==◌, if◌then◌else◌, List, [], ◌∷◌, ◌++◌, length, drop, get_or, refl, sym, ap, ◌∙◌, eqb-true, eq-eqb, drop-cons, add-one, ◌-◌, ◌*◌, ◌≤◌, cond, take, arith}
 use Rattle.std.proofs.lemmas.Bool.{and_parts, and_from, or_right, false_from_ne_true, false≢true}
 use Rattle.clause_db.specs.declared.lit.Lit.{Lit}
-use Rattle.clause_db.specs.Clause.{same_lit, has_lit}
+use Rattle.clause_db.specs.Clause.{same_lit, has_lit, opposite, code_of}
+use Rattle.std.proofs.lemmas.List.{take-append-drop}
+use Rattle.clause_db.specs.Clauses.{LitWithin}
+use Rattle.clause_db.specs.Forced.{not_false}
 
 same_sign : (a b : Bool) → (if a then b else not b) ≡ true → a ≡ b
 same_sign true true e = refl
@@ -58,3 +61,30 @@ has-push_other known x l n = has-push known x l ∙ rw (same_lit-apart l x n) (o
 -- a list from a place on: its element there, and the rest
 pub drop-from : {A : Type 0} (xs : List A) (i : ℕ) (d : A) → i < length xs → drop i xs ≡ get_or xs i d ∷ drop (i + 1) xs
 drop-from xs i d h = drop-cons xs i d h ∙ rw add-one refl
+
+-- what a clause keeps of a literal in front
+pub open-skipped : (known rest : List Lit) (l : Lit) → has_lit known (opposite l) ≡ true → not_false known (l ∷ rest) ≡ not_false known rest
+open-skipped known rest l e = ap (λ (b : Bool). cond (not b) (l ∷ not_false known rest) (not_false known rest)) e
+
+pub open-kept : (known rest : List Lit) (l : Lit) → has_lit known (opposite l) ≡ false → not_false known (l ∷ rest) ≡ l ∷ not_false known rest
+open-kept known rest l e = ap (λ (b : Bool). cond (not b) (l ∷ not_false known rest) (not_false known rest)) e
+
+pub split-at : (xs : List Lit) (i : ℕ) (d : Lit) → i < length xs → xs ≡ take i xs ++ get_or xs i d ∷ drop (i + 1) xs
+split-at xs i d h = sym (take-append-drop i xs) ∙ ap (λ (z : List Lit). take i xs ++ z) (drop-from xs i d h)
+
+-- a literal's code names it, and stays below twice the variables
+codes : (v w : ℕ) (a b : Bool) → 1 ≤ v → 1 ≤ w → (if a then 2 * (v - 1) else 2 * (v - 1) + 1) ≡ (if b then 2 * (w - 1) else 2 * (w - 1) + 1) → (v ≡ w) × (a ≡ b)
+codes v w true true p q e = (omega arith, refl)
+codes v w true false p q e = absurd (omega arith)
+codes v w false true p q e = absurd (omega arith)
+codes v w false false p q e = (omega arith, refl)
+
+pub code-is : (vars : ℕ) (l m : Lit) → LitWithin vars l → LitWithin vars m → code_of l ≡ code_of m → l ≡ m
+code-is vars l m p q e = let r = codes l.var m.var l.positive m.positive p.0 q.0 e in lit-parts l m r.0 r.1
+
+code_below : (v vars : ℕ) (a : Bool) → 1 ≤ v → v ≤ vars → (if a then 2 * (v - 1) else 2 * (v - 1) + 1) < 2 * vars
+code_below v vars true p q = omega arith
+code_below v vars false p q = omega arith
+
+pub code-below : (vars : ℕ) (l : Lit) → LitWithin vars l → code_of l < 2 * vars
+code-below vars l p = code_below l.var vars l.positive p.0 p.1

@@ -14,7 +14,7 @@ use Rattle.cnf_encode.specs.Formula.{choices, number_of, variable_of, station_va
 use Rattle.cnf_encode.specs.Decode.{model_of}
 use Rattle.cnf_encode.proofs.Decoding.{some-holds}
 use Rattle.cnf_encode.proofs.PairLemmas.{list_all-filter}
-use Rattle.pack_defs.proofs.Words.{list_all-map, list_all-flat_map, same_entry-same, same_entry-itself, Contains-from_has_entry, below-later, ascending-rest, station-in, one-entry, pair-forbids}
+use Rattle.pack_defs.proofs.Words.{list_all-map, list_all-flat_map, same_entry-same, same_entry-itself, Contains-from_has_entry, below-later, ascending-rest, station-in, one-entry, pair-forbids, list_any-at, its-entry}
 
 -- a clean map of exactly an ascending set, where domains ascend
 record IsMapOf (book : BookView) (set : List ℕ) (entries : List (ℕ × ℕ)) : Type 0 where
@@ -89,20 +89,6 @@ choices-have book (t ∷ ts) s c h k =
     (λ r. or_right (has_entry (map (λ d. (t, d)) (domain_of book t)) (s, c)) (has_entry (choices book ts) (s, c)) (choices-have book ts s c r k))
     (or_cases (t == s) (is_in ts s) h)
 
-any-at : (p : ℕ → Bool) (cs : List ℕ) (c : ℕ) → is_in cs c ≡ true → p c ≡ true → list_any p cs ≡ true
-any-at p [] c h k = h
-any-at p (d ∷ ds) c h k =
-    ⊎_elim (λ e. or_left (p d) (list_any p ds) (subst (λ z. p z ≡ true) (sym (eqb-true d c e)) k)) (λ r. or_right (p d) (list_any p ds) (any-at p ds c r k)) (or_cases (d == c) (is_in ds c) h)
-
--- a station of the map has an entry
-its-entry : (es : List (ℕ × ℕ)) (s : ℕ) → is_in (map (λ y. y.0) es) s ≡ true → (c : ℕ) × (has_entry es (s, c) ≡ true)
-its-entry [] s h = cc
-its-entry (e ∷ es) s h =
-    ⊎_elim
-    (λ k. (e.1, or_left (same_entry e (s, e.1)) (has_entry es (s, e.1)) (and_from (e.0 == s) (e.1 == e.1) k (eq-eqb e.1 e.1 refl))))
-    (λ r. let rest = its-entry es s r in (rest.0, or_right (same_entry e (s, rest.0)) (has_entry es (s, rest.0)) rest.1))
-    (or_cases (e.0 == s) (is_in (map (λ y. y.0) es) s) h)
-
 not-both : (v w : Bool) → (v ≡ true → w ≡ true → ⊥) → (not v || (not w || false)) ≡ true
 not-both true true f = absurd (f refl refl)
 not-both true false f = refl
@@ -129,7 +115,7 @@ least-holds book set entries h =
     let its = its-entry entries s (subst (λ z. is_in z s ≡ true) (sym h.packing.stations) (is_in-from set s m)) in
     let on : is_in (domain_of book s) its.0 ≡ true = is_in-from (domain_of book s) its.0 (h.packing.clean.on_domain (s, its.0) (Contains-from_has_entry entries (s, its.0) its.1)) in
     some-holds model (λ c. variable_of book set (s, c)) (domain_of book s) ∙
-    any-at (λ c. model (variable_of book set (s, c))) (domain_of book s) its.0 on (entry-true (choices book set) entries (s, its.0) its.1))
+    list_any-at (λ c. model (variable_of book set (s, c))) (domain_of book s) its.0 on (entry-true (choices book set) entries (s, its.0) its.1))
 
 most-of : (book : BookView) (set : List ℕ) (entries : List (ℕ × ℕ)) (s : ℕ) (cs : List ℕ) → IsMapOf book set entries → is_ascending cs ≡ true → list_all (clause_holds (model_of book set entries)) (at_most_one (map (λ c. variable_of book set (s, c)) cs)) ≡ true
 most-of book set entries s [] h a = refl

@@ -12,17 +12,11 @@ use Rattle.std.proofs.lemmas.List.Sorted.{list_any-IsPermutation}
 use Rattle.std.proofs.lemmas.Map.Lookups.{CmpEqualImpliesEq, btree_set_from_contains}
 use Rattle.std.proofs.lemmas.Map.Views.{tells_apart}
 use Rattle.std.proofs.Math.Bool.{or-false}
-use Rattle.pack_defs.proofs.Words.{swap_or}
+use Rattle.pack_defs.proofs.Words.{swap_or, or_turned}
 
 or-twice : (a b : Bool) → (a || b) ≡ (a || (a || b))
 or-twice true b = refl
 or-twice false b = refl
-
-or-moved : (a b c : Bool) → (a || (b || c)) ≡ ((b || a) || c)
-or-moved true true c = refl
-or-moved true false c = refl
-or-moved false true c = refl
-or-moved false false c = refl
 
 module _ {K : Type 0} {R : K → K → Ordering} (o : IsTotalOrder R) (exact : CmpEqualImpliesEq R) where
   abbrev has : List K → K → Bool
@@ -42,7 +36,7 @@ module _ {K : Type 0} {R : K → K → Ordering} (o : IsTotalOrder R) (exact : C
   has-all : (ks ps : List K) (q : K) → has (fold (insert_key R) ks ps) q ≡ (has ps q || has ks q)
   has-all ks [] q = refl
   has-all ks (p ∷ ps) q =
-      has-all (insert_key R ks p) ps q ∙ ap (λ b. has ps q || b) (has-insert ks p q) ∙ or-moved (has ps q) (is_eq (R q p)) (has ks q)
+      has-all (insert_key R ks p) ps q ∙ ap (λ b. has ps q || b) (has-insert ks p q) ∙ or_turned (has ps q) (is_eq (R q p)) (has ks q)
 
   weaker : (k x : K) → R k x ≡ Less → (xs : List K) → AllByRecursion (λ y. R x y ≡ Less) xs → AllByRecursion (λ y. R k y ≡ Less) xs
   weaker k x below [] all = tt

@@ -52,7 +52,7 @@ insert-pairs ks [] = refl
 insert-pairs ks (p ∷ ps) = rw (insert-pair ks p) (insert-pairs (with_pair ks p) ps)
 
 -- a pair more
-with-few : (ks : List Pair) (p : Pair) → length (with_pair ks p) ≤ length ks + 1
+pub with-few : (ks : List Pair) (p : Pair) → length (with_pair ks p) ≤ length ks + 1
 with-few [] p = omega arith
 with-few (q ∷ qs) p = go (comes_before q p) (comes_before p q) (with-few qs p)
   where

@@ -3,13 +3,13 @@ use Rattle.std.proofs.Common.{◌≡◌, ◌≢◌, ℕ, zero, suc, ◌+◌, ◌
 use Rattle.std.specs.Prelude.{IfSome}
 use Rattle.std.specs.List.{list_any, list_all}
 use Rattle.std.specs.Option.{is_some}
-use Rattle.std.proofs.lemmas.Bool.{and_from, and_parts, cases_lt, cond-true, cond-false, or_from, or_parts, or_cases, or_left, or_right, false≢true, not-true}
+use Rattle.std.proofs.lemmas.Bool.{and_from, and_parts, cases_lt, cond-true, cond-false, or_left, or_right, false≢true, not-true}
 use Rattle.std.proofs.lemmas.List.{drop_more, get_or-replicate, get_or-set_same, get_or-set_other, length-replicate}
 use Rattle.std.proofs.Math.Seq.{take-append_seam}
 use Rattle.pack_defs.specs.declared.pair.Pair.{Pair}
 use Rattle.pack_defs.specs.Book.{BookView, IsInOrder, domain_of, is_of_two}
-use Rattle.pack_defs.specs.ChannelMap.{IsAscending, channel_of, overlaid, put}
-use Rattle.pack_defs.specs.Lists.{has_entry, is_ascending, is_in}
+use Rattle.pack_defs.specs.ChannelMap.{IsAscending, overlaid}
+use Rattle.pack_defs.specs.Lists.{has_entry, is_in}
 use Rattle.pack_defs.proofs.MapLemmas.{put-before, put-behind, put-here}
 use Rattle.assign_check.specs.Changes.{violates_at_some}
 use Rattle.assign_check.specs.Fault.{is_violated}
@@ -23,6 +23,7 @@ use Rattle.first_looks.specs.declared.mend.Proposal.{Proposal}
 use Rattle.first_looks.specs.declared.ways.Blocker.TheVariants.{No}
 use Rattle.first_looks.specs.declared.ways.ChannelWay.{ChannelWay}
 use Rattle.first_looks.specs.Free.{AreWays, IsFreeProposal, IsFreeWay, blocks_first, blocks_second, changed, is_free, is_way_open, stood, way_at}
+use Rattle.pack_defs.proofs.Words.{list_any-at}
 
 -- ---- how others stand
 
@@ -123,18 +124,10 @@ which-step t cs i d best new l h (inl e) = subst (λ o. IfSome o (λ c. (is_in c
 which-step t cs i d best new l h (inr e) =
     subst (λ o. IfSome o (λ c. (is_in cs c ≡ true) × (t c ≡ true))) (sym e.0) (is_in-at cs i d l, e.1)
 
-some-of : (t : ℕ → Bool) (cs : List ℕ) (c : ℕ) → is_in cs c ≡ true → t c ≡ true → list_any t cs ≡ true
-some-of t [] c h e = cc
-some-of t (x ∷ xs) c h e =
-    elim (or_cases (x == c) (is_in xs c) h) [
-      | inl same ↦ or_left (t x) (list_any t xs) (subst (λ z. t z ≡ true) (sym (eqb-true x c same)) e)
-      | inr rest ↦ or_right (t x) (list_any t xs) (some-of t xs c rest e)
-    ]
-
 -- where a channel of the domain is free, one is found
 pub found-free : (book : BookView) (entries : List (ℕ × ℕ)) (s c : ℕ) (ways : List ChannelWay) (domain : List ℕ) (none : Bool) → AreWays book entries s ways → domain ≡ domain_of book s → none ≡ list_any (λ z. is_way_open (way_at ways z)) domain → is_in (domain_of book s) c ≡ true → is_free book entries s c ≡ true → none ≡ true
 found-free book entries s c ways domain none are is n h f =
-    n ∙ some-of (λ z. is_way_open (way_at ways z)) domain c (ap (λ (z : List ℕ). is_in z c) is ∙ h) (are.free c ∙ f)
+    n ∙ list_any-at (λ z. is_way_open (way_at ways z)) domain c (ap (λ (z : List ℕ). is_in z c) is ∙ h) (are.free c ∙ f)
 
 -- ---- a channel alone as a fit
 

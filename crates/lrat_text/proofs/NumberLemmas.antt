@@ -1,30 +1,24 @@
 -- Numbers that are written, read again.
-use Rattle.std.proofs.Common.{◌≡◌, ◌<◌, ◌≤◌, ◌^◌, ◌∷◌, [], ℕ, List, Bool, true, false, Some, refl, arith, length, ne_eqb, decimal}
+use Rattle.std.proofs.Common.{◌≡◌, ◌<◌, ◌≤◌, ◌^◌, ◌∷◌, [], ℕ, List, Bool, true, false, Some, refl, arith, ne_eqb, decimal}
 use Rattle.std.specs.Char.{is_ascii_digit}
 use Rattle.std.specs.Str.{all_ascii_digits}
 use Rattle.std.specs.Str.Parse.{digits_value}
 use Rattle.std.proofs.lemmas.Bool.{and_parts, leb-true, le-leb}
 use Rattle.std.proofs.lemmas.Fmt.{decimal_nonempty, digits_decimal, digits_value-decimal}
-use Rattle.std.proofs.lemmas.Str.Parse.{IsNumeralModel, numerals_by_value, tells_all_ascii_digits}
 use Rattle.pack_defs.specs.Lists.{is_empty}
 use Rattle.clause_db.specs.declared.lit.Lit.{Lit}
 use Rattle.lrat_text.specs.declared.field.Field.TheVariants.{End, Number}
 use Rattle.lrat_text.specs.LogText.{greatest, lit_text, zero_field, IsLitSpelled}
 use Rattle.lrat_text.specs.LogReading.{natural, field_of, signed_of}
 use Rattle.lrat_text.proofs.LineLemmas.{IsWord, IsField}
-
-own : IsNumeralModel (λ ds. all_ascii_digits ds ≡ true) (digits_value 10)
-own = numerals_by_value _ tells_all_ascii_digits
+use Rattle.pack_defs.proofs.Words.{not-empty}
+use Rattle.pack_defs.proofs.Digits.{own-numerals}
 
 pub all-digits : (n : ℕ) → n < 2 ^ 64 → all_ascii_digits (decimal n) ≡ true
-all-digits n h = digits_decimal own n h
+all-digits n h = digits_decimal own-numerals n h
 
 pub value-again : (n : ℕ) → n < 2 ^ 64 → digits_value 10 (decimal n) ≡ n
-value-again n h = digits_value-decimal own n h
-
-not-empty : (xs : List ℕ) → 0 < length xs → is_empty xs ≡ false
-not-empty [] h = absurd (omega arith)
-not-empty (x ∷ xs) h = refl
+value-again n h = digits_value-decimal own-numerals n h
 
 pub decimal-not-empty : (n : ℕ) → n < 2 ^ 64 → is_empty (decimal n) ≡ false
 decimal-not-empty n h = not-empty (decimal n) (decimal_nonempty n h)

@@ -1,5 +1,5 @@
 -- A plain text is the text of the log that it says.
-use Rattle.std.proofs.Common.{◌≡◌, ◌<◌, ◌≤◌, ◌+◌, ◌∙◌, ◌∷◌, ◌++◌, [], ℕ, zero, suc, List, Bool, true, false, Option, Some, None, Result, Ok, Err, refl, sym, ap, subst, arith, length, map, get_or, ne_eqb, eq-eqb, decimal, inl, inr, if◌then◌else◌, not, ◌&&◌, ◌==◌, append-nil, append_assoc}
+use Rattle.std.proofs.Common.{◌≡◌, ◌≤◌, ◌+◌, ◌∙◌, ◌∷◌, ◌++◌, [], ℕ, zero, suc, List, Bool, true, false, Option, Some, None, Result, Ok, Err, refl, sym, ap, subst, arith, length, map, get_or, ne_eqb, eq-eqb, decimal, inl, inr, if◌then◌else◌, not, ◌&&◌, ◌==◌, append-nil, append_assoc}
 use Rattle.std.specs.Prelude.{codes, nat_le}
 use Rattle.std.specs.Fmt.{digits}
 use Rattle.std.specs.List.{flat_map, list_all}
@@ -7,7 +7,6 @@ use Rattle.std.specs.Str.{all_ascii_digits, bytes_eq}
 use Rattle.std.specs.Str.Parse.{digits_value}
 use Rattle.std.proofs.lemmas.Bool.{and_parts, cases_eq, eqb-true, leb-true, le-leb, lt-leb, cases_lt, not-true}
 use Rattle.std.proofs.lemmas.Fmt.{decimal-digits_value}
-use Rattle.std.proofs.lemmas.Str.Parse.{IsNumeralModel, numerals_by_value, tells_all_ascii_digits}
 use Rattle.pack_defs.specs.Lists.{is_empty}
 use Rattle.clause_db.specs.declared.lit.Lit.{Lit}
 use Rattle.rup_check.specs.declared.line.Line.{Line}
@@ -23,6 +22,8 @@ use Rattle.lrat_text.specs.LogReading.{LogRead, natural, signed_of, field_of, lo
 use Rattle.lrat_text.specs.OneSpelling.{has_no_nought, is_shortest, IsNumberedLine, ArePlain}
 use Rattle.lrat_text.proofs.LogLemmas.{run, run-more, is-next, not-letter}
 use Rattle.lrat_text.proofs.NumberLemmas.{digits-signed}
+use Rattle.pack_defs.proofs.Digits.{own-numerals}
+use Rattle.pack_defs.proofs.Words.{some-length}
 
 -- ---- lines with their ends
 
@@ -44,9 +45,6 @@ whole-text (c ∷ d ∷ rest) h = elim (cases_eq c 10) [
 ]
 
 -- ---- words
-
-own : IsNumeralModel (λ ds. all_ascii_digits ds ≡ true) (digits_value 10)
-own = numerals_by_value _ tells_all_ascii_digits
 
 -- what a number's word is like
 pub record IsNatural (most : ℕ) (word : List ℕ) (n : ℕ) : Type 0 where
@@ -78,15 +76,11 @@ lone (c ∷ d ∷ rest) h e s = absurd (differ (not-true (c == 48) h) (eq-eqb c 
     differ : (c == 48) ≡ false → (c == 48) ≡ true → ⊥
     differ p q = cc
 
-some-length : (word : List ℕ) → is_empty word ≡ false → 0 < length word
-some-length [] s = absurd cc
-some-length (c ∷ rest) s = omega arith
-
 -- a number's word in its shortest spelling is what is written of it
 pub word-of-natural : (word : List ℕ) (n : ℕ) → natural greatest word ≡ Some n → has_no_nought word ≡ true → word ≡ decimal n
 word-of-natural word n e h =
     let is = natural-is greatest word n e in
-    let again = decimal-digits_value own word is.digits (some-length word is.some) (λ z. lone word h z is.some) (omega (arith, is.within)) in
+    let again = decimal-digits_value own-numerals word is.digits (some-length word is.some) (λ z. lone word h z is.some) (omega (arith, is.within)) in
     sym again ∙ ap decimal is.value
 
 -- ---- fields

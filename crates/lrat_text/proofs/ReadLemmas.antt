@@ -6,7 +6,7 @@ use Rattle.std.specs.Prelude.{nat_lt}
 use Rattle.std.specs.List.{list_all, slice_get}
 use Rattle.lrat_text.proofs.SplitLemmas.{nil-by-last}
 use Rattle.pack_defs.specs.Lists.{is_ascending, is_empty, is_in}
-use Rattle.pack_defs.proofs.Words.{ascending-rest}
+use Rattle.pack_defs.proofs.Words.{ascending-rest, after-first}
 use Rattle.lrat_text.specs.declared.error.LratErr.TheVariants.{Truncated, BadLine, RatStep, NoMemory}
 use Rattle.lrat_text.specs.declared.field.Field.TheVariants.{End, Number}
 use Rattle.lrat_text.specs.LogReading.{LogRead, after_words, after_log_lines, log_of, log_read, nothing_read, field_of, log_lits_at, hint_at, log_hints_at, log_hints_or, is_next, place_in, deleted_at, deleted_or}
@@ -56,20 +56,11 @@ lits-none front n words total e so = sym so ∙ rw e refl
 
 -- ---- the place of a line's number
 
-first-below : (m : ℕ) (ms : List ℕ) (k : ℕ) → is_ascending (m ∷ ms) ≡ true → k < length ms → m < get_or ms k 0
-first-below m [] k up h = absurd (omega arith)
-first-below m (n ∷ ms) zero up h = ltb-true m n (and_parts _ _ up).0
-first-below m (n ∷ ms) (suc k) up h =
-    let parts = and_parts _ _ up in
-    let a = ltb-true m n parts.0 in
-    let b = first-below n ms k parts.1 (omega arith) in
-    omega (arith, a, b)
-
 pub placed : (next : ℕ) (ms : List ℕ) (i h : ℕ) → is_ascending ms ≡ true → i < length ms → get_or ms i 0 ≡ h → place_in next ms h ≡ Some (next + i)
 placed next [] i h up lt e = absurd (omega arith)
 placed next (m ∷ ms) zero h up lt e = let z : next + 0 ≡ next = omega arith in rw (eq-eqb m h e, z) refl
 placed next (m ∷ ms) (suc i) h up lt e =
-    let below = first-below m ms i up (omega arith) in
+    let below = after-first m ms i up (omega arith) in
     let z : next + suc i ≡ next + 1 + i = omega arith in
     rw (ne_eqb m h (λ q. absurd (omega (arith, below, q, e))), z) (placed (next + 1) ms i h (ascending-rest m ms up) (omega arith) e)
 

@@ -2,7 +2,7 @@
 use Rattle.std.proofs.Common.{◌≡◌, ℕ, zero, suc, ◌<◌, ◌≤◌, Bool, true, false, ◌&&◌, ◌||◌, cond, eqb, ◌⊎◌, inl, inr, List, [], ◌∷◌, map, length, refl, sym, ◌∙◌, subst, arith, Contains, filter}
 use Rattle.std.specs.List.{list_any, list_all}
 use Rattle.std.proofs.lemmas.Bool.{true≢false, eqb-true, eq-eqb, and_parts, and_from, and_cases, or_cases, or_left, or_right, true_from_ne_false, false_from_ne_true, cond-true, cond-false, cases_Bool}
-use Rattle.pack_defs.specs.Lists.{is_in}
+use Rattle.pack_defs.specs.Lists.{is_in, is_ascending}
 use Rattle.pack_defs.specs.Book.{BookView, is_forbidden, joins}
 use Rattle.pack_defs.specs.Packing.{Fits, fits}
 use Rattle.pack_defs.specs.declared.scenario.Scenario.{Scenario}
@@ -12,6 +12,7 @@ use Rattle.pack_defs.specs.Components.{interferes, widened, within, component, R
 use Rattle.pack_defs.specs.Components.Reaches.{here, next}
 use Rattle.pack_defs.proofs.Members.{Contains-here, Contains-there, Contains-cons_cases, Contains-nil, Contains-from_map, Contains-filter, Contains-from_filter, is_in-from, is_in-gives, list_any-from, list_any-gives, list_all-gives}
 use Rattle.pack_defs.proofs.FitsLaws.{fits-gives, fits-from, part_fits}
+use Rattle.pack_defs.proofs.Chains.{ascending-filter}
 
 -- ---- a set that grows within a list stops growing
 
@@ -278,3 +279,8 @@ test_by_component sc book state s there on_fits =
       | inr same ↦ inl (eqb-true t s same)
     ])
     on_fits
+
+-- a component ascends as its set does
+pub within-ascends : (book : BookView) (set : List ℕ) (s n : ℕ) → is_ascending set ≡ true → is_ascending (within book set s n) ≡ true
+within-ascends book set s zero a = ascending-filter _ set a
+within-ascends book set s (suc n) a = ascending-filter _ set a

@@ -7,6 +7,7 @@ use Rattle.std.proofs.lemmas.Bool.{and_parts, leb-true, le-ltb, lt-ltb}
 use Rattle.std.proofs.lemmas.List.{take_more}
 use Rattle.std.proofs.lemmas.List.Recursion.{and_push}
 use Rattle.std.proofs.lemmas.Int.Digits.{digits_value_more}
+use Rattle.std.proofs.lemmas.Str.Parse.{IsNumeralModel, numerals_by_value, tells_all_ascii_digits}
 
 -- what a digit is worth
 pub digit-value : (c : ℕ) → is_ascii_digit c ≡ true → (48 ≤ c) × (c ≤ 57) × (digit_value c ≡ c - 48)
@@ -38,3 +39,7 @@ more-value field i h d =
     let step = digits_value_more 10 field i h in
     let worth = digit-value (get_or field i 0) d in
     omega (arith, step, worth.2)
+
+-- a numeral's value tells its digits
+pub own-numerals : IsNumeralModel (λ ds. all_ascii_digits ds ≡ true) (digits_value 10)
+own-numerals = numerals_by_value _ tells_all_ascii_digits

@@ -64,7 +64,7 @@ pub firsts-rise : (ps : List Pair) → pairs_ascend ps ≡ true → IsNonDecreas
 firsts-rise ps h =
     IsNonDecreasingBy-from_all_adjacent (λ p. p.f) ps (λ k d l. first-rises (get_or ps k d) (get_or ps (k + 1) d) (sorted-pairs ps h k d (omega arith) l))
 
-ties-same : (a b : ℕ) → (not (is_lt (nat_cmp a b)) && not (is_lt (nat_cmp b a))) ≡ (b == a)
+pub ties-same : (a b : ℕ) → (not (is_lt (nat_cmp a b)) && not (is_lt (nat_cmp b a))) ≡ (b == a)
 ties-same a b = grind (arith, nat_tests)
 
 -- a stable sort by the second station leaves those of each station as they were

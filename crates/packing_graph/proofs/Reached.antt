@@ -1,12 +1,11 @@
 -- What the walk keeps: what is reached is reached by pairs, and each station that is reached waits or is done with.
-use Rattle.std.proofs.Common.{◌≡◌, ℕ, zero, suc, Bool, true, false, ◌==◌, List, [], ◌∷◌, ◌++◌, ◌⊎◌, inl, inr, length, refl, sym, subst, arith, ◌∙◌, eq-eqb, eqb-true}
+use Rattle.std.proofs.Common.{◌≡◌, ℕ, Bool, true, false, ◌==◌, List, [], ◌∷◌, ◌++◌, ◌⊎◌, inl, inr, length, refl, sym, subst, arith, ◌∙◌, eq-eqb, eqb-true}
 use Rattle.std.proofs.lemmas.Bool.{both_ways, cases_Bool, false≢true, false_from_ne_true, or_cases, or_left}
 use Rattle.pack_defs.specs.Book.{BookView}
-use Rattle.pack_defs.specs.Components.{component, within, interferes, Reaches}
+use Rattle.pack_defs.specs.Components.{component, interferes, Reaches}
 use Rattle.pack_defs.specs.Components.Reaches.{here, next}
 use Rattle.pack_defs.specs.Lists.{is_ascending, is_in}
-use Rattle.pack_defs.proofs.Chains.{ascending-filter}
-use Rattle.pack_defs.proofs.ComponentLaws.{component-from, component-gives}
+use Rattle.pack_defs.proofs.ComponentLaws.{component-from, component-gives, within-ascends}
 use Rattle.pack_defs.proofs.Members.{is_in-from, is_in-gives}
 use Rattle.packing_graph.specs.Sets.{with_station}
 use Rattle.packing_graph.specs.Walks.{IsVisited}
@@ -86,11 +85,6 @@ walk-end book on s seen w t =
 pub walk-done : (book : BookView) (on : List ℕ) (s : ℕ) (seen : ℕ → Bool) (waiting : List ℕ) → length waiting ≡ 0 → IsWalk book on s seen waiting → (t : ℕ) → seen t ≡ is_in (component book (with_station on s) s) t
 walk-done book on s seen [] e w = walk-end book on s seen w
 walk-done book on s seen (x ∷ xs) e w = absurd (omega arith)
-
--- a component ascends as its set does
-within-ascends : (book : BookView) (set : List ℕ) (s n : ℕ) → is_ascending set ≡ true → is_ascending (within book set s n) ≡ true
-within-ascends book set s zero a = ascending-filter _ set a
-within-ascends book set s (suc n) a = ascending-filter _ set a
 
 pub component-ascends : (book : BookView) (on : List ℕ) (s : ℕ) → is_ascending on ≡ true → is_ascending (component book (with_station on s) s) ≡ true
 unfolding component

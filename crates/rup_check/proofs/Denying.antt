@@ -1,11 +1,12 @@
 -- When the literals of a line are bad, read from the front.
-use Rattle.std.proofs.Common.{◌≡◌, ℕ, ◌+◌, ◌<◌, Bool, true, false, not, ◌&&◌, ◌||◌, ◌==◌, if◌then◌else◌, nat_lt, List, [], ◌∷◌, ◌++◌, map, length, take, drop, get_or, refl, sym, ap, ◌∙◌, subst, eqb-true, eq-eqb, ⊎_elim, drop-cons, add-one, arith, ◌≤◌}
+use Rattle.std.proofs.Common.{◌≡◌, ℕ, ◌+◌, ◌<◌, Bool, true, false, not, ◌&&◌, ◌||◌, ◌==◌, if◌then◌else◌, nat_lt, List, [], ◌∷◌, ◌++◌, map, length, take, drop, get_or, refl, sym, ap, ◌∙◌, subst, eqb-true, eq-eqb, ⊎_elim, arith, ◌≤◌}
 use Rattle.std.specs.List.{list_any}
-use Rattle.std.proofs.lemmas.Bool.{or_left, or_right, or_from, or_parts, or_cases, both_ways, false_from_ne_true, lt-ltb, ltb-true}
-use Rattle.std.proofs.lemmas.List.{take-append-drop}
+use Rattle.std.proofs.lemmas.Bool.{or_left, or_right, or_from, or_parts, or_cases, false_from_ne_true, lt-ltb, ltb-true}
 use Rattle.clause_db.specs.declared.lit.Lit.{Lit}
 use Rattle.clause_db.specs.Clause.{opposite, same_lit, has_lit}
 use Rattle.rup_check.specs.Follows.{has_repeat, has_bad_lits}
+use Rattle.clause_db.proofs.Literals.{split-at}
+use Rattle.pack_defs.proofs.Words.{eq_swap}
 
 -- the variable is 0 or past the last
 abbrev pub is_out : ℕ → Lit → Bool
@@ -26,18 +27,11 @@ one_sign true false true = refl
 one_sign true false false = refl
 one_sign false a b = refl
 
-pub turned : (v w : ℕ) → (v == w) ≡ (w == v)
-turned v w = go (v == w) refl
-  where
-    go : (b : Bool) → (v == w) ≡ b → b ≡ (w == v)
-    go true e = sym (eq-eqb w v (sym (eqb-true v w e)))
-    go false e = sym (false_from_ne_true (w == v) (λ h. both_ways (v == w) e (eq-eqb v w (sym (eqb-true w v h)))))
-
 -- a variable is used where its literal or the opposite is denied already
 pub used-known : (lits : List Lit) (l : Lit) → (has_lit (map opposite lits) l || has_lit (map opposite lits) (opposite l)) ≡ is_used lits l.var
 used-known [] l = refl
 used-known (x ∷ xs) l =
-    four (same_lit l (opposite x)) (same_lit (opposite l) (opposite x)) (has_lit (map opposite xs) l) (has_lit (map opposite xs) (opposite l)) (x.var == l.var) (one_sign (l.var == x.var) l.positive x.positive ∙ turned l.var x.var)
+    four (same_lit l (opposite x)) (same_lit (opposite l) (opposite x)) (has_lit (map opposite xs) l) (has_lit (map opposite xs) (opposite l)) (x.var == l.var) (one_sign (l.var == x.var) l.positive x.positive ∙ eq_swap l.var x.var)
     ∙ ap (λ (z : Bool). (x.var == l.var) || z) (used-known xs l)
 
 any-push : (p : Lit → Bool) (xs : List Lit) (x : Lit) → list_any p xs ≡ false → p x ≡ false → list_any p (xs ++ x ∷ []) ≡ false
@@ -54,7 +48,7 @@ repeat-push (x ∷ xs) l e f =
     let parts = or_parts (is_used xs x.var) (has_repeat (map (λ (l : Lit). l.var) xs)) e in
     let others = or_parts (x.var == l.var) (is_used xs l.var) f in
     or_from (is_used (xs ++ l ∷ []) x.var) (has_repeat (map (λ (l : Lit). l.var) (xs ++ l ∷ [])))
-    (used-push xs l x.var parts.0 (turned l.var x.var ∙ others.0))
+    (used-push xs l x.var parts.0 (eq_swap l.var x.var ∙ others.0))
     (repeat-push xs l parts.1 others.1)
 
 -- one more good literal
@@ -75,12 +69,9 @@ repeat-at : (xs zs : List Lit) (l : Lit) → is_used xs l.var ≡ true → has_r
 repeat-at [] zs l e = cc
 repeat-at (x ∷ xs) zs l e =
     ⊎_elim
-    (λ h. or_left (is_used (xs ++ l ∷ zs) x.var) (has_repeat (map (λ (l : Lit). l.var) (xs ++ l ∷ zs))) (used-at xs zs l x.var (turned l.var x.var ∙ h)))
+    (λ h. or_left (is_used (xs ++ l ∷ zs) x.var) (has_repeat (map (λ (l : Lit). l.var) (xs ++ l ∷ zs))) (used-at xs zs l x.var (eq_swap l.var x.var ∙ h)))
     (λ r. or_right (is_used (xs ++ l ∷ zs) x.var) (has_repeat (map (λ (l : Lit). l.var) (xs ++ l ∷ zs))) (repeat-at xs zs l r))
     (or_cases (x.var == l.var) (is_used xs l.var) e)
-
-split-at : (xs : List Lit) (i : ℕ) (d : Lit) → i < length xs → xs ≡ take i xs ++ get_or xs i d ∷ drop (i + 1) xs
-split-at xs i d h = sym (take-append-drop i xs) ∙ ap (λ (z : List Lit). take i xs ++ z) (drop-cons xs i d h ∙ rw add-one refl)
 
 -- a literal out of range, or of a variable used before it, makes the whole bad
 pub bad-out : (vars : ℕ) (xs : List Lit) (i : ℕ) (d : Lit) → i < length xs → is_out vars (get_or xs i d) ≡ true → has_bad_lits vars xs ≡ true

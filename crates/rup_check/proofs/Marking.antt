@@ -1,5 +1,5 @@
 -- The marks, and what they say once a literal's is taken away.
-use Rattle.std.proofs.Common.{◌≡◌, ℕ, ◌+◌, ◌-◌, ◌*◌, ◌<◌, ◌≤◌, Bool, true, false, not, ◌&&◌, ◌||◌, ◌==◌, if◌then◌else◌, nat_le, List, [], ◌∷◌, ◌++◌, length, refl, sym, ap, ◌∙◌, subst, arith, get_or}
+use Rattle.std.proofs.Common.{◌≡◌, ℕ, ◌*◌, ◌<◌, Bool, true, false, not, ◌&&◌, ◌||◌, ◌==◌, if◌then◌else◌, nat_le, List, [], ◌∷◌, ◌++◌, length, refl, sym, ap, ◌∙◌, subst, arith, get_or}
 use Rattle.std.proofs.Math.Bool.{beq}
 use Rattle.std.specs.Prelude.{slice_set}
 use Rattle.std.proofs.lemmas.Bool.{and_parts, and_from, or_left, false_from_ne_true, false≢true, leb-true, le-leb}
@@ -7,29 +7,13 @@ use Rattle.std.proofs.lemmas.List.{get_or-set_same, get_or-set_other}
 use Rattle.clause_db.specs.declared.lit.Lit.{Lit}
 use Rattle.clause_db.specs.Clause.{same_lit, has_lit, code_of}
 use Rattle.clause_db.specs.Clauses.{LitWithin}
-use Rattle.clause_db.proofs.Literals.{lit-parts, lit_cases, same_lit-apart, has-push_new, has-push_other}
+use Rattle.clause_db.proofs.Literals.{lit_cases, same_lit-apart, has-push_new, has-push_other, code-is, code-below}
 use Rattle.rup_check.specs.Known.{is_lit_within, Marks}
-use Rattle.rup_check.proofs.Denying.{turned}
+use Rattle.pack_defs.proofs.Words.{eq_swap}
 
 -- each marked literal is in the list
 abbrev pub MarkedIn : ℕ → List Bool → List Lit → Type 0
 MarkedIn vars marks known = (k : Lit) → LitWithin vars k → get_or marks (code_of k) false ≡ true → has_lit known k ≡ true
-
-codes : (v w : ℕ) (a b : Bool) → 1 ≤ v → 1 ≤ w → (if a then 2 * (v - 1) else 2 * (v - 1) + 1) ≡ (if b then 2 * (w - 1) else 2 * (w - 1) + 1) → (v ≡ w) × (a ≡ b)
-codes v w true true p q e = (omega arith, refl)
-codes v w true false p q e = absurd (omega arith)
-codes v w false true p q e = absurd (omega arith)
-codes v w false false p q e = (omega arith, refl)
-
-pub code-is : (vars : ℕ) (l m : Lit) → LitWithin vars l → LitWithin vars m → code_of l ≡ code_of m → l ≡ m
-code-is vars l m p q e = let r = codes l.var m.var l.positive m.positive p.0 q.0 e in lit-parts l m r.0 r.1
-
-code_below : (v vars : ℕ) (a : Bool) → 1 ≤ v → v ≤ vars → (if a then 2 * (v - 1) else 2 * (v - 1) + 1) < 2 * vars
-code_below v vars true p q = omega arith
-code_below v vars false p q = omega arith
-
-pub code-below : (vars : ℕ) (l : Lit) → LitWithin vars l → code_of l < 2 * vars
-code-below vars l p = code_below l.var vars l.positive p.0 p.1
 
 pub within-from : (vars : ℕ) (l : Lit) → is_lit_within vars l ≡ true → LitWithin vars l
 within-from vars l e = let parts = and_parts (nat_le 1 l.var) (nat_le l.var vars) e in (leb-true 1 l.var parts.0, leb-true l.var vars parts.1)
@@ -73,7 +57,7 @@ marked-none vars marks m = λ k w. false_from_ne_true (get_or marks (code_of k) 
 
 -- the derived test of two literals is the definition's
 pub eq-same : (k l : Lit) → ((k.var == l.var) && beq k.positive l.positive) ≡ same_lit l k
-eq-same k l = λ i. turned k.var l.var i && signs k.positive l.positive i
+eq-same k l = λ i. eq_swap k.var l.var i && signs k.positive l.positive i
   where
     signs : (a b : Bool) → beq a b ≡ (if b then a else not a)
     signs true true = refl

@@ -1,5 +1,5 @@
 -- What is left of a list of hints or lines decides as the whole does.
-use Rattle.std.proofs.Common.{◌≡◌, ℕ, ◌+◌, ◌-◌, ◌<◌, ◌≤◌, Bool, true, false, not, cond, ◌==◌, if◌then◌else◌, List, [], ◌∷◌, ◌++◌, map, length, take, drop, get_or, Option, Some, None, Result, Ok, Err, refl, sym, ap, ◌∙◌, subst, arith, eqb-true, append_assoc}
+use Rattle.std.proofs.Common.{◌≡◌, ℕ, ◌+◌, ◌-◌, ◌<◌, ◌≤◌, Bool, true, false, ◌==◌, if◌then◌else◌, List, [], ◌∷◌, ◌++◌, map, length, take, drop, get_or, Option, Some, None, Result, Ok, Err, refl, sym, ap, ◌∙◌, subst, arith, eqb-true, append_assoc}
 use Rattle.std.proofs.lemmas.Bool.{eq-eqb, false_from_ne_true}
 use Rattle.std.proofs.lemmas.List.{length-drop, length-map, get_or-map, take_more}
 use Rattle.clause_db.proofs.Cutting.{clause_at-get}
@@ -7,7 +7,7 @@ use Rattle.clause_db.proofs.Literals.{drop-from}
 use Rattle.clause_db.proofs.Numbering.{clause_at-after}
 use Rattle.clause_db.specs.declared.lit.Lit.{Lit}
 use Rattle.clause_db.specs.Clause.{opposite, has_lit, is_empty_clause, clause_at}
-use Rattle.clause_db.specs.Forced.{not_false, only_open}
+use Rattle.clause_db.specs.Forced.{only_open}
 use Rattle.rup_check.specs.declared.line.Line.{Line}
 use Rattle.rup_check.specs.declared.error.LineErr.{LineErr}
 use Rattle.rup_check.specs.declared.error.LineErr.TheVariants.{BadLits, NoSuchClause, NotUnit, NotFalsified, NoMemory}
@@ -16,6 +16,7 @@ use Rattle.rup_check.specs.declared.error.LogErr.TheVariants.{BadLine}
 use Rattle.rup_check.specs.Answers.{LineAnswer}
 use Rattle.rup_check.specs.Packed.{line_at, no_line}
 use Rattle.rup_check.specs.Follows.{has_bad_lits, after_hint, clauses_before, fault_or, hints_fault, line_fault, line_or, lines_fault, ends_empty}
+use Rattle.pack_defs.proofs.Words.{same-truth}
 
 if_true : {A : Type 0} (b : Bool) (x y : A) → b ≡ true → (if b then x else y) ≡ x
 if_true true x y e = refl
@@ -25,16 +26,10 @@ if_false : {A : Type 0} (b : Bool) (x y : A) → b ≡ false → (if b then x el
 if_false true x y e = cc
 if_false false x y e = refl
 
-both-ways : (x y : Bool) → (x ≡ true → y ≡ true) → (y ≡ true → x ≡ true) → x ≡ y
-both-ways true true f g = refl
-both-ways true false f g = sym (f refl)
-both-ways false true f g = g refl
-both-ways false false f g = refl
-
 -- none is left behind a place exactly where it is the last
 none-behind : (i n : ℕ) → i < n → (n - (i + 1) == 0) ≡ (i + 1 == n)
 none-behind i n h =
-    both-ways (n - (i + 1) == 0) (i + 1 == n)
+    same-truth (n - (i + 1) == 0) (i + 1 == n)
     (λ e. let z : n - (i + 1) ≡ 0 = eqb-true (n - (i + 1)) 0 e in eq-eqb (i + 1) n (omega (arith, h, z)))
     (λ e. let z : i + 1 ≡ n = eqb-true (i + 1) n e in eq-eqb (n - (i + 1)) 0 (omega (arith, z)))
 
@@ -75,21 +70,6 @@ answer-fault fault (NoSuchClause hint) e = e
 answer-fault fault (NotUnit hint) e = e
 answer-fault fault NotFalsified e = e
 answer-fault fault NoMemory e = tt
-
--- one clause's literals, read from the front
-pub open-skipped : (known rest : List Lit) (l : Lit) → has_lit known (opposite l) ≡ true → not_false known (l ∷ rest) ≡ not_false known rest
-open-skipped known rest l e = step (has_lit known (opposite l)) e
-  where
-    step : (b : Bool) → b ≡ true → cond (not b) (l ∷ not_false known rest) (not_false known rest) ≡ not_false known rest
-    step true e = refl
-    step false e = cc
-
-pub open-kept : (known rest : List Lit) (l : Lit) → has_lit known (opposite l) ≡ false → not_false known (l ∷ rest) ≡ l ∷ not_false known rest
-open-kept known rest l e = step (has_lit known (opposite l)) e
-  where
-    step : (b : Bool) → b ≡ false → cond (not b) (l ∷ not_false known rest) (not_false known rest) ≡ l ∷ not_false known rest
-    step true e = cc
-    step false e = refl
 
 pub only-one : (known : List Lit) (l : Lit) (b : Bool) → has_lit known l ≡ b → only_open known (l ∷ []) ≡ (if b then None else Some l)
 only-one known l b e = ap (λ (x : Bool). (if x then None else Some l)) e

@@ -4,19 +4,16 @@ use Rattle.std.proofs.lemmas.Bool.{cond-false, or_left, or_right}
 use Rattle.clause_db.specs.declared.lit.Lit.{Lit}
 use Rattle.clause_db.specs.Clause.{opposite, has_lit, same_lit}
 use Rattle.clause_db.specs.Forced.{not_false, only_open}
-use Rattle.clause_db.proofs.Literals.{same_lit-refl}
+use Rattle.clause_db.proofs.Literals.{same_lit-refl, open-kept, open-skipped}
 use Rattle.trail_prop.specs.Find.{FindIs}
 use Rattle.trail_prop.specs.Turn.{LeavesOnly}
 use Rattle.trail_prop.specs.Watching.{lit_at}
 use Rattle.trail_prop.proofs.Known.{open-parts}
-use Rattle.trail_prop.proofs.Forcing.{false-from-none, kept-here}
-
-dropped : (known xs : List Lit) (x : Lit) → has_lit known (opposite x) ≡ true → not_false known (x ∷ xs) ≡ not_false known xs
-dropped known xs x e = cond-false (not (has_lit known (opposite x))) (x ∷ not_false known xs) (not_false known xs) (ap not e)
+use Rattle.trail_prop.proofs.Forcing.{false-from-none}
 
 none-by-place : (known xs : List Lit) → ((k : ℕ) → k < length xs → has_lit known (opposite (lit_at xs k)) ≡ true) → not_false known xs ≡ []
 none-by-place known [] h = refl
-none-by-place known (x ∷ xs) h = dropped known xs x (h 0 (omega arith)) ∙ none-by-place known xs (λ k l. h (suc k) (omega arith))
+none-by-place known (x ∷ xs) h = open-skipped known xs x (h 0 (omega arith)) ∙ none-by-place known xs (λ k l. h (suc k) (omega arith))
 
 -- where each place but one has a false literal, only that place can have another
 but-one : (known xs : List Lit) (b : ℕ) → b < length xs → ((k : ℕ) → k < length xs → k ≢ b → has_lit known (opposite (lit_at xs k)) ≡ true) → not_false known xs ≡ not_false known (lit_at xs b ∷ [])
@@ -27,7 +24,7 @@ but-one known [] b l h = absurd (no-place b l)
 but-one known (x ∷ xs) zero l h =
     let rest : not_false known xs ≡ [] = none-by-place known xs (λ k m. h (suc k) (omega arith) (omega arith)) in
     ap (λ (z : List Lit). cond (not (has_lit known (opposite x))) (x ∷ z) z) rest
-but-one known (x ∷ xs) (suc b) l h = dropped known xs x (h 0 (omega arith) (omega arith)) ∙ but-one known xs b (omega arith) (λ k m n. h (suc k) (omega arith) (λ q. n (omega arith)))
+but-one known (x ∷ xs) (suc b) l h = open-skipped known xs x (h 0 (omega arith) (omega arith)) ∙ but-one known xs b (omega arith) (λ k m n. h (suc k) (omega arith) (λ q. n (omega arith)))
 
 others-false : (known clause : List Lit) (a b : ℕ) → FindIs known clause a b None → has_lit known (opposite (lit_at clause a)) ≡ true → (k : ℕ) → k < length clause → k ≢ b → has_lit known (opposite (lit_at clause k)) ≡ true
 others-false known clause a b f g k l n =
@@ -50,10 +47,10 @@ has-at (x ∷ xs) (suc i) l = or_right (same_lit (lit_at xs i) x) (has_lit xs (l
 leaves-from : (known clause : List Lit) (b : ℕ) → b < length clause → not_false known clause ≡ not_false known (lit_at clause b ∷ []) → LeavesOnly known clause (lit_at clause b)
 leaves-from known clause b l e = record {
   has = has-at clause b l;
-  fails = λ h. false-from-none known clause (e ∙ dropped known [] (lit_at clause b) h);
+  fails = λ h. false-from-none known clause (e ∙ open-skipped known [] (lit_at clause b) h);
   forces = λ o.
       let parts = open-parts known (lit_at clause b) o in
-      ap (λ (z : List Lit). only_open known z) (e ∙ kept-here known [] (lit_at clause b) parts.1) ∙ cond-false (has_lit known (lit_at clause b)) None (Some (lit_at clause b)) parts.0;
+      ap (λ (z : List Lit). only_open known z) (e ∙ open-kept known [] (lit_at clause b) parts.1) ∙ cond-false (has_lit known (lit_at clause b)) None (Some (lit_at clause b)) parts.0;
 }
 
 pub found-none : (known clause : List Lit) (a b : ℕ) → FindIs known clause a b None → b < length clause → has_lit known (opposite (lit_at clause a)) ≡ true → LeavesOnly known clause (lit_at clause b)
@@ -61,9 +58,9 @@ found-none known clause a b f l g = leaves-from known clause b l (but-one known 
 
 -- a clause of two literals, of which one is false
 pub pair-leaves : (known : List Lit) (l m : Lit) → has_lit known (opposite l) ≡ true → LeavesOnly known (l ∷ m ∷ []) m
-pair-leaves known l m h = leaves-from known (l ∷ m ∷ []) 1 (omega arith) (dropped known (m ∷ []) l h)
+pair-leaves known l m h = leaves-from known (l ∷ m ∷ []) 1 (omega arith) (open-skipped known (m ∷ []) l h)
 
 pub pair-leaves-first : (known : List Lit) (l m : Lit) → has_lit known (opposite l) ≡ true → LeavesOnly known (m ∷ l ∷ []) m
 pair-leaves-first known l m h =
-    let rest : not_false known (l ∷ []) ≡ [] = dropped known [] l h in
+    let rest : not_false known (l ∷ []) ≡ [] = open-skipped known [] l h in
     leaves-from known (m ∷ l ∷ []) 0 (omega arith) (ap (λ (z : List Lit). cond (not (has_lit known (opposite m))) (m ∷ z) z) rest)

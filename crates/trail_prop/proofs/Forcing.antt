@@ -1,14 +1,14 @@
 -- When a clause is settled, false or forces a literal.
-use Rattle.std.proofs.Common.{◌≡◌, ℕ, ◌+◌, ◌<◌, Bool, true, false, not, cond, ◌&&◌, if◌then◌else◌, List, [], ◌∷◌, ◌++◌, Option, Some, None, length, get_or, take, drop, refl, sym, ap, ◌∙◌, subst, option_to_list, drop-cons, add-one}
+use Rattle.std.proofs.Common.{◌≡◌, ℕ, ◌+◌, ◌<◌, Bool, true, false, not, cond, if◌then◌else◌, List, [], ◌∷◌, ◌++◌, Option, Some, None, length, get_or, take, drop, refl, sym, ap, ◌∙◌, subst, option_to_list}
 use Rattle.std.specs.List.{All}
-use Rattle.std.proofs.lemmas.Bool.{and_from, cond-true}
-use Rattle.std.proofs.lemmas.List.{take-append-drop}
+use Rattle.std.proofs.lemmas.Bool.{and_from, cond-true, and_right, and_left}
 use Rattle.std.proofs.lemmas.List.Elements.{filter-append, All-filter, All-head}
 use Rattle.clause_db.specs.declared.lit.Lit.{Lit}
 use Rattle.clause_db.specs.Clause.{opposite, has_lit}
 use Rattle.clause_db.specs.Clauses.{LitWithin}
 use Rattle.clause_db.specs.Forced.{is_false_clause, not_false, only_open, forced_by}
 use Rattle.trail_prop.specs.Open.{LitsWithin, is_open, IsClauseSettled}
+use Rattle.clause_db.proofs.Literals.{open-kept, split-at}
 
 none_kept : (b : Bool) (l : Lit) (rest : List Lit) → cond (not b) (l ∷ rest) rest ≡ [] → (b ≡ true) × (rest ≡ [])
 none_kept true l rest e = (refl, e)
@@ -20,17 +20,9 @@ false-from-none known (l ∷ ls) e =
     let r = none_kept (has_lit known (opposite l)) l (not_false known ls) e in
     and_from (has_lit known (opposite l)) (is_false_clause known ls) r.0 (false-from-none known ls r.1)
 
-and_false : (a b : Bool) → b ≡ false → (a && b) ≡ false
-and_false true b e = e
-and_false false b e = refl
-
-false_and : (a b : Bool) → a ≡ false → (a && b) ≡ false
-false_and true b e = cc
-false_and false b e = refl
-
 pub not-false-part : (known xs zs : List Lit) (l : Lit) → has_lit known (opposite l) ≡ false → is_false_clause known (xs ++ l ∷ zs) ≡ false
-not-false-part known [] zs l e = false_and (has_lit known (opposite l)) (is_false_clause known zs) e
-not-false-part known (x ∷ xs) zs l e = and_false (has_lit known (opposite x)) (is_false_clause known (xs ++ l ∷ zs)) (not-false-part known xs zs l e)
+not-false-part known [] zs l e = and_left (has_lit known (opposite l)) (is_false_clause known zs) e
+not-false-part known (x ∷ xs) zs l e = and_right (has_lit known (opposite x)) (is_false_clause known (xs ++ l ∷ zs)) (not-false-part known xs zs l e)
 
 pub only_open-true : (known rest : List Lit) (l : Lit) → has_lit known l ≡ true → only_open known (l ∷ rest) ≡ None
 only_open-true known [] l h = cond-true (has_lit known l) None (Some l) h
@@ -40,17 +32,11 @@ two-open : (known rest : List Lit) (o : Option Lit) (l : Lit) → (o ≡ None �
 two-open known rest None l f = only_open-true known rest l (f refl)
 two-open known rest (Some x) l f = refl
 
-pub kept-here : (known zs : List Lit) (l : Lit) → has_lit known (opposite l) ≡ false → not_false known (l ∷ zs) ≡ l ∷ not_false known zs
-kept-here known zs l e = cond-true (not (has_lit known (opposite l))) (l ∷ not_false known zs) (not_false known zs) (ap not e)
-
 pub settled-at : (known xs zs : List Lit) (o : Option Lit) (l : Lit) → not_false known xs ≡ option_to_list o → has_lit known (opposite l) ≡ false → (o ≡ None → has_lit known l ≡ true) → IsClauseSettled known (xs ++ l ∷ zs)
 settled-at known xs zs o l k e f = (
   not-false-part known xs zs l e,
-  ap (λ (z : List Lit). only_open known z) (filter-append (λ (m : Lit). not (has_lit known (opposite m))) xs (l ∷ zs) ∙ ((λ i. k i ++ kept-here known zs l e i))) ∙ two-open known (not_false known zs) o l f,
+  ap (λ (z : List Lit). only_open known z) (filter-append (λ (m : Lit). not (has_lit known (opposite m))) xs (l ∷ zs) ∙ ((λ i. k i ++ open-kept known zs l e i))) ∙ two-open known (not_false known zs) o l f,
 )
-
-pub split-at : (xs : List Lit) (i : ℕ) (d : Lit) → i < length xs → xs ≡ take i xs ++ get_or xs i d ∷ drop (i + 1) xs
-split-at xs i d h = sym (take-append-drop i xs) ∙ ap (λ (z : List Lit). take i xs ++ z) (drop-cons xs i d h ∙ rw add-one refl)
 
 pub settled-read : (known clause : List Lit) (i : ℕ) (d : Lit) (o : Option Lit) → i < length clause → not_false known (take i clause) ≡ option_to_list o → has_lit known (opposite (get_or clause i d)) ≡ false → (o ≡ None → has_lit known (get_or clause i d) ≡ true) → IsClauseSettled known clause
 settled-read known clause i d o h k e f = subst (λ (z : List Lit). IsClauseSettled known z) (sym (split-at clause i d h)) (settled-at known (take i clause) (drop (i + 1) clause) o (get_or clause i d) k e f)

@@ -1,30 +1,14 @@
 -- Literals: their marks, and what an open variable says of them.
-use Rattle.std.proofs.Common.{◌≡◌, ◌≢◌, ℕ, ◌+◌, ◌-◌, ◌*◌, ◌<◌, ◌≤◌, Bool, true, false, not, if◌then◌else◌, List, [], ◌∷◌, ◌++◌, length, refl, sym, ap, ◌∙◌, subst, inl, inr, ◌⊎◌, arith, get_or}
+use Rattle.std.proofs.Common.{◌≡◌, ◌≢◌, ℕ, ◌*◌, ◌<◌, Bool, true, false, not, List, [], ◌∷◌, ◌++◌, length, refl, sym, ap, ◌∙◌, subst, inl, inr, ◌⊎◌, arith, get_or}
 use Rattle.std.specs.Prelude.{slice_set}
 use Rattle.std.proofs.lemmas.Bool.{and_parts, false≢true}
 use Rattle.std.proofs.lemmas.List.{get_or-set_same, get_or-set_other}
 use Rattle.clause_db.specs.declared.lit.Lit.{Lit}
 use Rattle.clause_db.specs.Clause.{opposite, has_lit, code_of}
 use Rattle.clause_db.specs.Clauses.{LitWithin}
-use Rattle.clause_db.proofs.Literals.{lit-parts, lit_cases, has-push_new, has-push_other}
+use Rattle.clause_db.proofs.Literals.{lit-parts, lit_cases, has-push_new, has-push_other, code-is, code-below}
 use Rattle.trail_prop.specs.Open.{is_open}
 use Rattle.trail_prop.specs.Entries.{MarksSay}
-
-codes : (v w : ℕ) (a b : Bool) → 1 ≤ v → 1 ≤ w → (if a then 2 * (v - 1) else 2 * (v - 1) + 1) ≡ (if b then 2 * (w - 1) else 2 * (w - 1) + 1) → (v ≡ w) × (a ≡ b)
-codes v w true true p q e = (omega arith, refl)
-codes v w true false p q e = absurd (omega arith)
-codes v w false true p q e = absurd (omega arith)
-codes v w false false p q e = (omega arith, refl)
-
-pub code-is : (vars : ℕ) (l m : Lit) → LitWithin vars l → LitWithin vars m → code_of l ≡ code_of m → l ≡ m
-code-is vars l m p q e = let r = codes l.var m.var l.positive m.positive p.0 q.0 e in lit-parts l m r.0 r.1
-
-code_below : (v vars : ℕ) (a : Bool) → 1 ≤ v → v ≤ vars → (if a then 2 * (v - 1) else 2 * (v - 1) + 1) < 2 * vars
-code_below v vars true p q = omega arith
-code_below v vars false p q = omega arith
-
-pub code-below : (vars : ℕ) (l : Lit) → LitWithin vars l → code_of l < 2 * vars
-code-below vars l p = code_below l.var vars l.positive p.0 p.1
 
 pub marks-push : (vars : ℕ) (marks : List Bool) (known : List Lit) (x : Lit) → MarksSay vars marks known → length marks ≡ 2 * vars → LitWithin vars x → MarksSay vars (slice_set marks (code_of x) true) (known ++ x ∷ [])
 marks-push vars marks known x m size p = λ l q.

@@ -3,7 +3,6 @@ pub mod Opening
 pub mod Forcing
 pub mod Trailing
 pub mod Places
-pub mod WatchLists
 pub mod Safety
 pub mod Finding
 pub mod Counting

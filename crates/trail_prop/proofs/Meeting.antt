@@ -9,7 +9,7 @@ use Rattle.std.proofs.lemmas.List.Elements.{All-more, All-push, All-weaker, All-
 use Rattle.clause_db.specs.declared.lit.Lit.{Lit}
 use Rattle.clause_db.specs.Clause.{opposite, has_lit, same_lit, code_of}
 use Rattle.clause_db.specs.Clauses.{LitWithin}
-use Rattle.clause_db.proofs.Literals.{same_lit-is}
+use Rattle.clause_db.proofs.Literals.{same_lit-is, code-is}
 use Rattle.trail_prop.specs.declared.entry.TrailEntry.{TrailEntry}
 use Rattle.trail_prop.specs.declared.turn.Moved.{Moved}
 use Rattle.trail_prop.specs.declared.turn.WatchPlaces.{WatchPlaces}
@@ -22,7 +22,6 @@ use Rattle.trail_prop.specs.Trails.{TrailView, Grows}
 use Rattle.trail_prop.specs.Turn.{IsMove}
 use Rattle.trail_prop.specs.Watching.{lit_of, lit_at, clause_of, watches_at, IsSafe, StandsAt, HasTrue, IsFixed, watches_of, IsWatched, WatchFits, WatchView}
 use Rattle.trail_prop.proofs.Counting.{count-push, count-pushed}
-use Rattle.trail_prop.proofs.Known.{code-is}
 use Rattle.trail_prop.proofs.Minding.{relisted-same, relisted-other, relisted-more}
 use Rattle.trail_prop.proofs.Trailing.{grows-level}
 use Rattle.trail_prop.proofs.Places.{known-entry, entry-known, entry-left}
@@ -37,7 +36,7 @@ within-has vars (x ∷ xs) l w h = elim (or_cases (same_lit l x) (has_lit xs l) 
 pub both-open : (known : List Lit) (l : Lit) → has_lit known l ≡ false → has_lit known (opposite l) ≡ false → is_open known l ≡ true
 both-open known l p q = and_from (not (has_lit known l)) (not (has_lit known (opposite l))) (ap not p) (ap not q)
 
-known-more : (es more : List TrailEntry) (l : Lit) → has_lit (lits_of es) l ≡ true → has_lit (lits_of (es ++ more)) l ≡ true
+pub known-more : (es more : List TrailEntry) (l : Lit) → has_lit (lits_of es) l ≡ true → has_lit (lits_of (es ++ more)) l ≡ true
 known-more es more l h =
     let k = known-entry es l h in
     ap (λ (z : Lit). has_lit (lits_of (es ++ more)) z) (sym k.3) ∙ entry-known (es ++ more) k.0 k.1 (entry-left es more k.0 k.1 k.2)

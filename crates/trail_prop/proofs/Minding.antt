@@ -14,8 +14,8 @@ use Rattle.trail_prop.specs.Open.{LitsWithin}
 use Rattle.trail_prop.specs.Steps.{onto, relisted}
 use Rattle.trail_prop.specs.Watching.{lit_at, clause_of, watches_at, places_of, IsFixed, IsSafe, watches_of, IsGuarded, IsWatched, WatchFits, WatchView, waits, IsNumber, AreClauseNumbers, IsWatchOf, IsWatchful}
 use Rattle.trail_prop.proofs.Counting.{count-push, count-pushed, count-set, count-removed, all-removed, not-same}
-use Rattle.trail_prop.proofs.Known.{code-is, code-below}
 use Rattle.trail_prop.proofs.Safety.{safe-grows, fixed-grows, safe-cut, fixed-cut}
+use Rattle.clause_db.proofs.Literals.{code-is, code-below}
 
 pub same-or-not : (m n : ℕ) → (m ≡ n) ⊎ (m ≢ n)
 same-or-not m n = grind arith

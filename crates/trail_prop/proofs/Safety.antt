@@ -12,10 +12,10 @@ use Rattle.trail_prop.specs.Good.{IsLateFalse, IsGood}
 use Rattle.trail_prop.specs.Open.{is_open, IsClauseSettled}
 use Rattle.trail_prop.specs.Watching.{lit_at, HasTrue, IsSafe, IsFixed}
 use Rattle.clause_db.specs.Forced.{not_false, only_open}
-use Rattle.clause_db.proofs.Literals.{same_lit-is, has-push, lit-parts}
+use Rattle.clause_db.proofs.Literals.{same_lit-is, has-push, lit-parts, open-kept, split-at}
 use Rattle.trail_prop.proofs.Known.{open-parts}
 use Rattle.trail_prop.proofs.Opening.{lits-push}
-use Rattle.trail_prop.proofs.Forcing.{not-false-part, only_open-true, kept-here, split-at}
+use Rattle.trail_prop.proofs.Forcing.{not-false-part, only_open-true}
 use Rattle.trail_prop.proofs.Places.{known-entry, entry-known, entry-left, entry-of-left, entry-right, entry-same}
 
 -- the trail grows
@@ -119,7 +119,7 @@ only_two known (p ∷ []) qs rs l m = refl
 only_two known (p ∷ q ∷ ps) qs rs l m = refl
 
 kept-at : (known xs zs : List Lit) (l : Lit) → has_lit known (opposite l) ≡ false → not_false known (xs ++ l ∷ zs) ≡ not_false known xs ++ l ∷ not_false known zs
-kept-at known xs zs l e = filter-append (λ (m : Lit). not (has_lit known (opposite m))) xs (l ∷ zs) ∙ ap (λ (z : List Lit). not_false known xs ++ z) (kept-here known zs l e)
+kept-at known xs zs l e = filter-append (λ (m : Lit). not (has_lit known (opposite m))) xs (l ∷ zs) ∙ ap (λ (z : List Lit). not_false known xs ++ z) (open-kept known zs l e)
 
 settled-true : (known xs zs : List Lit) (t : Lit) → has_lit known t ≡ true → has_lit known (opposite t) ≡ false → IsClauseSettled known (xs ++ t ∷ zs)
 settled-true known xs zs t h e =

@@ -18,9 +18,9 @@ use Rattle.trail_prop.specs.Steps.{IsWatchHeld, Shrinks}
 use Rattle.trail_prop.specs.Turn.{IsMove, IsOneOf}
 use Rattle.trail_prop.specs.Watching.{lit_at, clause_of, watches_at, places_of, StandsAt, HasTrue, IsFixed, IsSafe, watches_of, IsGuarded, IsWatched, WatchFits, WatchView, waits, IsNumber, IsWatchOf, IsWaiting, AllWait, IsWatchful}
 use Rattle.trail_prop.proofs.Counting.{count-push, count-pushed, take-removed, length-removed, count-removed, found, all-removed, not-same}
-use Rattle.trail_prop.proofs.Known.{code-is}
 use Rattle.trail_prop.proofs.Minding.{Minds, minds-safe, minds-more, others-stay, relisted-same, relisted-other, relisted-more, relisted-fits, code-listed, same-or-not}
 use Rattle.trail_prop.proofs.Safety.{safe-open, safe-step, safe-other, opposite-twice, true-settled, fixed-true, watched-settled}
+use Rattle.clause_db.proofs.Literals.{code-is}
 
 -- a clause watches another literal
 guard-stays : (es : List TrailEntry) (head : ℕ) (lists : List (List Watch)) (gone : Lit) (ws : List Watch) (n : ℕ) (clause : List Lit) (i : ℕ) → code_of (lit_at clause i) ≢ code_of gone → IsGuarded es head lists n clause i → IsGuarded es head (slice_set lists (code_of gone) ws) n clause i

@@ -15,7 +15,7 @@ use Rattle.trail_prop.proofs.Forcing.{forced-open, forced-within}
 use Rattle.std.proofs.lemmas.List.Sums.{count_by-le-length}
 use Rattle.trail_prop.specs.Open.{LitsWithin, is_open}
 
-count-append : (xs ys : List TrailEntry) → level_of (xs ++ ys) ≡ level_of xs + level_of ys
+pub count-append : (xs ys : List TrailEntry) → level_of (xs ++ ys) ≡ level_of xs + level_of ys
 count-append [] ys = omega arith
 count-append (x ∷ xs) ys = let r = count-append xs ys in grind (arith, common_steps)
 
@@ -116,7 +116,7 @@ grows-push es e d l =
     record { more = e ∷ []; follows = refl; forced = All-cons (λ (x : TrailEntry). (is_decision x ≡ false) × (x.level ≡ level_of es)) e [] (d, l) (All-nil (λ (x : TrailEntry). (is_decision x ≡ false) × (x.level ≡ level_of es))) }
 
 -- an entry is kept or not by its level
-keeps : (level : ℕ) (e : TrailEntry) → e.level ≤ level → is_up_to level e ≡ true
+pub keeps : (level : ℕ) (e : TrailEntry) → e.level ≤ level → is_up_to level e ≡ true
 keeps level e h = grind (arith, common_steps)
 
 drops : (level : ℕ) (e : TrailEntry) → level < e.level → is_up_to level e ≡ false

@@ -2,20 +2,20 @@ use Rattle.std.proofs.Common.{◌≡◌, ◌∙◌, refl, sym, subst, MatchOptio
 use Rattle.std.specs.Prelude.{⊤}
 use Rattle.cert_types.specs.Query.{IsQuery}
 use Rattle.auction_core.proofs.TaskLemmas.{no-task, task-has}
-use Rattle.answer_board.proofs.PostLemmas.{looked-at}
 use Rattle.answer_board.proofs.StandLemmas.{same-number}
 use Rattle.answer_board.proofs.post.asks.Goals as goal
+use Rattle.auction_core.proofs.Keeps.{not-ended}
 
 pub unreachable-requires : goal.unreachable-requires
 unreachable-requires c =
     let now = c.args.auction.now in
-    let at = looked-at now.scenario now.state c.args.worker c.args.number c.requires in
+    let at = not-ended now.scenario now.state c.args.worker c.args.number c.requires in
     no-task now.scenario now.book now.state at.0 (sym c.in-Ok-None.ensures.task ∙ c.in-Ok-None.field-0-is)
 
 pub worker_at-requires : goal.worker_at-requires
 worker_at-requires c =
     let now = c.args.auction.now in
-    (looked-at now.scenario now.state c.args.worker c.args.number c.requires).1
+    (not-ended now.scenario now.state c.args.worker c.args.number c.requires).1
 
 pub returns : goal.returns
 returns c =

@@ -1,5 +1,5 @@
 -- A step on, or off.
-use Rattle.std.proofs.Common.{◌≡◌, ◌<◌, ◌+◌, ◌∙◌, sym, arith, drop, length}
+use Rattle.std.proofs.Common.{◌+◌, ◌∙◌, sym, arith, length}
 use Rattle.auction_core.specs.Checked.{step_told}
 use Rattle.auction_core.proofs.KeptLemmas.{early-more}
 use Rattle.auction_core.proofs.CheckLemmas.{step-on, step-off, shorter, at-place}

@@ -1,7 +1,7 @@
 -- The start and the steps, one after the other.
 use Rattle.std.proofs.Common.{◌≡◌, ◌∙◌, List, [], None, length, sym, subst, arith}
 use Rattle.auction_core.specs.Setup.{IsOfAuction}
-use Rattle.auction_core.specs.Checked.{IsAt, IsEarly, found_in}
+use Rattle.auction_core.specs.Checked.{IsEarly, found_in}
 use Rattle.auction_core.specs.LogNumbers.{steps_in}
 use Rattle.auction_core.specs.declared.transcript.TranscriptStep.{TranscriptStep}
 use Rattle.auction_core.proofs.KeptLemmas.{early-more, started-room}

@@ -1,8 +1,7 @@
 -- The set of a query ascends; and a receipt that is not let through tells the first fault of all.
-use Rattle.std.proofs.Common.{◌≡◌, ◌+◌, ◌<◌, ◌∙◌, true, ap, arith, rules, length, drop, subst, sym}
+use Rattle.std.proofs.Common.{◌≡◌, ◌<◌, ◌∙◌, true, ap, arith, length, subst, sym}
 use Rattle.pack_defs.specs.Lists.{is_ascending}
 use Rattle.cert_types.proofs.QueryLaws.{query-task}
-use Rattle.cert_types.specs.declared.answer.Receipt.{Receipt}
 use Rattle.auction_core.specs.LogNumbers.{clauses_in}
 use Rattle.auction_core.specs.NotShown.{each_fault}
 use Rattle.auction_core.proofs.ReceiptLemmas.{err-told}

@@ -1,6 +1,5 @@
 -- What is let through, before what is left, are all; and the first fault of all is that of those left.
-use Rattle.std.proofs.Common.{◌≡◌, ◌<◌, ◌+◌, ◌^◌, ◌++◌, drop, length}
-use Rattle.cnf_encode.specs.Formula.{packing_formula}
+use Rattle.std.proofs.Common.{◌≡◌, ◌+◌, ◌++◌, drop, length}
 use Rattle.auction_core.specs.NotShown.{each_fault}
 use Rattle.auction_core.proofs.receipts.receipts.Given as goal
 

@@ -1,5 +1,5 @@
 -- The set of a query ascends, and a log let through has no fault.
-use Rattle.std.proofs.Common.{◌≡◌, ◌∙◌, sym, ap}
+use Rattle.std.proofs.Common.{◌∙◌, sym, ap}
 use Rattle.cert_types.specs.Outside.{outside_fault}
 use Rattle.cert_types.specs.declared.outside.OutsideProof.{OutsideProof}
 use Rattle.cert_types.proofs.Outsiders.{means-outside}

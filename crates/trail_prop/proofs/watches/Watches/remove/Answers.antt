@@ -1,7 +1,7 @@
 use Rattle.std.proofs.Common.{List}
 use Rattle.std.specs.Prelude.{swap_remove}
 use Rattle.trail_prop.specs.declared.watches.Watch.{Watch}
-use Rattle.trail_prop.proofs.WatchLists.{lists-changed}
+use Rattle.clause_db.proofs.ChangedLists.{lists-changed}
 use Rattle.trail_prop.proofs.watches.Watches.remove.Goals as goal
 
 pub returns-clause-left : goal.returns-clause-left

@@ -1,7 +1,7 @@
 use Rattle.std.proofs.Common.{List, refl}
 use Rattle.std.specs.Prelude.{slice_set}
 use Rattle.trail_prop.specs.declared.watches.Watch.{Watch}
-use Rattle.trail_prop.proofs.WatchLists.{lists-changed}
+use Rattle.clause_db.proofs.ChangedLists.{lists-changed}
 use Rattle.trail_prop.proofs.watches.Watches.set.Goals as goal
 
 pub returns : goal.returns
