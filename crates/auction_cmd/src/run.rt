@@ -1,6 +1,6 @@
 //! The command `run`: the auction from files to result.
 
-ghost use Rattle.std.specs.Prelude.{◌≡◌, ◌⊎◌, [], IfErr, IfOk, OnOk, None};
+ghost use Rattle.std.specs.Prelude.{◌≡◌, [], IfErr, IfOk, OnOk, None};
 ghost use Rattle.std.specs.List.{list_any};
 ghost use Rattle.pack_defs.specs.Scenario.{IsWithinLimits};
 ghost use Rattle.auction_core.specs.Backed.{is_undecided, undecided_of};
@@ -8,7 +8,7 @@ ghost use Rattle.auction_core.specs.Setup.{IsOfAuction};
 ghost use Rattle.result_text.specs.ChannelsText.{channels_text};
 ghost use Rattle.transcript_text.specs.Spelling.{transcript_text};
 ghost use Rattle.auction_cmd.specs.Delivery.{Delivers, IsNotStored, IsStored, named};
-ghost use Rattle.auction_cmd.specs.Ends.{Concludes, IsStarved, RunEnds, output_texts};
+ghost use Rattle.auction_cmd.specs.Ends.{ConcludesUnlessStarved, RunEnds, output_texts};
 ghost use Rattle.auction_cmd.specs.Faults.{AreFaultsCounted};
 ghost use Rattle.auction_cmd.specs.Outside.{outside};
 ghost use Rattle.auction_cmd.specs.Records.{IsEndedRecordIn, IsRecordBy, IsRecordIn, done_status, result_of, run_order, summary_in};
@@ -172,9 +172,7 @@ pub fn conclude<F: Folder, K: Sink>(
 ) -> Finish
     requires limits { IsWithinLimits inputs.now.scenario }
     requires of { IsEndedRecordIn rec.order inputs.now rec rec.ending }
-    ensures ends { IsStarved
-        (outside (F.told folder.old) (K.told out.old)) (outside (F.told folder.new) (K.told out.new)) result.status result.result
-        ⊎ Concludes rec.order (names_seen names.now) inputs.now rec
+    ensures ends { ConcludesUnlessStarved rec.order (names_seen names.now) inputs.now rec
         (outside (F.told folder.old) (K.told out.old)) (outside (F.told folder.new) (K.told out.new)) result.status result.result }
     ensures no_other { result.below ≡ None }
     ensures no_batch { result.batch ≡ [] }

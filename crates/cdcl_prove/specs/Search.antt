@@ -5,7 +5,12 @@ use Rattle.clause_db.specs.Clause.{clause_at, is_empty_clause}
 use Rattle.rup_check.specs.declared.line.Line.{Line}
 use Rattle.rup_check.specs.Follows.{line_fault}
 use Rattle.pack_defs.specs.Lists.{has_entry}
+use Rattle.pack_defs.specs.declared.worker.Worker.{Worker}
+use Rattle.pack_defs.specs.Book.{BookView}
 use Rattle.cert_types.specs.declared.answer.Answer.{Answer}
+use Rattle.cert_types.specs.declared.task.Task.{Task}
+use Rattle.cert_types.specs.Refutes.{is_subset}
+use Rattle.cert_types.specs.Valid.{IsValid, learns}
 use Rattle.cert_types.specs.declared.answer.Answer.TheVariants as answer
 use Rattle.trail_prop.specs.declared.entry.Conflict.{Conflict}
 use Rattle.trail_prop.specs.Entries.{lits_of}
@@ -16,6 +21,7 @@ use Rattle.cdcl_prove.specs.declared.search.SearchStep.TheVariants as step
 use Rattle.cdcl_prove.specs.declared.solve.SearchEnd.{SearchEnd}
 use Rattle.cdcl_prove.specs.declared.solve.SearchEnd.TheVariants as outcome
 use Rattle.cdcl_prove.specs.Derivation.{Derived, clauses_of}
+use Rattle.cdcl_prove.specs.Formulas.{IsFormulaOf}
 use Rattle.cdcl_prove.specs.Picks.{IsTotal}
 
 -- every variable has a value, and no clause is false
@@ -51,3 +57,16 @@ abbrev pub IsFitOfChanges : List (ℕ × ℕ) → Answer → Type 0
 IsFitOfChanges last (answer.Fit d) = list_all (λ x. not (has_entry last x)) d ≡ true
 IsFitOfChanges last (answer.Refuted refutation) = ⊥
 IsFitOfChanges last (answer.Spent receipt) = ⊥
+
+-- the answer is valid for each query with these stations in its set, of a worker that learns and has a line more than these
+-- in its budget, where the lines are derived from the formula of these stations
+abbrev pub IsRefutationBy : List ℕ → Derived → Answer → Type 0
+IsRefutationBy subset d answer = (book : BookView) (task : Task) (worker : Worker) → learns worker.kind ≡ true →
+    IsFormulaOf book subset d.formula → is_subset subset task.set ≡ true → length d.lines < worker.budget →
+    IsValid book task worker answer
+
+-- the answer is valid for each query, of a worker that learns and has as many lines in its budget, where the lines are derived
+-- from the formula of the query's set
+abbrev pub IsReceiptBy : Derived → Answer → Type 0
+IsReceiptBy d answer = (book : BookView) (task : Task) (worker : Worker) → learns worker.kind ≡ true →
+    IsFormulaOf book task.set d.formula → length d.lines ≡ worker.budget → IsValid book task worker answer

@@ -1,17 +1,14 @@
 //! What the end of a search says of the query: the last step, from a model or a derivation to an answer.
 
-ghost use Rattle.std.specs.Prelude.{ℕ, ◌≡◌, ◌≤◌, ◌<◌, IfOk, length, true};
+ghost use Rattle.std.specs.Prelude.{ℕ, ◌≡◌, ◌≤◌, IfOk};
 ghost use Rattle.clause_db.specs.Clause.{has_lit, pos_lit};
-ghost use Rattle.pack_defs.specs.Book.{BookView};
 ghost use Rattle.pack_defs.specs.declared.worker.Worker.{Worker};
-ghost use Rattle.cert_types.specs.declared.task.Task.{Task};
 ghost use Rattle.cert_types.specs.Query.{IsQuery};
-ghost use Rattle.cert_types.specs.Refutes.{is_subset};
-ghost use Rattle.cert_types.specs.Valid.{IsValid, learns};
+ghost use Rattle.cert_types.specs.Valid.{IsValid};
 ghost use Rattle.cnf_encode.specs.Decode.{listed_model};
 ghost use Rattle.trail_prop.specs.Entries.{lits_of};
 ghost use Rattle.cdcl_prove.specs.Formulas.{IsFormulaOf};
-ghost use Rattle.cdcl_prove.specs.Search.{IsFitOfChanges, IsLast, IsModel};
+ghost use Rattle.cdcl_prove.specs.Search.{IsFitOfChanges, IsLast, IsModel, IsReceiptBy, IsRefutationBy};
 
 use crate::derivation::Derivation;
 use cert_types::answer::{Answer, Receipt, Refutation};
@@ -63,9 +60,7 @@ pub(crate) fn refutation(
     last: Line,
 ) -> Result<Answer, NoMemory>
     requires { IsLast derivation last }
-    ensures { (book : BookView) (task : Task) (worker : Worker) → learns worker.kind ≡ true →
-        IsFormulaOf book subset.now derivation.formula → is_subset subset.now task.set ≡ true →
-        length derivation.lines < worker.budget → IfOk result (λ answer. IsValid book task worker answer) }
+    ensures { IfOk result (IsRefutationBy subset.now derivation) }
 {
     let mut lines = derivation.into_lines();
     lines.push(last.lits.as_slice(), last.hints.as_slice())?;
@@ -79,9 +74,7 @@ pub(crate) fn refutation(
 
 /// The receipt of a derivation from the set's formula that has as many lines as the budget, for a worker that learns.
 pub(crate) fn receipt(derivation: Derivation) -> Answer
-    ensures { (book : BookView) (task : Task) (worker : Worker) → learns worker.kind ≡ true →
-        IsFormulaOf book task.set derivation.formula → length derivation.lines ≡ worker.budget →
-        IsValid book task worker result }
+    ensures { IsReceiptBy derivation result }
 {
     Answer::Spent(Receipt::Lines(Log {
         lines: derivation.into_lines().fitted(),

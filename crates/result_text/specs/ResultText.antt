@@ -5,11 +5,18 @@ use Rattle.std.specs.declared.alloc.Global.{Global}
 use Rattle.csv.specs.Writing.{default_writer, fields_written, has_written, writer_pending, writer_setup, writer_under}
 use Rattle.csv.specs.declared.writer.Writer.{Writer}
 use Rattle.pack_defs.specs.declared.scenario.Scenario.{Scenario}
-use Rattle.pack_defs.specs.ClockRule.{ClockTest, ClockState, is_listed}
+use Rattle.pack_defs.specs.Book.{BookView}
+use Rattle.pack_defs.specs.ClockRule.{ClockTest, ClockState, clock_rule, is_listed}
 use Rattle.pack_defs.specs.ResultRows.{Outcome, Start, Exit, Frozen, Undecided, ResultRow, on_air_row, result_rows}
 use Rattle.freeze_ledger.specs.Ledger.{price_of}
+use Rattle.auction_core.specs.declared.record.Record.{Record}
+use Rattle.auction_core.specs.Backed.{undecided_of}
 use Rattle.auction_core.specs.declared.clock.Standing.{Standing}
 use Rattle.auction_core.specs.declared.clock.Standing.TheVariants as standing
+
+-- the state at the end of the clock rule, with those tests left open that this record shows undecided
+abbrev pub final_state : Record → BookView → ClockState
+final_state rec book = clock_rule rec.scenario book rec.order (undecided_of rec.steps)
 
 -- the word for an outcome
 abbrev pub outcome_word : Outcome → List ℕ

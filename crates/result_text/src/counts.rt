@@ -2,10 +2,9 @@
 
 ghost use Rattle.std.specs.Prelude.{◌≡◌, ◌≤◌, ◌+◌, ◌++◌, IfOk, OnErr, OnOk, count_by, length, vec_capacity, vec_len};
 ghost use Rattle.pack_defs.specs.Scenario.{IsWithinLimits};
-ghost use Rattle.pack_defs.specs.ClockRule.{clock_rule};
 ghost use Rattle.auction_core.specs.Backed.{IsBacked, undecided_of};
 ghost use Rattle.auction_core.specs.Clock.{stands_frozen, stands_on_air};
-ghost use Rattle.result_text.specs.ResultText.{count_line, summary_text};
+ghost use Rattle.result_text.specs.ResultText.{count_line, final_state, summary_text};
 
 use crate::replay::final_outcomes;
 use auction_core::clock::Standing;
@@ -77,9 +76,7 @@ pub fn summary(alloc: Global, rec: &Record, book: &Book) -> Result<Vec<u8>, NoMe
     requires backed { IsBacked rec.now.scenario book.now rec.now.order rec.now }
     requires done { rec.now.ending ≡ Ending.Done }
     requires limits { IsWithinLimits rec.now.scenario }
-    ensures { IfOk result
-        (λ v. let tests = undecided_of rec.now.steps in
-        v.items ≡ summary_text rec.now.scenario (clock_rule rec.now.scenario book.now rec.now.order tests) tests) }
+    ensures { IfOk result (λ v. v.items ≡ summary_text rec.now.scenario (final_state rec.now book.now) (undecided_of rec.now.steps)) }
 {
     let outcomes = final_outcomes(alloc, rec, book)?;
     let standings = outcomes.clock.standings();

@@ -4,10 +4,9 @@ ghost use Rattle.std.specs.Prelude.{◌≡◌, ◌<◌, IfOk, IsFalse, MatchOpti
 ghost use Rattle.std.specs.List.Sorted.{IsStrictlyIncreasing};
 ghost use Rattle.pack_defs.specs.Lists.{is_in};
 ghost use Rattle.pack_defs.specs.Scenario.{IsWithinLimits, facilities};
-ghost use Rattle.pack_defs.specs.ClockRule.{clock_rule};
 ghost use Rattle.auction_core.specs.Backed.{IsBacked, is_undecided, undecided_of};
 ghost use Rattle.auction_core.specs.Clock.{IsClockOf};
-ghost use Rattle.result_text.specs.ResultText.{each_frozen_by};
+ghost use Rattle.result_text.specs.ResultText.{each_frozen_by, final_state};
 
 use auction_core::clock::{Clock, Standing};
 use auction_core::record::{Ending, Record, Shown};
@@ -48,9 +47,7 @@ pub(crate) fn final_outcomes(alloc: Global, rec: &Record, book: &Book) -> Result
     requires backed { IsBacked rec.now.scenario book.now rec.now.order rec.now }
     requires done { rec.now.ending ≡ Ending.Done }
     requires limits { IsWithinLimits rec.now.scenario }
-    ensures clock { IfOk result
-        (λ o. let tests = undecided_of rec.now.steps in
-        IsClockOf rec.now.scenario (clock_rule rec.now.scenario book.now rec.now.order tests) o.clock) }
+    ensures clock { IfOk result (λ o. IsClockOf rec.now.scenario (final_state rec.now book.now) o.clock) }
     ensures undecided { IfOk result
         (λ o. o.undecided.items ≡ each_frozen_by (undecided_of rec.now.steps) (facilities rec.now.scenario) o.clock.standings) }
 {

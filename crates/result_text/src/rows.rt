@@ -3,9 +3,8 @@
 ghost use Rattle.std.specs.Prelude.{◌≡◌, ◌++◌, IfOk, IsFalse, OnOk, length, map};
 ghost use Rattle.csv.specs.Writing.{default_writer, needs_quotes};
 ghost use Rattle.pack_defs.specs.Scenario.{IsWithinLimits};
-ghost use Rattle.pack_defs.specs.ClockRule.{clock_rule};
 ghost use Rattle.auction_core.specs.Backed.{IsBacked, undecided_of};
-ghost use Rattle.result_text.specs.ResultText.{IsBetweenRows, header_line, price_in, result_text, row_fields, standing_line, standing_lines, text_held};
+ghost use Rattle.result_text.specs.ResultText.{IsBetweenRows, final_state, header_line, price_in, result_text, row_fields, standing_line, standing_lines, text_held};
 
 use crate::replay::final_outcomes;
 use auction_core::clock::{Clock, Standing};
@@ -129,9 +128,7 @@ pub fn result_csv(alloc: Global, rec: &Record, book: &Book) -> Result<Vec<u8>, N
     requires backed { IsBacked rec.now.scenario book.now rec.now.order rec.now }
     requires done { rec.now.ending ≡ Ending.Done }
     requires limits { IsWithinLimits rec.now.scenario }
-    ensures { IfOk result
-        (λ v. let tests = undecided_of rec.now.steps in
-        v.items ≡ result_text rec.now.scenario (clock_rule rec.now.scenario book.now rec.now.order tests) tests) }
+    ensures { IfOk result (λ v. v.items ≡ result_text rec.now.scenario (final_state rec.now book.now) (undecided_of rec.now.steps)) }
 {
     let outcomes = final_outcomes(alloc, rec, book)?;
     standings_csv(

@@ -1,12 +1,16 @@
 -- A walk so far, and what it keeps.
-use Rattle.std.specs.Prelude.{ℕ, true, ◌≡◌, List, map, IsTrue, Contains}
+use Rattle.std.specs.Prelude.{ℕ, true, false, ◌≡◌, length, List, map, IsTrue, Contains}
 use Rattle.std.specs.List.{list_all}
 use Rattle.pack_defs.specs.declared.pair.Pair.{Pair}
 use Rattle.pack_defs.specs.Book.{BookView, domain_of}
 use Rattle.pack_defs.specs.ChannelMap.{IsAscending, overlaid}
 use Rattle.pack_defs.specs.Lists.{is_in}
 use Rattle.assign_check.specs.Fault.{is_violated}
-use Rattle.cert_types.specs.Walks.{AreSpentMoves, violates_some}
+use Rattle.pack_defs.specs.declared.worker.Worker.{Worker}
+use Rattle.cert_types.specs.declared.answer.Answer.{Answer}
+use Rattle.cert_types.specs.declared.task.Task.{Task}
+use Rattle.cert_types.specs.Valid.{IsValid, learns}
+use Rattle.cert_types.specs.Walks.{AreSpentMoves, start_map, violates_some}
 
 -- the book of a walk, the map that it starts from, the moves since then, and the map that they lead to
 pub record WalkCourseView : Type 0 where
@@ -32,3 +36,10 @@ pub record IsWalkCourse (v : WalkCourseView) : Type 0 where
 pub record IsViolated (book : BookView) (entries : List (ℕ × ℕ)) (p : Pair) : Type 0 where
   pub listed : Contains book.pairs p
   pub stands : is_violated entries p ≡ true
+
+-- the answer is valid for each query whose walks start from the map that this one starts from, of a worker that walks and has
+-- as many moves in its budget, where some pair is violated still
+abbrev pub IsReceiptOf : WalkCourseView → Answer → Type 0
+IsReceiptOf v answer = (task : Task) (worker : Worker) → violates_some v.book v.entries ≡ true →
+    v.start ≡ start_map v.book task.last task.set → learns worker.kind ≡ false → length v.moves ≡ worker.budget →
+    IsValid v.book task worker answer

@@ -1,12 +1,13 @@
 //! What the end of a walk says of the query: the last step, from its map or its moves to an answer.
 
-ghost use Rattle.std.specs.Prelude.{◌≡◌, IfOk, false, length, true};
+ghost use Rattle.std.specs.Prelude.{◌≡◌, IfOk, false, true};
 ghost use Rattle.pack_defs.specs.declared.worker.Worker.{Worker};
 ghost use Rattle.cert_types.specs.declared.task.Task.{Task};
 ghost use Rattle.cert_types.specs.Query.{IsQuery};
 ghost use Rattle.cert_types.specs.Refutes.{is_dead};
-ghost use Rattle.cert_types.specs.Valid.{IsValid, learns};
+ghost use Rattle.cert_types.specs.Valid.{IsValid};
 ghost use Rattle.cert_types.specs.Walks.{start_map, violates_some};
+ghost use Rattle.walk_repack.specs.Course.{IsReceiptOf};
 ghost use Rattle.walk_repack.specs.Steps.{map_stations};
 
 use crate::course::WalkCourse;
@@ -48,9 +49,7 @@ pub(crate) fn refutation(course: &WalkCourse, pair: Pair) -> Answer
 
 /// The receipt of a walk from the query's start map that has as many moves as the budget.
 pub(crate) fn receipt(course: WalkCourse) -> Answer
-    ensures { (task : Task) (worker : Worker) → violates_some course.book course.entries ≡ true →
-        course.start ≡ start_map course.book task.last task.set → learns worker.kind ≡ false →
-        length course.moves ≡ worker.budget → IsValid course.book task worker result }
+    ensures { IsReceiptOf course result }
 {
     Answer::Spent(Receipt::Moves(Items::from_vec(course.into_moves())))
 }
