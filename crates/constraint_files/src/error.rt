@@ -52,7 +52,7 @@ impl From<AllocError> for ReadErr {
 
 /// Why a record was not taken.
 #[derive(Clone, Copy, Debug, PartialEq, Eq)]
-pub enum RowErr {
+pub(crate) enum RowErr {
     /// It is refused.
     Refused(RowWhy),
     /// Memory ran out.

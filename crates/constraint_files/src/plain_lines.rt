@@ -17,7 +17,7 @@ use std::alloc::{AllocError as NoMemory, Global};
 
 /// Why records were not added.
 #[derive(Clone, Copy)]
-pub enum RunErr {
+pub(crate) enum RunErr {
     /// One is refused, the first, which has so many before it.
     Refused { before: u64, why: RowWhy },
     /// Memory ran out.

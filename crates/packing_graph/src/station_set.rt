@@ -15,9 +15,9 @@ pub trait StationSet {
 
 /// The stations of a list that ascends, found by halves.
 #[derive(Clone, Copy, Drop)]
-pub struct ListedStations<'a> {
-    pub list: &'a [u32],
-    pub ghost ascending: { IsTrue (is_ascending list.now) },
+pub(crate) struct ListedStations<'a> {
+    pub(crate) list: &'a [u32],
+    pub(crate) ghost ascending: { IsTrue (is_ascending list.now) },
 }
 
 impl<'a> StationSet for ListedStations<'a> {

@@ -55,7 +55,7 @@ impl<'a> Model for Literals<'a> {
 
 impl<'a> Literals<'a> {
     /// The literals of a clause.
-    pub fn of_clause(clause: &'a [Lit]) -> Literals<'a>
+    pub(crate) fn of_clause(clause: &'a [Lit]) -> Literals<'a>
         ensures { result ≡ clause.now }
     {
         Literals {

@@ -9,9 +9,9 @@ use std::marker::Model;
 
 /// A station on air, and the round in which it went on air; 0 for the start.
 #[derive(Debug, Drop)]
-pub struct Aired {
-    pub station: u32,
-    pub round: usize,
+pub(crate) struct Aired {
+    pub(crate) station: u32,
+    pub(crate) round: usize,
 }
 
 impl Model for Aired {
@@ -33,7 +33,7 @@ impl Aired {
 
 /// A station that is bought, the round in which it was frozen, and what it is paid, in cents.
 #[derive(Debug, Drop)]
-pub struct Bought {
+pub(crate) struct Bought {
     station: u32,
     round: usize,
     price: u64,
@@ -58,7 +58,7 @@ impl Bought {
 
 /// The state of the clock between two tests, in three plain lists.
 #[derive(Debug, Drop)]
-pub struct PlainClock {
+pub(crate) struct PlainClock {
     on_air: Vec<Aired>,
     frozen: Vec<Bought>,
     active: Vec<u32>,
@@ -74,7 +74,7 @@ impl Model for PlainClock {
 
 impl PlainClock {
     /// The clock before its first round, with these stations on air and these still asked.
-    pub fn open(alloc: Global, on_air: Vec<Aired>, active: Vec<u32>) -> PlainClock
+    pub(crate) fn open(alloc: Global, on_air: Vec<Aired>, active: Vec<u32>) -> PlainClock
         ensures { result ≡ record { on_air = on_air.items; frozen = []; active = active.items } }
     {
         PlainClock {
@@ -85,28 +85,28 @@ impl PlainClock {
     }
 
     /// Whether the station is still asked.
-    pub fn is_active(&self, s: u32) -> bool
+    pub(crate) fn is_active(&self, s: u32) -> bool
         ensures { result ≡ is_active self.now s }
     {
         self.active.iter().any(|x| *x == s)
     }
 
     /// Whether the station is on air.
-    pub fn is_on_air(&self, s: u32) -> bool
+    pub(crate) fn is_on_air(&self, s: u32) -> bool
         ensures { result ≡ is_on_air self.now s }
     {
         self.on_air.iter().any(|x| x.is_of(s))
     }
 
     /// Whether the station is frozen.
-    pub fn is_frozen(&self, s: u32) -> bool
+    pub(crate) fn is_frozen(&self, s: u32) -> bool
         ensures { result ≡ is_frozen self.now s }
     {
         self.frozen.iter().any(|x| x.is_of(s))
     }
 
     /// The station goes on air in this round. The only error is want of memory.
-    pub fn air(&mut self, s: u32, round: usize) -> Result<(), NoMemory>
+    pub(crate) fn air(&mut self, s: u32, round: usize) -> Result<(), NoMemory>
         ensures { IfOk result (λ _. self.new ≡ goes_on_air self.old (record { round = round; station = s })) }
     {
         self.on_air.push(Aired { station: s, round })?;
@@ -115,7 +115,7 @@ impl PlainClock {
     }
 
     /// The station is frozen in this round, at this price, in cents. The only error is want of memory.
-    pub fn freeze(&mut self, s: u32, round: usize, price: u64) -> Result<(), NoMemory>
+    pub(crate) fn freeze(&mut self, s: u32, round: usize, price: u64) -> Result<(), NoMemory>
         ensures { IfOk result (λ _. self.new ≡ freezes_at self.old (record { station = s; round = round; price = price })) }
     {
         self.frozen.push(Bought {

@@ -19,10 +19,10 @@ use std::alloc::{AllocError as NoMemory, Global};
 /// An auction to run: its scenario and book, and the price of each round from 0, the opening, to the last fall, in
 /// cents per unit of volume.
 #[derive(Drop)]
-pub struct PlainRule<'a> {
-    pub sc: &'a Scenario,
-    pub book: &'a Book,
-    pub schedule: &'a [u32],
+pub(crate) struct PlainRule<'a> {
+    pub(crate) sc: &'a Scenario,
+    pub(crate) book: &'a Book,
+    pub(crate) schedule: &'a [u32],
     ghost priced: { schedule.now ≡ prices sc.now },
 }
 
@@ -220,7 +220,7 @@ impl PlainRule<'_> {
     }
 
     /// The clock after every test, the tests of a round in this order. The only error is want of memory.
-    pub fn run(&self, alloc: Global, order: Order) -> Result<PlainClock, NoMemory>
+    pub(crate) fn run(&self, alloc: Global, order: Order) -> Result<PlainClock, NoMemory>
         requires { StationsAscend self.now.sc.now }
         ensures { IfOk result (λ clock. clock ≡ clock_rule self.now.sc.now self.now.book.now order []) }
     {

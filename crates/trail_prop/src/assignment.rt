@@ -14,7 +14,7 @@ use std::marker::Model;
 
 /// The entries of a trail over variables 1 to `vars`, with room for one of each variable.
 #[derive(Drop)]
-pub struct TrueLiterals {
+pub(crate) struct TrueLiterals {
     vars: u32,
     entries: Vec<TrailEntry>,
     marks: Vec<bool>,
@@ -33,7 +33,7 @@ impl Model for TrueLiterals {
 }
 
 /// The place of a literal's mark, or of its watches: two places for each variable.
-pub fn code(lit: Lit) -> usize
+pub(crate) fn code(lit: Lit) -> usize
     requires { HasCode lit }
     ensures { result ≡ code_of lit }
 {
@@ -43,7 +43,7 @@ pub fn code(lit: Lit) -> usize
 
 impl TrueLiterals {
     /// No entry.
-    pub fn new(alloc: Global, vars: u32) -> Result<TrueLiterals, NoMemory>
+    pub(crate) fn new(alloc: Global, vars: u32) -> Result<TrueLiterals, NoMemory>
         ensures { IfOk result (λ a. a ≡ record { vars = vars; entries = [] }) }
     {
         let entries = Vec::with_capacity(alloc, vars as usize)?;
@@ -64,21 +64,21 @@ impl TrueLiterals {
     }
 
     /// The number of variables.
-    pub fn vars(&self) -> u32
+    pub(crate) fn vars(&self) -> u32
         ensures { result ≡ self.now.vars }
     {
         self.vars
     }
 
     /// The entries in order.
-    pub fn entries(&self) -> &[TrailEntry]
+    pub(crate) fn entries(&self) -> &[TrailEntry]
         ensures { result.now ≡ self.now.entries }
     {
         &self.entries
     }
 
     /// Whether a literal is true.
-    pub fn is_true(&self, lit: Lit) -> bool
+    pub(crate) fn is_true(&self, lit: Lit) -> bool
         requires { LitWithin self.now.vars lit }
         ensures { result ≡ has_lit (lits_of self.now.entries) lit }
     {
@@ -86,7 +86,7 @@ impl TrueLiterals {
     }
 
     /// The entry of a variable, if it has one.
-    pub fn entry_of(&self, var: u64) -> Option<TrailEntry>
+    pub(crate) fn entry_of(&self, var: u64) -> Option<TrailEntry>
         requires from_one { 1 ≤ var }
         requires to_vars { var ≤ self.now.vars }
         ensures found { IfSome result (λ e. IsEntryOf self.now.entries var e) }
@@ -104,7 +104,7 @@ impl TrueLiterals {
     }
 
     /// Puts an entry of an open variable after the last.
-    pub fn push(&mut self, entry: TrailEntry)
+    pub(crate) fn push(&mut self, entry: TrailEntry)
         requires within { LitWithin self.old.vars entry.lit }
         requires opens { is_open (lits_of self.old.entries) entry.lit ≡ true }
         ensures { self.new ≡ record { vars = self.old.vars; entries = self.old.entries ++ entry ∷ [] } }
@@ -118,7 +118,7 @@ impl TrueLiterals {
     }
 
     /// Takes the last entry away.
-    pub fn pop(&mut self) -> TrailEntry
+    pub(crate) fn pop(&mut self) -> TrailEntry
         requires { 0 < length self.old.entries }
         ensures vars { self.new.vars ≡ self.old.vars }
         ensures entries { self.old.entries ≡ self.new.entries ++ result ∷ [] }

@@ -13,7 +13,7 @@ use crate::turn::WatchPlaces;
 use clause_db::lit::Lit;
 
 /// Whether some literal of the clause is true.
-pub fn has_true(assigned: &TrueLiterals, clause: &[Lit]) -> bool
+pub(crate) fn has_true(assigned: &TrueLiterals, clause: &[Lit]) -> bool
     requires { LitsWithin assigned.now.vars clause.now }
     ensures { result ≡ true → HasTrue (lits_of assigned.now.entries) clause.now }
 {
@@ -55,7 +55,7 @@ fn good_place(plain: &PlainTrail, clause: &[Lit], holds: bool, beside: Option<Li
 }
 
 /// Two places of the clause that may be watched.
-pub fn good_places(plain: &PlainTrail, clause: &[Lit]) -> Option<WatchPlaces>
+pub(crate) fn good_places(plain: &PlainTrail, clause: &[Lit]) -> Option<WatchPlaces>
     requires { LitsWithin plain.now.clauses.vars clause.now }
     ensures { IfSome result (AreGood plain.now.entries clause.now) }
 {

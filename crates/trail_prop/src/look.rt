@@ -10,14 +10,14 @@ use clause_db::lit::Lit;
 
 /// What a clause says where some literals are true: it is false, it forces a literal, or neither.
 #[derive(Clone, Copy, Debug, PartialEq, Eq)]
-pub enum ClauseLook {
+pub(crate) enum ClauseLook {
     False,
     Forces(Lit),
     Settled,
 }
 
 /// What a clause says where the literals of an assignment are true.
-pub fn look_at(assigned: &TrueLiterals, clause: &[Lit]) -> ClauseLook
+pub(crate) fn look_at(assigned: &TrueLiterals, clause: &[Lit]) -> ClauseLook
     requires { LitsWithin assigned.now.vars clause.now }
     ensures { ClauseLookIs (lits_of assigned.now.entries) clause.now result }
 {

@@ -38,7 +38,7 @@ impl Model for PlainTrail {
 
 /// What a part of propagation found: a false clause; that none is false and none forces; or that there is more to do.
 #[derive(Clone, Copy, Debug, PartialEq, Eq)]
-pub enum PropagationStep {
+pub(crate) enum PropagationStep {
     Found(Conflict),
     Quiet,
     Moved,
@@ -90,7 +90,7 @@ impl PlainTrail {
     }
 
     /// The literals that are true.
-    pub fn assigned(&self) -> &TrueLiterals
+    pub(crate) fn assigned(&self) -> &TrueLiterals
         ensures { result.now ≡ record { vars = self.now.clauses.vars; entries = self.now.entries } }
     {
         &self.assigned

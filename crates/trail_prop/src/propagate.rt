@@ -24,14 +24,14 @@ use std::alloc::AllocError as NoMemory;
 
 /// What became of a watch in the list of a literal that is false now.
 #[derive(Clone, Copy, Debug, PartialEq, Eq)]
-pub enum WatchMet {
+pub(crate) enum WatchMet {
     False(Conflict),
     Stays,
     Leaves,
 }
 
 /// Puts every literal on the trail that a clause forces, until a clause is false or none forces any more.
-pub fn propagate(watching: &mut Watching) -> Result<Option<Conflict>, NoMemory>
+pub(crate) fn propagate(watching: &mut Watching) -> Result<Option<Conflict>, NoMemory>
     ensures clauses { watching.new.trail.clauses ≡ watching.old.trail.clauses }
     ensures grows { Grows watching.old.trail.entries watching.new.trail.entries }
     ensures conflict { IfOk result (λ r. IfSome r (λ c. IsFalseAt (lits_of watching.new.trail.entries) (clause_at watching.new.trail.clauses.list c.clause))) }

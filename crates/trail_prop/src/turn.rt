@@ -12,14 +12,14 @@ use clause_db::lit::Lit;
 
 /// The places of the two literals that a clause watches.
 #[derive(Clone, Copy, Debug, PartialEq, Eq)]
-pub struct WatchPlaces {
-    pub first: usize,
-    pub second: usize,
+pub(crate) struct WatchPlaces {
+    pub(crate) first: usize,
+    pub(crate) second: usize,
 }
 
 impl WatchPlaces {
     /// No place in particular, for a clause that is not watched.
-    pub fn none() -> WatchPlaces
+    pub(crate) fn none() -> WatchPlaces
         ensures { result ≡ record { first = 0; second = 0 } }
     {
         WatchPlaces {
@@ -31,23 +31,23 @@ impl WatchPlaces {
 
 /// The place of the watched literal that became false, and that of the other.
 #[derive(Clone, Copy, Debug, PartialEq, Eq)]
-pub struct Sides {
-    pub mine: usize,
-    pub other: usize,
+pub(crate) struct Sides {
+    pub(crate) mine: usize,
+    pub(crate) other: usize,
 }
 
 /// The places that a clause watches from now on, the new one first, and the literals there.
 #[derive(Clone, Copy, Debug, PartialEq, Eq)]
-pub struct Moved {
-    pub places: WatchPlaces,
-    pub lit: Lit,
-    pub other: Lit,
+pub(crate) struct Moved {
+    pub(crate) places: WatchPlaces,
+    pub(crate) lit: Lit,
+    pub(crate) other: Lit,
 }
 
 /// What a clause does: its other watched literal is true; it watches another literal; all its literals but the other
 /// watched one are false; or it can't be watched.
 #[derive(Clone, Copy, Debug, PartialEq, Eq)]
-pub enum ClauseTurn {
+pub(crate) enum ClauseTurn {
     Holds(Lit),
     Moves(Moved),
     Leaves(Lit),
@@ -90,7 +90,7 @@ fn find_place(assigned: &TrueLiterals, clause: &[Lit], sides: Sides) -> Option<u
 }
 
 /// What a clause does that watches these places, now that this literal is false.
-pub fn turn_of(
+pub(crate) fn turn_of(
     assigned: &TrueLiterals,
     clause: &[Lit],
     places: WatchPlaces,

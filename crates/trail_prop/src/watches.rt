@@ -13,15 +13,15 @@ use std::marker::Model;
 /// A clause by its number, and the code of one of its literals: where that is true, the clause needs no look. Where
 /// `pair` is set, the clause has no other literals than that and the one that is watched.
 #[derive(Clone, Copy, Debug, PartialEq, Eq)]
-pub struct Watch {
-    pub clause: u32,
-    pub blocker: u32,
-    pub pair: bool,
+pub(crate) struct Watch {
+    pub(crate) clause: u32,
+    pub(crate) blocker: u32,
+    pub(crate) pair: bool,
 }
 
 impl Watch {
     /// A watch of this clause, where the numbers are small enough for one.
-    pub fn of(number: u64, blocker: Lit, pair: bool) -> Option<Watch>
+    pub(crate) fn of(number: u64, blocker: Lit, pair: bool) -> Option<Watch>
         requires { HasCode blocker }
         ensures { IfSome result (λ w. (w.clause ≡ number) × (lit_of w.blocker ≡ blocker) × (w.pair ≡ pair)) }
     {
@@ -39,7 +39,7 @@ impl Watch {
     }
 
     /// The same watch with this blocker, or as it was where the literal's code is too large for one.
-    pub fn blocked_by(self, other: Lit) -> Watch
+    pub(crate) fn blocked_by(self, other: Lit) -> Watch
         requires { HasCode other }
         ensures same { (result.clause ≡ self.clause) × (result.pair ≡ self.pair) }
         ensures blocker { (lit_of result.blocker ≡ other) ⊎ (result.blocker ≡ self.blocker) }
@@ -57,7 +57,7 @@ impl Watch {
     }
 
     /// The literal that saves the look.
-    pub fn blocker(self) -> Lit
+    pub(crate) fn blocker(self) -> Lit
         ensures { result ≡ lit_of self.blocker }
     {
         Lit {
@@ -69,7 +69,7 @@ impl Watch {
 
 /// For each literal's code the watches of that literal.
 #[derive(Drop)]
-pub struct Watches {
+pub(crate) struct Watches {
     lists: Vec<Vec<Watch>>,
 }
 
@@ -84,7 +84,7 @@ impl Model for Watches {
 
 impl Watches {
     /// No watch of as many literals.
-    pub fn new(alloc: Global, count: usize) -> Result<Watches, NoMemory>
+    pub(crate) fn new(alloc: Global, count: usize) -> Result<Watches, NoMemory>
         ensures { IfOk result (λ w. w ≡ replicate count []) }
     {
         let mut lists = Vec::with_capacity(alloc, count)?;
@@ -95,7 +95,7 @@ impl Watches {
     }
 
     /// The number of a literal's watches.
-    pub fn len(&self, code: usize) -> usize
+    pub(crate) fn len(&self, code: usize) -> usize
         requires { code < length self.now }
         ensures { result ≡ length (slice_index_or self.now code []) }
     {
@@ -103,7 +103,7 @@ impl Watches {
     }
 
     /// A literal's watch at a place.
-    pub fn at(&self, code: usize, at: usize) -> Watch
+    pub(crate) fn at(&self, code: usize, at: usize) -> Watch
         requires { IsListed self.now code at }
         ensures { result ≡ slice_index_or (slice_index_or self.now code []) at result }
     {
@@ -111,7 +111,7 @@ impl Watches {
     }
 
     /// Puts a watch after the last of a literal's.
-    pub fn push(&mut self, code: usize, watch: Watch) -> Result<(), NoMemory>
+    pub(crate) fn push(&mut self, code: usize, watch: Watch) -> Result<(), NoMemory>
         requires { code < length self.old }
         ensures pushed { OnOk result (self.new ≡ slice_set self.old code (slice_index_or self.old code [] ++ watch ∷ [])) }
         ensures unchanged { OnErr result (self.new ≡ self.old) }
@@ -123,7 +123,7 @@ impl Watches {
     }
 
     /// Puts a watch in the place of one of a literal's.
-    pub fn set(&mut self, code: usize, at: usize, watch: Watch)
+    pub(crate) fn set(&mut self, code: usize, at: usize, watch: Watch)
         requires { IsListed self.old code at }
         ensures { self.new ≡ slice_set self.old code (slice_set (slice_index_or self.old code []) at watch) }
     {
@@ -131,7 +131,7 @@ impl Watches {
     }
 
     /// Takes one of a literal's watches away, and puts the last in its place.
-    pub fn remove(&mut self, code: usize, at: usize) -> Watch
+    pub(crate) fn remove(&mut self, code: usize, at: usize) -> Watch
         requires { IsListed self.old code at }
         ensures value { result ≡ slice_index_or (slice_index_or self.old code []) at result }
         ensures left { self.new ≡ slice_set self.old code (swap_remove (slice_index_or self.old code []) at result) }

@@ -24,7 +24,7 @@ use std::marker::Model;
 /// A trail whose clauses each wait for a look, or are true for good, or watch two of their literals. The entries before
 /// the head are propagated: where one made a watched literal false, the clause has been true since.
 #[derive(Drop)]
-pub struct Watching {
+pub(crate) struct Watching {
     plain: PlainTrail,
     watches: Watches,
     places: Vec<WatchPlaces>,
@@ -66,7 +66,7 @@ fn no_places(alloc: Global, count: u64) -> Result<Vec<WatchPlaces>, NoMemory>
 
 impl Watching {
     /// No entry yet, and each clause waits for a look.
-    pub fn new(alloc: Global, clauses: ClauseList) -> Result<Watching, NoMemory>
+    pub(crate) fn new(alloc: Global, clauses: ClauseList) -> Result<Watching, NoMemory>
         requires { ClausesWithin clauses.vars clauses.list }
         ensures { IfOk result (λ w. w.trail ≡ record { clauses = clauses; entries = [] }) }
     {
@@ -85,7 +85,7 @@ impl Watching {
     }
 
     /// The clauses and the entries.
-    pub fn plain(&self) -> &PlainTrail
+    pub(crate) fn plain(&self) -> &PlainTrail
         ensures plain { result.now ≡ self.now.trail }
         ensures watchful { IsWatchful self.now }
     {
@@ -93,7 +93,7 @@ impl Watching {
     }
 
     /// The entry at the head, if not all are propagated.
-    pub fn next(&self) -> Option<TrailEntry>
+    pub(crate) fn next(&self) -> Option<TrailEntry>
         ensures { NextIs self.now result }
     {
         self.plain.keeps_reasons();
@@ -106,7 +106,7 @@ impl Watching {
     }
 
     /// The number of the watches of a literal.
-    pub fn count(&self, lit: Lit) -> usize
+    pub(crate) fn count(&self, lit: Lit) -> usize
         requires { LitWithin self.now.trail.clauses.vars lit }
         ensures { result ≡ length (watches_at self.now.lists lit) }
     {
@@ -114,7 +114,7 @@ impl Watching {
     }
 
     /// The watch of a literal at a place.
-    pub fn watch(&self, lit: Lit, at: usize) -> Watch
+    pub(crate) fn watch(&self, lit: Lit, at: usize) -> Watch
         requires within { LitWithin self.now.trail.clauses.vars lit }
         requires place { at < length (watches_at self.now.lists lit) }
         ensures watch { result ≡ slice_index_or (watches_at self.now.lists lit) at result }
@@ -124,7 +124,7 @@ impl Watching {
     }
 
     /// The places that the clause of a number watches, if it does.
-    pub fn places(&self, number: u64) -> WatchPlaces
+    pub(crate) fn places(&self, number: u64) -> WatchPlaces
         requires { IsNumber (length self.now.trail.clauses.list) number }
         ensures { result ≡ places_of self.now.places (number - 1) }
     {
@@ -132,14 +132,14 @@ impl Watching {
     }
 
     /// How many times a clause waits for a look.
-    pub fn pending(&self) -> usize
+    pub(crate) fn pending(&self) -> usize
         ensures { result ≡ length self.now.pending }
     {
         self.pending.len()
     }
 
     /// The number of a clause that waits for a look.
-    pub fn waiting(&self, at: usize) -> u64
+    pub(crate) fn waiting(&self, at: usize) -> u64
         requires { at < length self.now.pending }
         ensures waits { IsWaiting self.now at result }
         ensures number { IsNumber (length self.now.trail.clauses.list) result }
@@ -148,7 +148,7 @@ impl Watching {
     }
 
     /// Puts a clause after the last, which waits for a look.
-    pub fn add(&mut self, clause: &[Lit]) -> Result<(), NoMemory>
+    pub(crate) fn add(&mut self, clause: &[Lit]) -> Result<(), NoMemory>
         requires { LitsWithin self.old.trail.clauses.vars clause.now }
         ensures added { OnOk result (self.new.trail ≡ record { clauses = record { vars = self.old.trail.clauses.vars; list = self.old.trail.clauses.list ++ clause.now ∷ [] }; entries = self.old.trail.entries }) }
         ensures unchanged { OnErr result (self.new.trail ≡ self.old.trail) }
@@ -162,7 +162,7 @@ impl Watching {
     }
 
     /// Opens a level with a literal whose variable has no value.
-    pub fn decide(&mut self, lit: Lit)
+    pub(crate) fn decide(&mut self, lit: Lit)
         requires within { LitWithin self.old.trail.clauses.vars lit }
         requires opens { value_known (lits_of self.old.trail.entries) lit.var ≡ None }
         ensures { self.new.trail ≡ record { clauses = self.old.trail.clauses; entries = self.old.trail.entries ++ record { lit = lit; level = level_of self.old.trail.entries + 1; reason = None } ∷ [] } }
@@ -171,7 +171,7 @@ impl Watching {
     }
 
     /// Takes away the entries above a level.
-    pub fn backjump(&mut self, level: u32)
+    pub(crate) fn backjump(&mut self, level: u32)
         requires { level ≤ level_of self.old.trail.entries }
         ensures clauses { self.new.trail.clauses ≡ self.old.trail.clauses }
         ensures kept { self.new.trail.entries ≡ filter (is_up_to level) self.old.trail.entries }
@@ -183,7 +183,7 @@ impl Watching {
     }
 
     /// Propagates by looking at all clauses, and leaves the head where it is.
-    pub fn scan(&mut self) -> Option<Conflict>
+    pub(crate) fn scan(&mut self) -> Option<Conflict>
         ensures clauses { self.new.trail.clauses ≡ self.old.trail.clauses }
         ensures grows { Grows self.old.trail.entries self.new.trail.entries }
         ensures conflict { IfSome result (λ c. IsFalseAt (lits_of self.new.trail.entries) (clause_at self.new.trail.clauses.list c.clause)) }
@@ -193,7 +193,7 @@ impl Watching {
     }
 
     /// Puts a literal after the last that a clause forces.
-    pub fn force(&mut self, lit: Lit, number: u64)
+    pub(crate) fn force(&mut self, lit: Lit, number: u64)
         requires { forced_at (lits_of self.old.trail.entries) (clause_at self.old.trail.clauses.list number) ≡ Some lit }
         ensures pushed { self.new ≡ onto self.old (record { clauses = self.old.trail.clauses; entries = self.old.trail.entries ++ record { lit = lit; level = level_of self.old.trail.entries; reason = Some number } ∷ [] }) }
         ensures room { length self.new.trail.entries ≤ self.new.trail.clauses.vars }
@@ -202,7 +202,7 @@ impl Watching {
     }
 
     /// Passes the entry at the head, once each clause that watches its opposite has a true literal.
-    pub fn advance(&mut self, gone: Lit)
+    pub(crate) fn advance(&mut self, gone: Lit)
         requires stands { StandsAt self.old.trail.entries self.old.head (level_of self.old.trail.entries) gone }
         requires held { All (IsWatchHeld self.old) (watches_at self.old.lists gone) }
         ensures trail { self.new.trail ≡ self.old.trail }
@@ -216,7 +216,7 @@ impl Watching {
     }
 
     /// Puts a watch in the place of another of the same clause.
-    pub fn put(&mut self, gone: Lit, at: usize, watch: Watch)
+    pub(crate) fn put(&mut self, gone: Lit, at: usize, watch: Watch)
         requires stands { IsWatchOf self.old gone at watch.clause }
         requires fits { WatchFits self.old.trail.clauses.list gone watch }
         ensures { self.new ≡ relisted self.old gone (slice_set (watches_at self.old.lists gone) at watch) }
@@ -225,7 +225,7 @@ impl Watching {
     }
 
     /// Puts a watch after the last of a literal's.
-    pub fn hang(&mut self, lit: Lit, watch: Watch) -> Result<(), NoMemory>
+    pub(crate) fn hang(&mut self, lit: Lit, watch: Watch) -> Result<(), NoMemory>
         requires within { LitWithin self.old.trail.clauses.vars lit }
         requires fits { WatchFits self.old.trail.clauses.list lit watch }
         ensures hung { OnOk result (self.new ≡ relisted self.old lit (watches_at self.old.lists lit ++ watch ∷ [])) }
@@ -236,7 +236,7 @@ impl Watching {
     }
 
     /// Has the clause of a watch wait for a look, and takes the watch away.
-    pub fn shelve(&mut self, gone: Lit, at: usize, number: u64) -> Result<(), NoMemory>
+    pub(crate) fn shelve(&mut self, gone: Lit, at: usize, number: u64) -> Result<(), NoMemory>
         requires stands { IsWatchOf self.old gone at number }
         requires number { IsNumber (length self.old.trail.clauses.list) number }
         ensures shrinks { OnOk result (Shrinks self.old self.new gone at) }
@@ -248,7 +248,7 @@ impl Watching {
     }
 
     /// Takes away a watch whose clause watches another literal from now on.
-    pub fn leave(&mut self, gone: Lit, at: usize, number: u64, moved: Moved)
+    pub(crate) fn leave(&mut self, gone: Lit, at: usize, number: u64, moved: Moved)
         requires stands { IsWatchOf self.old gone at number }
         requires number { IsNumber (length self.old.trail.clauses.list) number }
         requires gone { has_lit (lits_of self.old.trail.entries) (opposite gone) ≡ true }
@@ -263,7 +263,7 @@ impl Watching {
     }
 
     /// Has a clause wait no longer that is true for good.
-    pub fn forget(&mut self, at: usize, number: u64)
+    pub(crate) fn forget(&mut self, at: usize, number: u64)
         requires waits { IsWaiting self.old at number }
         requires fixed { IsFixed self.old.trail.entries (clause_of self.old.trail.clauses.list (number - 1)) }
         ensures trail { self.new.trail ≡ self.old.trail }
@@ -274,7 +274,7 @@ impl Watching {
     }
 
     /// Has a clause wait no longer that is watched from now on.
-    pub fn settle(&mut self, at: usize, number: u64, places: WatchPlaces)
+    pub(crate) fn settle(&mut self, at: usize, number: u64, places: WatchPlaces)
         requires waits { IsWaiting self.old at number }
         requires number { IsNumber (length self.old.trail.clauses.list) number }
         requires watched { IsWatched self.old.trail.entries self.old.head self.old.lists number (clause_of self.old.trail.clauses.list (number - 1)) places }

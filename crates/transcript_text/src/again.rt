@@ -31,7 +31,7 @@ fn fit_ascends(shown: &Shown)
 {
     match shown {
         Shown::Fits(delta) => {
-            let _entries = delta.entries();
+            delta.keeps_order();
             return;
         }
         Shown::Empty | Shown::Same | Shown::NoChannel(_) => return,
@@ -55,7 +55,7 @@ fn is_kept(book: &Book)
     ensures pairs { length book.now.pairs < 2 ^ 62 }
 {
     book.keeps_order();
-    let _pairs = book.pairs();
+    book.keeps_to_memory();
 }
 
 /// The numbers of this scenario and this book are such as a transcript names, where the channels are those of a file. It

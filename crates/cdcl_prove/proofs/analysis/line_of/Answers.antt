@@ -7,8 +7,8 @@ use Rattle.cdcl_prove.proofs.analysis.line_of.Goals as goal
 
 pub loop-entry-init : goal.loop-entry-init
 loop-entry-init c = record {
-  all = c.entries-entry-items.ensures.entries;
-  within = subst (λ (n : ℕ). All (λ (e : TrailEntry). LitWithin n e.lit) c.args.trail.now.entries) (sym c.requires) (each-within c.args.trail.now.clauses [] c.args.trail.now.entries c.entries-entry-items.ensures.trail);
+  all = c.entries-entry-items.ensures;
+  within = subst (λ (n : ℕ). All (λ (e : TrailEntry). LitWithin n e.lit) c.args.trail.now.entries) (sym c.requires) (each-within c.args.trail.now.clauses [] c.args.trail.now.entries c.keeps_reasons.ensures);
   lits = c.new-lits.ensures.items;
   hints = c.new-hints.ensures.items;
 }

@@ -15,6 +15,6 @@ get-clause-requires-clause-to_len c =
 
 pub meet-unresolved-requires : goal.meet-unresolved-requires
 meet-unresolved-requires c =
-    let within : LitsWithin c.args.trail.now.clauses.vars c.get-clause.result.now = false-within_at c.args.trail.now.clauses c.args.trail.now.entries (clause_at c.args.trail.now.clauses.list c.args.conflict.clause) c.get-clause.result.now c.entries-count.ensures.trail (subst (λ (z : Clauses). clause_at z.list c.args.conflict.clause ≡ Some c.get-clause.result.now) c.clauses.ensures.clauses c.get-clause.ensures.clause) c.requires in
+    let within : LitsWithin c.args.trail.now.clauses.vars c.get-clause.result.now = false-within_at c.args.trail.now.clauses c.args.trail.now.entries (clause_at c.args.trail.now.clauses.list c.args.conflict.clause) c.get-clause.result.now c.keeps_reasons.ensures (subst (λ (z : Clauses). clause_at z.list c.args.conflict.clause ≡ Some c.get-clause.result.now) c.clauses.ensures.clauses c.get-clause.ensures.clause) c.requires in
     let size : length c.reset.new.self ≡ c.args.trail.now.clauses.vars = c.in_ok-reset.ensures.size ∙ (c.vars.ensures ∙ ap (λ (z : Clauses). z.vars) c.clauses-2.ensures.clauses) in
     subst (λ (n : ℕ). LitsWithin n c.get-clause.result.now) (sym size) within

@@ -24,36 +24,36 @@ clause-at : (c : Clauses) (es list : List TrailEntry) (at n size : ℕ) (clause 
 clause-at c es list at n size clause e t l r k s = subst (λ (v : ℕ). LitsWithin v clause) (sym s) (reason-within c es at n none-yet clause t l (subst (λ (z : List TrailEntry). (get_or z at none-yet).reason ≡ Some n) e r) k)
 
 pub get-requires-clause-from_one : goal.get-requires-clause-from_one
-get-requires-clause-from_one c = (within-at c.args.trail.now.clauses c.args.trail.now.entries c.entries-entries.result.now c.args.at c.entries-entries.ensures.entries c.entries-entries.ensures.trail c.requires.within).0
+get-requires-clause-from_one c = (within-at c.args.trail.now.clauses c.args.trail.now.entries c.entries-entries.result.now c.args.at c.entries-entries.ensures c.keeps_reasons.ensures c.requires.within).0
 
 pub get-requires-clause-within : goal.get-requires-clause-within
 get-requires-clause-within c =
-    let w = (within-at c.args.trail.now.clauses c.args.trail.now.entries c.entries-entries.result.now c.args.at c.entries-entries.ensures.entries c.entries-entries.ensures.trail c.requires.within).1 in
+    let w = (within-at c.args.trail.now.clauses c.args.trail.now.entries c.entries-entries.result.now c.args.at c.entries-entries.ensures c.keeps_reasons.ensures c.requires.within).1 in
     let s = c.requires.closed.size in
     omega arith
 
 pub get-clause-requires-clause-from_one : goal.get-clause-requires-clause-from_one
-get-clause-requires-clause-from_one c = (number-at c.args.trail.now.clauses c.args.trail.now.entries c.entries-entries.result.now c.args.at c.in-Some.reason c.entries-entries.ensures.entries c.entries-entries.ensures.trail c.requires.within c.in-Some.is).0
+get-clause-requires-clause-from_one c = (number-at c.args.trail.now.clauses c.args.trail.now.entries c.entries-entries.result.now c.args.at c.in-Some.reason c.entries-entries.ensures c.keeps_reasons.ensures c.requires.within c.in-Some.is).0
 
 pub get-clause-requires-clause-to_len : goal.get-clause-requires-clause-to_len
 get-clause-requires-clause-to_len c =
-    let w = (number-at c.args.trail.now.clauses c.args.trail.now.entries c.entries-entries.result.now c.args.at c.in-Some.reason c.entries-entries.ensures.entries c.entries-entries.ensures.trail c.requires.within c.in-Some.is).1 in
+    let w = (number-at c.args.trail.now.clauses c.args.trail.now.entries c.entries-entries.result.now c.args.at c.in-Some.reason c.entries-entries.ensures c.keeps_reasons.ensures c.requires.within c.in-Some.is).1 in
     subst (λ (z : Clauses). c.in-Some.reason ≤ length z.list) (sym c.clauses.ensures.clauses) w
 
 pub can_be_spared-requires : goal.can_be_spared-requires
-can_be_spared-requires c = clause-at c.args.trail.now.clauses c.args.trail.now.entries c.entries-entries.result.now c.args.at c.in-Some.reason (length c.args.marks.now) c.get-clause.result.now c.entries-entries.ensures.entries c.entries-entries.ensures.trail c.requires.within c.in-Some.is (subst (λ (z : Clauses). clause_at z.list c.in-Some.reason ≡ Some c.get-clause.result.now) c.clauses.ensures.clauses c.get-clause.ensures.clause) c.requires.closed.size
+can_be_spared-requires c = clause-at c.args.trail.now.clauses c.args.trail.now.entries c.entries-entries.result.now c.args.at c.in-Some.reason (length c.args.marks.now) c.get-clause.result.now c.entries-entries.ensures c.keeps_reasons.ensures c.requires.within c.in-Some.is (subst (λ (z : Clauses). clause_at z.list c.in-Some.reason ≡ Some c.get-clause.result.now) c.clauses.ensures.clauses c.get-clause.ensures.clause) c.requires.closed.size
 
 pub meet-more-requires : goal.meet-more-requires
-meet-more-requires c = clause-at c.args.trail.now.clauses c.args.trail.now.entries c.entries-entries.result.now c.args.at c.in-Some.reason (length c.args.marks.now) c.get-clause.result.now c.entries-entries.ensures.entries c.entries-entries.ensures.trail c.requires.within c.in-Some.is (subst (λ (z : Clauses). clause_at z.list c.in-Some.reason ≡ Some c.get-clause.result.now) c.clauses.ensures.clauses c.get-clause.ensures.clause) c.requires.closed.size
+meet-more-requires c = clause-at c.args.trail.now.clauses c.args.trail.now.entries c.entries-entries.result.now c.args.at c.in-Some.reason (length c.args.marks.now) c.get-clause.result.now c.entries-entries.ensures c.keeps_reasons.ensures c.requires.within c.in-Some.is (subst (λ (z : Clauses). clause_at z.list c.in-Some.reason ≡ Some c.get-clause.result.now) c.clauses.ensures.clauses c.get-clause.ensures.clause) c.requires.closed.size
 
 pub resolve-requires-clause-from_one : goal.resolve-requires-clause-from_one
-resolve-requires-clause-from_one c = (within-at c.args.trail.now.clauses c.args.trail.now.entries c.entries-entries.result.now c.args.at c.entries-entries.ensures.entries c.entries-entries.ensures.trail c.requires.within).0
+resolve-requires-clause-from_one c = (within-at c.args.trail.now.clauses c.args.trail.now.entries c.entries-entries.result.now c.args.at c.entries-entries.ensures c.keeps_reasons.ensures c.requires.within).0
 
 pub returns-clause-closed : goal.returns-clause-closed
 returns-clause-closed c =
     closed-after c.args.trail.now.clauses c.args.trail.now.entries c.args.at c.in-Some.reason none-yet c.get-clause.result.now c.args.marks.now c.meet-more.new.marks c.resolve.new.self
-    c.entries-entries.ensures.trail c.requires.within
-    (subst (λ (z : List TrailEntry). (get_or z c.args.at none-yet).reason ≡ Some c.in-Some.reason) c.entries-entries.ensures.entries c.in-Some.is)
+    c.keeps_reasons.ensures c.requires.within
+    (subst (λ (z : List TrailEntry). (get_or z c.args.at none-yet).reason ≡ Some c.in-Some.reason) c.entries-entries.ensures c.in-Some.is)
     (subst (λ (z : Clauses). clause_at z.list c.in-Some.reason ≡ Some c.get-clause.result.now) c.clauses.ensures.clauses c.get-clause.ensures.clause)
     c.requires.closed c.meet-more.ensures.more c.meet-more.ensures.met c.resolve.ensures.size c.resolve.ensures.still
-    (subst (λ (z : List TrailEntry). (v : ℕ) → 1 ≤ v → resolves c.resolve.new.self v ≡ true → (v ≡ (get_or z c.args.at none-yet).lit.var) ⊎ (resolves c.meet-more.new.marks v ≡ true)) c.entries-entries.ensures.entries c.resolve.ensures.others)
+    (subst (λ (z : List TrailEntry). (v : ℕ) → 1 ≤ v → resolves c.resolve.new.self v ≡ true → (v ≡ (get_or z c.args.at none-yet).lit.var) ⊎ (resolves c.meet-more.new.marks v ≡ true)) c.entries-entries.ensures c.resolve.ensures.others)

@@ -9,8 +9,8 @@ use Rattle.cdcl_prove.proofs.search.Search.descend.Goals as goal
 
 pub decisions-smaller : goal.decisions-smaller
 decisions-smaller c =
-    let trail = trail-of c.trail.result.now (clauses_of c.propagate.new.self) c.propagate.new.self.entries c.trail.ensures c.entries.ensures.trail in
-    let pick = subst (λ (v : TrailView). PickIs v.clauses.vars (lits_of v.entries) (Some c.in-Some-pick.lit)) c.trail-in-decisions.ensures c.in-Some-pick.ensures in
+    let trail = trail-of c.trail-trail.result.now (clauses_of c.propagate.new.self) c.propagate.new.self.entries c.trail-trail.ensures c.keeps_reasons.ensures in
+    let pick = subst (λ (v : TrailView). PickIs v.clauses.vars (lits_of v.entries) (Some c.in-Some-pick.lit)) c.trail.ensures c.in-Some-pick.ensures in
     let less = decision-smaller (clauses_of c.propagate.new.self) c.decisions.self.derivation.entries c.propagate.new.self.entries c.decide.new.self.entries
     (record { lit = c.in-Some-pick.lit; level = level_of c.propagate.new.self.entries + 1; reason = None })
     trail pick.0 pick.1 c.in_ok-conflict.ensures.grows c.decide.ensures.entries in
