@@ -34,7 +34,7 @@ impl Model for Notes {
 
 impl Notes {
     /// A place for each of so many workers; none is noted. The only error is want of memory.
-    pub fn of_none(alloc: Global, workers: usize) -> Result<Notes, NoMemory>
+    pub(crate) fn of_none(alloc: Global, workers: usize) -> Result<Notes, NoMemory>
         ensures places { IfOk result (λ notes. notes.workers ≡ workers) }
         ensures none { IfOk result (λ notes. notes.noted ≡ []) }
     {
@@ -102,7 +102,7 @@ impl Notes {
     }
 
     /// Gives out the noted receipts and this one, in order of worker; none is noted any more. It takes no memory.
-    pub fn all_with(&mut self, worker: u32, receipt: Receipt) -> Items<Receipt>
+    pub(crate) fn all_with(&mut self, worker: u32, receipt: Receipt) -> Items<Receipt>
         requires ready { self.old.ready ≡ true }
         requires place { worker < self.old.workers }
         requires new { is_noted self.old.noted worker ≡ false }

@@ -78,7 +78,7 @@ impl Parts {
     /// about; and the map of those on air on these stations. No label is above `most`. It costs a search by halves for each
     /// station near it, one pass over the stations, and room for `most` marks and twice for all stations, of which the set keeps
     /// its own. The only error is want of memory.
-    pub fn touched_on(
+    pub(crate) fn touched_on(
         &self,
         alloc: Global,
         book: &Book,

@@ -136,7 +136,7 @@ impl Past {
 
     /// Whether the station at this place interferes with one on air whose part changed since the station's last test. It
     /// costs the station's pairs.
-    pub fn has_changed(&self, book: &Book, place: usize, station: u32) -> bool
+    pub(crate) fn has_changed(&self, book: &Book, place: usize, station: u32) -> bool
         requires { place < length self.now.parts.stations }
         ensures { result ≡ touches_since book.now self.now.parts station (slice_index self.now.seen place + 1) }
     {
@@ -153,7 +153,7 @@ impl Past {
     }
 
     /// The steps in one list. The only error is want of memory.
-    pub fn into_steps(self, alloc: Global) -> Result<Items<Step>, NoMemory>
+    pub(crate) fn into_steps(self, alloc: Global) -> Result<Items<Step>, NoMemory>
         ensures { IfOk result (λ steps. steps ≡ self.steps) }
     {
         let Past { steps, .. } = self;

@@ -148,7 +148,7 @@ impl StepList {
     }
 
     /// The steps in one list. The only error is want of memory.
-    pub fn into_items(self, alloc: Global) -> Result<Items<Step>, NoMemory>
+    pub(crate) fn into_items(self, alloc: Global) -> Result<Items<Step>, NoMemory>
         ensures { IfOk result (λ steps. steps ≡ self.steps) }
     {
         let StepList { lines, told } = self;
