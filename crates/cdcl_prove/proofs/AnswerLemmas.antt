@@ -7,7 +7,7 @@ use Rattle.clause_db.specs.Clause.{is_empty_clause}
 use Rattle.clause_db.specs.Clauses.{Clauses}
 use Rattle.pack_defs.specs.Book.{BookView}
 use Rattle.pack_defs.specs.ChannelMap.{overlaid}
-use Rattle.pack_defs.specs.Lists.{is_in, is_ascending}
+use Rattle.pack_defs.specs.Lists.{is_in}
 use Rattle.pack_defs.specs.Packing.{IsPacking, IsClean}
 use Rattle.pack_defs.specs.declared.worker.Worker.{Worker}
 use Rattle.assign_check.proofs.Faultless.{on-stations}
@@ -67,9 +67,6 @@ proof-valid book task worker subset formula lines line log learner of sub a f e 
 all-in : (xs set : List ℕ) → ((s : ℕ) → is_in xs s ≡ true → is_in set s ≡ true) → list_all (is_in set) xs ≡ true
 all-in [] set f = refl
 all-in (x ∷ xs) set f = and_from (is_in set x) (list_all (is_in set) xs) (f x (or_left (x == x) (is_in xs x) (eq-eqb x x refl))) (all-in xs set (λ s h. f s (or_right (x == s) (is_in xs s) h)))
-
-pub whole-subset : (set : List ℕ) → is_ascending set ≡ true → is_subset set set ≡ true
-whole-subset set a = and_from (is_ascending set) (list_all (is_in set) set) a (all-in set set (λ s h. h))
 
 -- ---- a receipt
 

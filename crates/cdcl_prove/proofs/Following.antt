@@ -18,6 +18,7 @@ use Rattle.trail_prop.proofs.Known.{open-apart}
 use Rattle.trail_prop.proofs.Forcing.{only_open-is}
 use Rattle.trail_prop.proofs.Opening.{lits-push}
 use Rattle.cdcl_prove.specs.Analysis.{entries_passing, reason_of, learnt_line_of, hints_of, IsMetAt, IsReasonMet, AreClosed}
+use Rattle.trail_prop.proofs.Meeting.{known-more}
 
 pub append-nil : {A : Type 0} (xs : List A) → xs ++ [] ≡ xs
 append-nil [] = refl
@@ -115,9 +116,6 @@ hint-before : (clauses : List (List Lit)) (known : List Lit) (place h n : ℕ) (
 hint-before clauses known place h n [] = refl
 hint-before clauses known place h n (g ∷ gs) = refl
 
-pub has-left : (xs ys : List TrailEntry) (l : Lit) → has_lit (lits_of xs) l ≡ true → has_lit (lits_of (xs ++ ys)) l ≡ true
-has-left xs ys l h = ap (λ (z : List Lit). has_lit z l) (map-append (λ (e : TrailEntry). e.lit) xs ys) ∙ (has-append (lits_of xs) (lits_of ys) l ∙ or_left (has_lit (lits_of xs) l) (has_lit (lits_of ys) l) h)
-
 -- the hints from an entry on
 from-here : (c : Clauses) (kept resolved : ℕ → Bool) (entries : List TrailEntry) (n : ℕ) (before es : List TrailEntry) (place : ℕ) → entries ≡ before ++ es → EachFits c before es → ((v : ℕ) → resolved v ≡ true → kept v ≡ false) → AreClosed resolved (λ v. kept v || resolved v) c.list es → IsFalseAt (lits_of entries) (clause_at c.list n) → IsMetAt (λ v. kept v || resolved v) (clause_at c.list n) → hints_fault c.list (known_at kept resolved entries before) place (hints_of resolved es n) ≡ None
 from-here c kept resolved entries n before [] place e f apart closed false' met =
@@ -134,7 +132,7 @@ from-here c kept resolved entries n before (x ∷ xs) place e f apart closed fal
         ∙ sym (append_assoc (lits_of (entries_passing kept entries)) (lits_of (entries_passing resolved before)) (lits_of (cond b (x ∷ []) []))))
 
     sub : (m : Lit) → has_lit (lits_of before) m ≡ true → has_lit (lits_of entries) m ≡ true
-    sub m h = subst (λ (z : List TrailEntry). has_lit (lits_of z) m ≡ true) (sym e) (has-left before (x ∷ xs) m h)
+    sub m h = subst (λ (z : List TrailEntry). has_lit (lits_of z) m ≡ true) (sym e) (known-more before (x ∷ xs) m h)
 
     hint : ((p : ℕ) → hints_fault c.list (known_at kept resolved entries (before ++ x ∷ [])) p (hints_of resolved xs n) ≡ None) → (o : Option ℕ) → HasReason c.list (lits_of before) x.lit o → IsReasonMet (λ v. kept v || resolved v) c.list o → resolved x.lit.var ≡ true → x.reason ≡ o → hints_fault c.list (known_at kept resolved entries before) place (reason_of x ∷ hints_of resolved xs n) ≡ None
     hint rest None h m r w = absurd m
@@ -167,7 +165,7 @@ no-bad_var c kept before (x ∷ xs) f = step (no-bad_var c kept (before ++ x ∷
 -- a variable of an earlier entry is no later one's
 none-later : (c : Clauses) (kept : ℕ → Bool) (before es : List TrailEntry) (k : Lit) → has_lit (lits_of before) k ≡ true → EachFits c before es → list_any (λ w. w == k.var) (map (λ (l : Lit). l.var) (learnt_line_of kept es)) ≡ false
 none-later c kept before [] k h f = refl
-none-later c kept before (x ∷ xs) k h f = step (none-later c kept (before ++ x ∷ []) xs k (has-left before (x ∷ []) k h) f.1) (kept x.lit.var)
+none-later c kept before (x ∷ xs) k h f = step (none-later c kept (before ++ x ∷ []) xs k (known-more before (x ∷ []) k h) f.1) (kept x.lit.var)
   where
     step : list_any (λ w. w == k.var) (map (λ (l : Lit). l.var) (learnt_line_of kept xs)) ≡ false → (b : Bool) → list_any (λ w. w == k.var) (map (λ (l : Lit). l.var) (map (λ (e : TrailEntry). opposite e.lit) (cond b (x ∷ entries_passing kept xs) (entries_passing kept xs)))) ≡ false
     step rest true = or_from (x.lit.var == k.var) (list_any (λ w. w == k.var) (map (λ (l : Lit). l.var) (learnt_line_of kept xs))) (ne_eqb x.lit.var k.var (λ e. open-apart (lits_of before) x.lit k f.0.opens h (sym e))) rest

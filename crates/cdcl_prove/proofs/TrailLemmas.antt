@@ -16,7 +16,8 @@ use Rattle.trail_prop.proofs.Known.{open-apart}
 use Rattle.trail_prop.proofs.Forcing.{only_open-is}
 use Rattle.trail_prop.proofs.Opening.{lits-push, known-within}
 use Rattle.trail_prop.proofs.Trailing.{fits-opens}
-use Rattle.cdcl_prove.proofs.Following.{append-nil, has-left}
+use Rattle.cdcl_prove.proofs.Following.{append-nil}
+use Rattle.trail_prop.proofs.Meeting.{known-more}
 
 -- the entry at a place fits after those before it
 pub fits-at : (c : Clauses) (before es : List TrailEntry) (at : ℕ) (d : TrailEntry) → EachFits c before es → at < length es → EntryFits c (before ++ take at es) (get_or es at d)
@@ -32,7 +33,7 @@ each-within c before (x ∷ xs) f = All-cons (λ (e : TrailEntry). LitWithin c.v
 apart-at : (c : Clauses) (before es : List TrailEntry) (k : Lit) (at : ℕ) (d : TrailEntry) → has_lit (lits_of before) k ≡ true → EachFits c before es → at < length es → (get_or es at d).lit.var ≢ k.var
 apart-at c before [] k at d h f l = absurd (omega arith)
 apart-at c before (x ∷ xs) k zero d h f l = λ e. open-apart (lits_of before) x.lit k f.0.opens h (sym e)
-apart-at c before (x ∷ xs) k (suc n) d h f l = apart-at c (before ++ x ∷ []) xs k n d (has-left before (x ∷ []) k h) f.1 (omega arith)
+apart-at c before (x ∷ xs) k (suc n) d h f l = apart-at c (before ++ x ∷ []) xs k n d (known-more before (x ∷ []) k h) f.1 (omega arith)
 
 known-here : (before : List TrailEntry) (x : TrailEntry) → has_lit (lits_of (before ++ x ∷ [])) x.lit ≡ true
 known-here before x = ap (λ (z : List Lit). has_lit z x.lit) (lits-push before x) ∙ has-push_new (lits_of before) x.lit
