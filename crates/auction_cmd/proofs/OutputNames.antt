@@ -1,4 +1,4 @@
--- Where no output name is given twice, the three texts that a command stores have names of their own.
+-- Where no output name is given twice, the three texts that a command stores have names of their same-bytes.
 use Rattle.std.proofs.Common.{◌≡◌, ◌≢◌, ◌<◌, ◌∙◌, ℕ, Bool, true, cond, inl, inr, List, [], ◌∷◌, ◌++◌, count_by, refl, sym, arith, None, subst}
 use Rattle.std.specs.Prelude.{Contains, find}
 use Rattle.std.specs.Str.{bytes_eq}
@@ -12,8 +12,9 @@ use Rattle.auction_cmd.specs.Words.{ImportNames, MakeNames, ResumeNames, RunName
 use Rattle.auction_cmd.specs.Ends.{output_texts, pair_of_texts}
 use Rattle.auction_cmd.specs.Made.{texts_under}
 use Rattle.auction_cmd.proofs.DeliveryLemmas.{AreApart}
+use Rattle.transcript_text.proofs.FieldReads.{same-bytes}
 
--- the three texts that are stored under these names have names of their own, whatever they are
+-- the three texts that are stored under these names have names of their same-bytes, whatever they are
 abbrev pub HaveOwnNames : RunNames → Type 0
 HaveOwnNames names = (result channels transcript : List ℕ) → AreApart (output_texts names result channels transcript)
 
@@ -32,14 +33,11 @@ two-pass p xs ys zs a b first second =
     let other : f b ≡ 1 = cond-true (p b) 1 0 second in
     omega (arith, sum_by-append f xs (a ∷ (ys ++ b ∷ zs)), sum_by-cons f a (ys ++ b ∷ zs), sum_by-append f ys (b ∷ zs), sum_by-cons f b zs, one, other)
 
-own : (name : List ℕ) → bytes_eq name name ≡ true
-own name = (bytes_eq-Decides name name).1 refl
-
 -- a name that stands at two places is given twice
 given-twice : (names : RunNames) (xs ys zs : List (List ℕ)) (a b : List ℕ) → xs ++ a ∷ (ys ++ b ∷ zs) ≡ run_names_given names → a ≡ b → is_repeated_in a names ≡ true
 given-twice names xs ys zs a b whole same =
     lt-ltb 1 (count_by (bytes_eq a) (run_names_given names))
-    (subst (λ given. 1 < count_by (bytes_eq a) given) whole (two-pass (bytes_eq a) xs ys zs a b (own a) ((bytes_eq-Decides a b).1 same)))
+    (subst (λ given. 1 < count_by (bytes_eq a) given) whole (two-pass (bytes_eq a) xs ys zs a b (same-bytes a) ((bytes_eq-Decides a b).1 same)))
 
 pub own-names : (names : RunNames) (result channels transcript : List ℕ) → repeated_output names ≡ None → AreApart (output_texts names result channels transcript)
 unfolding repeated_output
@@ -66,7 +64,7 @@ own-names names result channels transcript once =
 pub twice-among : (given xs ys zs : List (List ℕ)) (a b : List ℕ) → xs ++ a ∷ (ys ++ b ∷ zs) ≡ given → a ≡ b → is_repeated_among given a ≡ true
 twice-among given xs ys zs a b whole same =
     lt-ltb 1 (count_by (bytes_eq a) given)
-    (subst (λ names. 1 < count_by (bytes_eq a) names) whole (two-pass (bytes_eq a) xs ys zs a b (own a) ((bytes_eq-Decides a b).1 same)))
+    (subst (λ names. 1 < count_by (bytes_eq a) names) whole (two-pass (bytes_eq a) xs ys zs a b (same-bytes a) ((bytes_eq-Decides a b).1 same)))
 
 pub own-made : (names : MakeNames) (domain_file row_file scenario_file : List ℕ) → repeated_made names ≡ None → AreApart (texts_under names.outputs domain_file row_file scenario_file)
 unfolding repeated_made

@@ -18,7 +18,7 @@ use Rattle.transcript_text.specs.Spelling.{transcript_step, transcript_steps}
 use Rattle.auction_core.specs.declared.prefix.ShownWhy.TheVariants.{Order}
 use Rattle.auction_core.specs.NotShown.{NotShown, at_test, is_test, next_asked, not_shown_at, query_fault, step_fault, step_fault_or, steps_fault, unasked_fault}
 use Rattle.auction_core.proofs.StepLemmas.{step-none, step-shown}
-use Rattle.auction_core.proofs.WalkLemmas.{step_or-parts}
+use Rattle.auction_core.proofs.WalkLemmas.{step_or-parts, if-parts, absurd-fault}
 use Rattle.open_tests.specs.Settled.{shown_outside}
 use Rattle.open_tests.proofs.AlikeLemmas.{AreAlike, alike-push, alike-same, alike-settled, same-settled, same-unasked, with_steps}
 use Rattle.open_tests.proofs.SettledLemmas.{IsOpenAt, RefutesAt}
@@ -51,13 +51,6 @@ same-faults sc book n state ys ts (w ∷ ws) a =
     go (t ∷ us) rest = λ i. if is_test t w then step_fault_or n (same-fault sc book state ys w a i) (rest us i) else not_shown_at n Order
 
 -- ---- the step itself
-
-some-fault : (x : NotShown) → Some x ≡ None → ⊥
-some-fault x e = cc
-
-test-parts : (b : Bool) (n : ℕ) (o : Option NotShown) → (if b then o else not_shown_at n Order) ≡ None → (b ≡ true) × (o ≡ None)
-test-parts true n o e = (refl, e)
-test-parts false n o e = absurd (some-fault (record { step = n; why = Order }) e)
 
 both-none : (b : Bool) (n : ℕ) (o : Option Place) (rest : Option NotShown) → b ≡ true → o ≡ None → rest ≡ None → (if b then step_fault_or n o rest else not_shown_at n Order) ≡ None
 both-none b n o rest e f g = rw (e, f) g
@@ -107,11 +100,11 @@ replaced-here sc book n state ts r s receipts xs proof p e = go (next_asked stat
 
     go : (left : List ClockTest) → at_test sc book n state (transcript_step sc book state.clock x) left (λ rest. steps_fault sc book (n + 1) next rest ws) ≡ None
         → at_test sc book n state (transcript_step sc book state.clock y) left (λ rest. steps_fault sc book (n + 1) other rest ws) ≡ None
-    go [] f = absurd (some-fault (record { step = n; why = Order }) f)
+    go [] f = absurd (absurd-fault (record { step = n; why = Order }) f)
     go (t ∷ us) f =
         let w : TranscriptStep = transcript_step sc book state.clock x in
         let v : TranscriptStep = transcript_step sc book state.clock y in
-        let test = test-parts (is_test t w) n (step_fault_or n (step_fault sc book state w) (steps_fault sc book (n + 1) next us ws)) f in
+        let test = if-parts (is_test t w) n (step_fault_or n (step_fault sc book state w) (steps_fault sc book (n + 1) next us ws)) f in
         let parts = step_or-parts n (step_fault sc book state w) (steps_fault sc book (n + 1) next us ws) test.1 in
         let shown = step-shown sc book state w parts.0 in
         both-none (is_test t v) n (step_fault sc book state v) (steps_fault sc book (n + 1) other us ws) test.0
@@ -149,6 +142,6 @@ replaced sc book n state ts (x ∷ xs) (suc i) proof h p none =
         → at_test sc book n state w left (λ rest. steps_fault sc book (n + 1) next rest (transcript_steps sc book next.clock (shown_outside xs i proof))) ≡ None
     go [] f rest = f
     go (t ∷ us) f rest =
-        let test = test-parts (is_test t w) n (step_fault_or n (step_fault sc book state w) (steps_fault sc book (n + 1) next us (transcript_steps sc book next.clock xs))) f in
+        let test = if-parts (is_test t w) n (step_fault_or n (step_fault sc book state w) (steps_fault sc book (n + 1) next us (transcript_steps sc book next.clock xs))) f in
         let parts = step_or-parts n (step_fault sc book state w) (steps_fault sc book (n + 1) next us (transcript_steps sc book next.clock xs)) test.1 in
         both-none (is_test t w) n (step_fault sc book state w) (steps_fault sc book (n + 1) next us (transcript_steps sc book next.clock (shown_outside xs i proof))) test.0 parts.0 (rest us parts.1)

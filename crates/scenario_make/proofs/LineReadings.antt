@@ -11,12 +11,13 @@ use Rattle.std.proofs.lemmas.Str.Parse.{IsNumeralModel, numerals_by_value, tells
 use Rattle.csv.specs.Reading.{default_config, records, strip_bom}
 use Rattle.csv.specs.declared.parser.State.TheVariants as st
 use Rattle.pack_defs.specs.Lists.{is_empty}
-use Rattle.pack_defs.proofs.Digits.{digit-value}
+use Rattle.pack_defs.proofs.Digits.{digit-value, own-numerals}
 use Rattle.constraint_files.specs.Numbers.{number, numbers}
 use Rattle.constraint_files.specs.Records.{is_blank, kept_fields, line_records, lines_of, trimmed, without_leading, without_trailing}
 use Rattle.constraint_files.proofs.CsvLemmas.{records-rows, rows, rows_from}
 use Rattle.constraint_files.proofs.NumberLemmas.{all-digits}
 use Rattle.scenario_make.specs.MadeFiles.{behind_commas, key_line}
+use Rattle.pack_defs.proofs.Words.{not-empty}
 
 -- ---- numbers
 
@@ -24,14 +25,11 @@ use Rattle.scenario_make.specs.MadeFiles.{behind_commas, key_line}
 abbrev pub AreSmall : List ℕ → Type 0
 AreSmall = AllByRecursion (λ n. n ≤ 4294967295)
 
-own : IsNumeralModel (λ ds. all_ascii_digits ds ≡ true) (digits_value 10)
-own = numerals_by_value _ tells_all_ascii_digits
-
 digits : (n : ℕ) → n ≤ 4294967295 → all_ascii_digits (decimal n) ≡ true
-digits n h = digits_decimal own n (omega (arith, h))
+digits n h = digits_decimal own-numerals n (omega (arith, h))
 
 value : (n : ℕ) → n ≤ 4294967295 → digits_value 10 (decimal n) ≡ n
-value n h = digits_value-decimal own n (omega (arith, h))
+value n h = digits_value-decimal own-numerals n (omega (arith, h))
 
 some-digit : (n : ℕ) → n ≤ 4294967295 → 0 < length (decimal n)
 some-digit n h = decimal_nonempty n (omega (arith, h))
@@ -81,10 +79,6 @@ trimmed-digits ds h =
 trimmed-numbers : (ns : List ℕ) → AreSmall ns → map trimmed (map decimal ns) ≡ map decimal ns
 trimmed-numbers [] h = refl
 trimmed-numbers (n ∷ ns) h = rw (trimmed-digits (decimal n) (digits n h.0), trimmed-numbers ns h.1) refl
-
-not-empty : (xs : List ℕ) → 0 < length xs → is_empty xs ≡ false
-not-empty [] h = absurd (omega arith)
-not-empty (x ∷ xs) h = refl
 
 none-empty : (ns : List ℕ) → AreSmall ns → AllByRecursion (λ f. is_empty f ≡ false) (map decimal ns)
 none-empty [] h = tt

@@ -19,24 +19,17 @@ use Rattle.scenario_make.specs.Draws.{draw_at, generator_after, generator_of}
 use Rattle.scenario_make.specs.MadeFiles.{behind_links, block_end, key_line, made_adjacent, made_adjacent_lines, made_link_lines, made_links, made_rows, made_rows_at, made_rows_from}
 use Rattle.scenario_make.proofs.LineReadings.{AreSmall, IsKey, adjacent-key, number-again, numbers-again, same-key}
 use Rattle.scenario_make.proofs.DomainReadings.{line-adds}
+use Rattle.constraint_files.proofs.PairOrder.{with-few}
 
 -- ---- how many pairs a row adds
 
-pair-adds : (pairs : List Pair) (p : Pair) → length (with_pair pairs p) ≤ length pairs + 1
-pair-adds [] p = omega arith
-pair-adds (q ∷ qs) p = elim (cases_Bool (comes_before q p)) [
-  | inl t ↦ rw t (let more = pair-adds qs p in omega (arith, more))
-  | inr f ↦ elim (cases_Bool (comes_before p q)) [
-    | inl t ↦ rw (f, t) (omega arith)
-    | inr g ↦ rw (f, g) (omega arith)
-  ]
 ]
 
 kept-adds : (own theirs : Option (List ℕ)) (row : Row) (told : PairsView) (t : ℕ) → length (with_kept own theirs row told t).list ≤ length told.list + 1
 kept-adds None theirs row told t = omega arith
 kept-adds (Some own) None row told t = omega arith
 kept-adds (Some own) (Some theirs) row told t = elim (cases_Bool (is_in own row.channel && is_in theirs row.other_channel)) [
-  | inl b ↦ rw b (pair-adds told.list (pair_of row.station row.channel t row.other_channel))
+  | inl b ↦ rw b (with-few told.list (pair_of row.station row.channel t row.other_channel))
   | inr f ↦ rw f (omega arith)
 ]
 

@@ -16,7 +16,7 @@ use Rattle.auction_core.specs.State.{CoreState, settled, test_of}
 use Rattle.auction_core.specs.Backed.{after_start}
 use Rattle.auction_core.specs.NotShown.{NotShown, at_test, fault_at_end, is_test, next_asked, not_kept, not_shown, not_shown_at, start_fault, step_fault, step_fault_or, steps_fault, within_steps}
 use Rattle.auction_core.proofs.KeptLemmas.{within-behind}
-use Rattle.auction_core.proofs.WalkLemmas.{step_or-parts}
+use Rattle.auction_core.proofs.WalkLemmas.{step_or-parts, absurd-fault}
 use Rattle.transcript_text.specs.declared.error.TextErr.{TextErr}
 use Rattle.transcript_text.specs.declared.error.TextErr.TheVariants.{Version, BadLine, Truncated, NoMemory}
 use Rattle.transcript_text.specs.PrefixReading.{IsPrefixOf, StepsThere, goes_on_there, if_there, nothing_there, order_there, prefix_of, start_there, steps_there, transcript_there}
@@ -26,12 +26,9 @@ use Rattle.transcript_text.proofs.PrefixLaws.{prefix-first}
 
 -- ---- the first steps of steps without a fault
 
-some-none : (x : NotShown) → Some x ≡ None → ⊥
-some-none x e = cc
-
 -- another test than the one that is asked is a fault
 pub no-test : (step : ℕ) → not_shown_at step WrongTest ≡ None → ⊥
-no-test step e = some-none (record { step = step; why = WrongTest }) e
+no-test step e = absurd-fault (record { step = step; why = WrongTest }) e
 
 pub if-none : (b : Bool) (step : ℕ) (o : Option NotShown) → (if b then o else not_shown_at step WrongTest) ≡ None → (b ≡ true) × (o ≡ None)
 if-none true step o e = (refl, e)

@@ -14,6 +14,7 @@ use Rattle.lrat_text.proofs.LineLemmas.{IsWord, IsField, AreFields, fields-line,
 use Rattle.lrat_text.proofs.NumberLemmas.{decimal-field, natural-again}
 use Rattle.transcript_text.specs.Fields.{LinesLeft, FieldsLeft, next_line, is_plainly_spelled, plain_number, number_at, station_at, channel_at, worker_at, exactly_at, station_above, word_at, line_end, is_above, greatest_u32}
 use Rattle.transcript_text.specs.Spelled.{IsStation, IsChannel, IsWorker}
+use Rattle.pack_defs.proofs.Words.{some-length}
 
 -- the whole lines of a text, of which the first is the n-th
 abbrev pub lines_at : ℕ → List ℕ → LinesLeft
@@ -60,7 +61,7 @@ field-from word e =
 pub literal : (word : List ℕ) → (not (is_empty word) && list_all (λ c. nat_lt 32 c) word) ≡ true → IsField word
 literal = field-from
 
-same-bytes : (word : List ℕ) → bytes_eq word word ≡ true
+pub same-bytes : (word : List ℕ) → bytes_eq word word ≡ true
 same-bytes word = (bytes_eq-Decides word word).1 refl
 
 pub word-again : (n : ℕ) (word : List ℕ) (fields : List (List ℕ)) → word_at word (fields_at n (word ∷ fields)) ≡ Ok (fields_at n fields)
@@ -78,10 +79,6 @@ plain [] h big = absurd (omega arith)
 plain (c ∷ []) h big = refl
 plain (c ∷ d ∷ rest) h big = rw (ne_eqb c 45 (λ e. absurd (omega (arith, big, e))), ne_eqb c 48 (λ e. absurd (omega (arith, big, e)))) refl
 
-not-nil : (field : List ℕ) → is_empty field ≡ false → 0 < length field
-not-nil [] e = absurd cc
-not-nil (c ∷ field) e = omega arith
-
 zero-plain : is_plainly_spelled (decimal 0) ≡ true
 unfolding digits
 zero-plain = refl
@@ -89,7 +86,7 @@ zero-plain = refl
 pub decimal-plain : (k : ℕ) → k < 2 ^ 64 → is_plainly_spelled (decimal k) ≡ true
 decimal-plain k small = elim (cases_eq k 0) [
   | inl e ↦ rw e zero-plain
-  | inr ne ↦ plain (decimal k) (not-nil (decimal k) (decimal-field k small).1) (first_decimal k (omega (arith, ne)) small)
+  | inr ne ↦ plain (decimal k) (some-length (decimal k) (decimal-field k small).1) (first_decimal k (omega (arith, ne)) small)
 ]
 
 minus : (field : List ℕ) → 0 < length field → (48 < get_or field 0 0) → is_plainly_spelled (45 ∷ field) ≡ true
@@ -98,7 +95,7 @@ minus (d ∷ rest) h big = rw (ne_eqb d 48 (λ e. absurd (omega (arith, big, e))
 
 -- a number from 1 behind a minus sign
 pub minus-plain : (k : ℕ) → 1 ≤ k → k < 2 ^ 64 → is_plainly_spelled (45 ∷ decimal k) ≡ true
-minus-plain k low small = minus (decimal k) (not-nil (decimal k) (decimal-field k small).1) (first_decimal k low small)
+minus-plain k low small = minus (decimal k) (some-length (decimal k) (decimal-field k small).1) (first_decimal k low small)
 
 pub plain-again : (most k : ℕ) → k ≤ most → k < 2 ^ 64 → plain_number most (decimal k) ≡ Some k
 unfolding plain_number

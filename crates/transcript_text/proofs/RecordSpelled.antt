@@ -15,7 +15,7 @@ use Rattle.pack_defs.specs.declared.station.Station.{Station}
 use Rattle.pack_defs.specs.declared.worker.Worker.{Worker}
 use Rattle.pack_defs.proofs.BookLemmas.{channels_in-ascend}
 use Rattle.pack_defs.proofs.Members.{is_in-from}
-use Rattle.pack_defs.proofs.Words.{ascending-rest, same_entry-itself, Contains-from_has_entry, list_all-at}
+use Rattle.pack_defs.proofs.Words.{ascending-rest, same_entry-itself, Contains-from_has_entry, list_all-at, its-entry}
 use Rattle.assign_check.specs.Fault.{IsCleanOn}
 use Rattle.assign_check.proofs.Overlays.{change-stands}
 use Rattle.cnf_encode.specs.Formula.{packing_formula, variables_in}
@@ -123,18 +123,13 @@ fit-entry sc book set last delta n k clean a x m =
     let channel = is_in-from (domain_of book x.0) x.1 (clean.clean.on_domain x (Contains-from_has_entry (overlaid last delta) x there)) in
     (station-of sc book x.0 n station, n.channels x.0 x.1 channel)
 
-stations-in : (delta : List (ℕ × ℕ)) (z : ℕ) → is_in (map (λ x. x.0) delta) z ≡ true → (c : ℕ) × (has_entry delta (z, c) ≡ true)
-stations-in [] z m = absurd cc
-stations-in (x ∷ xs) z m = elim (or_cases (x.0 == z) (is_in (map (λ x. x.0) xs) z) m) [
-  | inl here ↦ (x.1, or_left (same_entry x (z, x.1)) (has_entry xs (z, x.1)) (subst (λ (y : ℕ). same_entry x (y, x.1) ≡ true) (eqb-true x.0 z here) (same_entry-itself x)))
-  | inr there ↦ let rest = stations-in xs z there in (rest.0, or_right (same_entry x (z, rest.0)) (has_entry xs (z, rest.0)) rest.1)
 ]
 
 pub fit-spelled : (sc : Scenario) (book : BookView) (set : List ℕ) (last delta : List (ℕ × ℕ)) → IsWithinLimits sc → IsNamed sc book → IsKnown sc set → IsCleanOn book set (overlaid last delta) → IsAscending delta
     → (length delta ≤ most_counted) × AreEntries sc None delta
 fit-spelled sc book set last delta l n k clean a =
     let each = fit-entry sc book set last delta n k clean a in
-    let few = no-longer (facilities sc) (map (λ x. x.0) delta) a (λ z m. let e = stations-in delta z m in (each (z, e.0) e.1).0.0) in
+    let few = no-longer (facilities sc) (map (λ x. x.0) delta) a (λ z m. let e = its-entry delta z m in (each (z, e.0) e.1).0.0) in
     let all = length-map sc.stations (λ x. x.id) in
     let own = length-map delta (λ x. x.0) in
     (omega (arith, few, all, own, l.stations), entries-from sc None delta a each (first-of-all delta))
