@@ -1,6 +1,6 @@
 //! The lines of a log, packed in bytes.
 
-ghost use Rattle.std.specs.Prelude.{◌≡◌, ◌==◌, ◌-◌, ◌<◌, ◌^◌, ◌++◌, ◌∷◌, [], All, List, ℕ, OnErr, OnOk, length, map, take};
+ghost use Rattle.std.specs.Prelude.{◌≡◌, ◌==◌, ◌-◌, ◌<◌, ◌^◌, ◌++◌, ◌∷◌, [], All, IfOk, List, ℕ, OnErr, OnOk, length, map, take};
 ghost use Rattle.clause_db.specs.Clause.{is_empty_clause};
 ghost use Rattle.rup_check.specs.Packed.{IsWithin, Spells, line_at, line_in, number_of_lit};
 
@@ -129,6 +129,17 @@ impl Lines {
         let _ = self.spans.pop();
     }
 
+    /// The same lines once more, in no more memory than they need: their bytes are copied, and none is read. The only error is want
+    /// of memory.
+    pub fn copied(&self, alloc: Global) -> Result<Lines, NoMemory>
+        ensures { IfOk result (λ copy. copy ≡ self.now) }
+    {
+        Ok(Lines {
+            bytes: Vec::from_slice(alloc, self.bytes.as_slice())?,
+            spans: Vec::from_slice(alloc, self.spans.as_slice())?,
+        })
+    }
+
     /// The same lines, in no more memory than they need.
     pub fn fitted(self) -> Lines
         ensures { result ≡ self }
@@ -199,7 +210,7 @@ mod tests {
     use std::mem::size_of;
     use std::test::Fail;
 
-    // A line that can't be packed leaves none of its bytes, and fitted lines have no room to spare.
+    // A line that can't be packed leaves none of its bytes, and copied and fitted lines have no room to spare.
     #[test]
     fn no_byte_more_than_the_lines_need(rt: HostRuntime) -> Result<(), Fail> {
         let alloc = rt.alloc();
@@ -216,6 +227,9 @@ mod tests {
             lines.push(&[lit], &[hint])?;
         }
         assert!(rt; lines.push(&[lit, too_great], &[7]).is_err());
+        let copied = lines.copied(alloc)?;
+        assert_eq!(rt; copied.bytes.capacity(), 10);
+        assert_eq!(rt; copied.spans.capacity(), 5);
         let fitted = lines.fitted();
         assert_eq!(rt; fitted.bytes.capacity(), 10);
         assert_eq!(rt; fitted.spans.capacity(), 5);
