@@ -6,7 +6,9 @@ ghost use Rattle.std.specs.Prelude.{◌≡◌, IfOk, IfSome, map};
 ghost use Rattle.cert_types.specs.Query.{AttemptIs, IsQuery};
 ghost use Rattle.cert_types.specs.Valid.{IsValid};
 ghost use Rattle.auction_core.specs.Backed.{IsBacked};
+ghost use Rattle.auction_core.specs.Postings.{GoesOnIn};
 ghost use Rattle.auction_core.specs.Setup.{IsOfAuction};
+ghost use Rattle.auction_core.specs.State.{opening};
 
 use crate::run::run_with;
 use auction_core::record::Record;
@@ -217,7 +219,8 @@ pub fn run_cached<G: Gate + Sync, W: Threads + Wait + Sync>(
     gate: &G,
 ) -> Result<Record, NoMemory>
     requires { IsOfAuction sc.now book.now }
-    ensures { IfOk result (IsBacked sc.now book.now Order.ByVolume) }
+    ensures backed { IfOk result (IsBacked sc.now book.now Order.ByVolume) }
+    ensures goes_on { IfOk result (GoesOnIn (opening sc.now book.now Order.ByVolume)) }
 {
     let racers = cached_racers(rt, alloc, sc.top, sc.workers.as_slice(), cache)?;
     run_with(rt, alloc, sc, book, racers, gate)

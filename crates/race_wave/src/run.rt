@@ -6,6 +6,7 @@ ghost use Rattle.pack_defs.specs.Scenario.{with_owners};
 ghost use Rattle.auction_core.specs.Backed.{IsBacked};
 ghost use Rattle.auction_core.specs.Postings.{GoesOnIn};
 ghost use Rattle.auction_core.specs.Setup.{IsOfAuction};
+ghost use Rattle.auction_core.specs.State.{opening};
 ghost use Rattle.turn_lock.specs.Passes.{IsIdle, known_of, standing};
 ghost use Rattle.turn_lock.specs.Turns.{AllOf, StartsWith, each_new};
 ghost use Rattle.answer_board.specs.Boards.{AreAllOn, beginning_of, raised};
@@ -159,8 +160,8 @@ fn finish_with<R: Racer + Send + Drop, G: Gate + Sync, W: Threads + Wait + Sync>
 
 /// The record of the auction of this scenario and book, each round of which tests the stations by volume. The racers, of which
 /// each worker has one, in order, race on a board for its queries, each in a thread of its own where one can be made; after
-/// each race they try the standing query one after another on this thread; and so on, until the auction has ended. The only
-/// error is want of memory.
+/// each race they try the standing query one after another on this thread; and so on, until the auction has ended. No step is shown
+/// by a proof from outside. The only error is want of memory.
 pub fn run_with<R: Racer + Send + Drop, G: Gate + Sync, W: Threads + Wait + Sync>(
     rt: &W,
     alloc: Global,
@@ -171,7 +172,8 @@ pub fn run_with<R: Racer + Send + Drop, G: Gate + Sync, W: Threads + Wait + Sync
 ) -> Result<Record, NoMemory>
     requires auction { IsOfAuction sc.now book.now }
     requires racers { map R.worker racers.items ≡ sc.now.workers }
-    ensures { IfOk result (IsBacked sc.now book.now Order.ByVolume) }
+    ensures backed { IfOk result (IsBacked sc.now book.now Order.ByVolume) }
+    ensures goes_on { IfOk result (GoesOnIn (opening sc.now book.now Order.ByVolume)) }
 {
     let auction = Auction::start(alloc, sc, book, Order::ByVolume)?;
     let scenario = sc.copy(alloc)?;
@@ -209,7 +211,8 @@ pub fn run_auction<G: Gate + Sync, W: Threads + Wait + Sync>(
     gate: &G,
 ) -> Result<Record, NoMemory>
     requires { IsOfAuction sc.now book.now }
-    ensures { IfOk result (IsBacked sc.now book.now Order.ByVolume) }
+    ensures backed { IfOk result (IsBacked sc.now book.now Order.ByVolume) }
+    ensures goes_on { IfOk result (GoesOnIn (opening sc.now book.now Order.ByVolume)) }
 {
     let racers = racers_of(alloc, sc.workers.as_slice())?;
     run_with(rt, alloc, sc, book, racers, gate)
@@ -227,7 +230,8 @@ pub fn run_live<G: Gate + Sync, W: Threads + Wait + Sync>(
     gate: &G,
 ) -> Result<Record, NoMemory>
     requires { IsOfAuction sc.now book.now }
-    ensures { IfOk result (IsBacked (with_owners sc.now (Some owners.now)) book.now Order.ByVolume) }
+    ensures backed { IfOk result (IsBacked (with_owners sc.now (Some owners.now)) book.now Order.ByVolume) }
+    ensures goes_on { IfOk result (GoesOnIn (opening (with_owners sc.now (Some owners.now)) book.now Order.ByVolume)) }
 {
     let live = sc.with_owners(alloc, owners)?;
     run_auction(rt, alloc, &live, book, gate)

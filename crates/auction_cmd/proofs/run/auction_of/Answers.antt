@@ -5,4 +5,4 @@ use Rattle.auction_cmd.proofs.run.auction_of.Goals as goal
 
 pub returns : goal.returns
 returns g c =
-    record-by c.args.inputs.now c.in_ok-record.record (is-auction c.args.inputs.now.scenario c.args.inputs.now.book c.requires c.keeps_order.ensures) c.in_ok-record.ensures
+    record-by c.args.inputs.now c.in_ok-record.record (is-auction c.args.inputs.now.scenario c.args.inputs.now.book c.requires c.keeps_order.ensures) c.in_ok-record.ensures.backed
