@@ -23,8 +23,6 @@ use Rattle.constraint_files.proofs.PairOrder.{with-few}
 
 -- ---- how many pairs a row adds
 
-]
-
 kept-adds : (own theirs : Option (List ℕ)) (row : Row) (told : PairsView) (t : ℕ) → length (with_kept own theirs row told t).list ≤ length told.list + 1
 kept-adds None theirs row told t = omega arith
 kept-adds (Some own) None row told t = omega arith

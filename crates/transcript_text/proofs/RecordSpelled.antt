@@ -123,8 +123,6 @@ fit-entry sc book set last delta n k clean a x m =
     let channel = is_in-from (domain_of book x.0) x.1 (clean.clean.on_domain x (Contains-from_has_entry (overlaid last delta) x there)) in
     (station-of sc book x.0 n station, n.channels x.0 x.1 channel)
 
-]
-
 pub fit-spelled : (sc : Scenario) (book : BookView) (set : List ℕ) (last delta : List (ℕ × ℕ)) → IsWithinLimits sc → IsNamed sc book → IsKnown sc set → IsCleanOn book set (overlaid last delta) → IsAscending delta
     → (length delta ≤ most_counted) × AreEntries sc None delta
 fit-spelled sc book set last delta l n k clean a =
