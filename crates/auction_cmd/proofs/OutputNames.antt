@@ -1,4 +1,4 @@
--- Where no output name is given twice, the three texts that a command stores have names of their same-bytes.
+-- Where no output name is given twice, the three texts that a command stores have names of their own.
 use Rattle.std.proofs.Common.{◌≡◌, ◌≢◌, ◌<◌, ◌∙◌, ℕ, Bool, true, cond, inl, inr, List, [], ◌∷◌, ◌++◌, count_by, refl, sym, arith, None, subst}
 use Rattle.std.specs.Prelude.{Contains, find}
 use Rattle.std.specs.Str.{bytes_eq}
@@ -14,7 +14,7 @@ use Rattle.auction_cmd.specs.Made.{texts_under}
 use Rattle.auction_cmd.proofs.DeliveryLemmas.{AreApart}
 use Rattle.transcript_text.proofs.FieldReads.{same-bytes}
 
--- the three texts that are stored under these names have names of their same-bytes, whatever they are
+-- the three texts that are stored under these names have names of their own, whatever they are
 abbrev pub HaveOwnNames : RunNames → Type 0
 HaveOwnNames names = (result channels transcript : List ℕ) → AreApart (output_texts names result channels transcript)
 

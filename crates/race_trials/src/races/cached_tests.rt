@@ -23,6 +23,17 @@ use std::test::Fail;
 // A station on a channel.
 type Entry = (u32, u8);
 
+// What is to be said: that the set fits, by these changes of the channels that stand, or that it doesn't fit.
+#[derive(Clone, Copy)]
+enum Want {
+    Fit,
+    Changes(&'static [Entry]),
+    Unfit,
+}
+
+// A set, the channels that stand, what is to be said, and how many attempts the solver has made by then.
+type Row = (&'static [u32], &'static [Entry], Want, u64);
+
 // A solver whose attempts are counted.
 #[derive(Drop)]
 struct Counted<'a> {
@@ -79,14 +90,14 @@ fn cache_of(alloc: Global, kept: &[(&[u32], &[Entry])]) -> Result<Cache, NoMemor
     Ok(cache)
 }
 
-// Whether the racer says that the set fits beside these channels, if `fits`, or that it doesn't.
+// Whether the racer says of the set what is wanted, where these channels stand.
 fn says<R: Racer>(
     alloc: Global,
     racer: &mut R,
     book: &Book,
     set: &[u32],
     last: &[Entry],
-    fits: bool,
+    want: Want,
 ) -> Result<bool, NoMemory> {
     let task = task_of(alloc, set, last)?;
     if !is_query(book, &task) {
@@ -94,10 +105,19 @@ fn says<R: Racer>(
     }
     let said = racer.attempt(alloc, book, &task, &mut SerialPoll { number: 1 })?;
     Ok(match said {
-        Attempt::Said(Answer::Fit(_)) => fits,
-        Attempt::Said(Answer::Refuted(_)) => !fits,
+        Attempt::Said(Answer::Fit(map)) => is_fit(&map, want),
+        Attempt::Said(Answer::Refuted(_)) => matches!(&want, Want::Unfit),
         _ => false,
     })
+}
+
+// Whether a fit by these changes is wanted.
+fn is_fit(map: &ChannelMap, want: Want) -> bool {
+    match want {
+        Want::Fit => true,
+        Want::Changes(entries) => map.entries() == entries,
+        Want::Unfit => false,
+    }
 }
 
 // Whether a solver with ample budget behind a cache of these maps says each of these, having attempted so many by then.
@@ -106,7 +126,7 @@ fn attempts<W: Wait>(
     alloc: Global,
     worker: &Worker,
     kept: &[(&[u32], &[Entry])],
-    rows: &[(&[u32], &[Entry], bool, u64)],
+    rows: &[Row],
 ) -> Result<bool, NoMemory> {
     let book = three_stations(alloc)?;
     let cache = Mutex::new(cache_of(alloc, kept)?);
@@ -117,8 +137,8 @@ fn attempts<W: Wait>(
         attempts: &attempts,
     };
     let mut racer = Cached::make(rt, alloc, 15, &cache, worker, counted);
-    for (set, last, fits, count) in rows {
-        let said = says(alloc, &mut racer, &book, set, last, *fits)?;
+    for (set, last, want, count) in rows {
+        let said = says(alloc, &mut racer, &book, set, last, *want)?;
         if !said || attempts.load(Ordering::SeqCst) != *count {
             return Ok(false);
         }
@@ -130,39 +150,42 @@ fn attempts<W: Wait>(
 // that is no fit is passed over, for an older one or a refutation that is valid; where there is none the solver tries.
 #[test]
 fn what_was_said_is_not_tried_again(rt: HostRuntime) -> Result<(), Fail> {
-    let rows: &[(&[u32], &[Entry], bool, u64)] = &[
-        (&[1, 2], &[], true, 1),
-        (&[1, 2], &[], true, 1),
-        (&[2], &[], true, 1),
-        (&[1, 2, 3], &[], false, 2),
-        (&[1, 2, 3], &[], false, 2),
-        (&[1, 3], &[], true, 3),
+    let rows: &[Row] = &[
+        (&[1, 2], &[], Want::Fit, 1),
+        (&[1, 2], &[], Want::Fit, 1),
+        (&[2], &[], Want::Fit, 1),
+        (&[1, 2, 3], &[], Want::Unfit, 2),
+        (&[1, 2, 3], &[], Want::Unfit, 2),
+        (&[1, 3], &[], Want::Fit, 3),
     ];
     assert!(rt; attempts(&rt, rt.alloc(), &learner(1000), &[], rows)?);
     let kept: &[(&[u32], &[Entry])] = &[
         (&[1, 2], &[(1, 14), (2, 15)]),
         (&[1, 2, 3], &[(1, 14), (2, 14), (3, 14)]),
     ];
-    let passing_over: &[(&[u32], &[Entry], bool, u64)] = &[
-        (&[1, 2], &[], true, 0),
-        (&[3], &[], true, 0),
-        (&[1, 3], &[], true, 1),
-        (&[1, 2, 3], &[], false, 2),
-        (&[1, 2, 3], &[], false, 2),
+    let passing_over: &[Row] = &[
+        (&[1, 2], &[], Want::Changes(&[(1, 14), (2, 15)]), 0),
+        (&[3], &[], Want::Changes(&[(3, 14)]), 0),
+        (&[1, 3], &[], Want::Fit, 1),
+        (&[1, 2, 3], &[], Want::Unfit, 2),
+        (&[1, 2, 3], &[], Want::Unfit, 2),
     ];
     assert!(rt; attempts(&rt, rt.alloc(), &learner(1000), kept, passing_over)?);
     Ok(())
 }
 
-// A free channel of the tested station is said without the cache and the solver. It isn't kept: where no look is had, the solver
-// tries the same set, and only then the cache has it.
+// A free channel of the tested station is said, and not what the cache would suggest, nor what the solver would find. It isn't kept:
+// where no look is had, the cache hasn't that set, the solver tries, and only then it is kept.
 #[test]
 fn what_a_look_finds_is_neither_tried_nor_kept(rt: HostRuntime) -> Result<(), Fail> {
-    let rows: &[(&[u32], &[Entry], bool, u64)] = &[
-        (&[1, 2], &[(1, 14)], true, 0),
-        (&[1, 2], &[], true, 1),
-        (&[1, 2], &[], true, 1),
+    let kept: &[(&[u32], &[Entry])] = &[(&[1, 2], &[(1, 15), (2, 14)])];
+    let rows: &[Row] = &[
+        (&[1, 2], &[(1, 14)], Want::Changes(&[(2, 15)]), 0),
+        (&[1, 2], &[], Want::Changes(&[(1, 15), (2, 14)]), 0),
+        (&[1, 3], &[(1, 14)], Want::Changes(&[(3, 15)]), 0),
+        (&[1, 3], &[], Want::Fit, 1),
+        (&[1, 3], &[], Want::Fit, 1),
     ];
-    assert!(rt; attempts(&rt, rt.alloc(), &learner(1000), &[], rows)?);
+    assert!(rt; attempts(&rt, rt.alloc(), &learner(1000), kept, rows)?);
     Ok(())
 }
