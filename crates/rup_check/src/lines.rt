@@ -129,8 +129,8 @@ impl Lines {
         let _ = self.spans.pop();
     }
 
-    /// The same lines once more, in no more memory than they need: their bytes are copied, and none is read. The only error is want
-    /// of memory.
+    /// The same lines once more, with no room to spare: their bytes are copied, and none is read. The only error is want of
+    /// memory.
     pub fn copied(&self, alloc: Global) -> Result<Lines, NoMemory>
         ensures { IfOk result (λ copy. copy ≡ self.now) }
     {
@@ -140,7 +140,7 @@ impl Lines {
         })
     }
 
-    /// The same lines, in no more memory than they need.
+    /// The same lines, with no room to spare.
     pub fn fitted(self) -> Lines
         ensures { result ≡ self }
     {
