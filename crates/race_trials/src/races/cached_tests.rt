@@ -23,16 +23,13 @@ use std::test::Fail;
 // A station on a channel.
 type Entry = (u32, u8);
 
-// What is to be said: that the set fits, by these changes of the channels that stand, or that it doesn't fit.
+// What is to be said: that the set fits, by so many changes of the channels that stand, or that it doesn't fit.
 #[derive(Clone, Copy)]
 enum Want {
     Fit,
-    Changes(&'static [Entry]),
+    Changes(usize),
     Unfit,
 }
-
-// A set, the channels that stand, what is to be said, and how many attempts the solver has made by then.
-type Row = (&'static [u32], &'static [Entry], Want, u64);
 
 // A solver whose attempts are counted.
 #[derive(Drop)]
@@ -104,29 +101,34 @@ fn says<R: Racer>(
         return Ok(false);
     }
     let said = racer.attempt(alloc, book, &task, &mut SerialPoll { number: 1 })?;
-    Ok(match said {
-        Attempt::Said(Answer::Fit(map)) => is_fit(&map, want),
-        Attempt::Said(Answer::Refuted(_)) => matches!(&want, Want::Unfit),
-        _ => false,
-    })
+    Ok(is_wanted(&said, want))
 }
 
-// Whether a fit by these changes is wanted.
+fn is_wanted(said: &Attempt, want: Want) -> bool {
+    match said {
+        Attempt::Said(Answer::Fit(map)) => is_fit(map, want),
+        Attempt::Said(Answer::Refuted(_)) => matches!(&want, Want::Unfit),
+        _ => false,
+    }
+}
+
+// Whether a fit by so many changes is wanted.
 fn is_fit(map: &ChannelMap, want: Want) -> bool {
     match want {
         Want::Fit => true,
-        Want::Changes(entries) => map.entries() == entries,
+        Want::Changes(count) => map.entries().len() == count,
         Want::Unfit => false,
     }
 }
 
-// Whether a solver with ample budget behind a cache of these maps says each of these, having attempted so many by then.
+// Whether a solver with ample budget behind a cache of these maps says what is wanted of each set, where these channels stand,
+// having attempted so many by then.
 fn attempts<W: Wait>(
     rt: &W,
     alloc: Global,
     worker: &Worker,
     kept: &[(&[u32], &[Entry])],
-    rows: &[Row],
+    rows: &[(&[u32], &[Entry], Want, u64)],
 ) -> Result<bool, NoMemory> {
     let book = three_stations(alloc)?;
     let cache = Mutex::new(cache_of(alloc, kept)?);
@@ -150,7 +152,7 @@ fn attempts<W: Wait>(
 // that is no fit is passed over, for an older one or a refutation that is valid; where there is none the solver tries.
 #[test]
 fn what_was_said_is_not_tried_again(rt: HostRuntime) -> Result<(), Fail> {
-    let rows: &[Row] = &[
+    let rows: &[(&[u32], &[Entry], Want, u64)] = &[
         (&[1, 2], &[], Want::Fit, 1),
         (&[1, 2], &[], Want::Fit, 1),
         (&[2], &[], Want::Fit, 1),
@@ -163,9 +165,9 @@ fn what_was_said_is_not_tried_again(rt: HostRuntime) -> Result<(), Fail> {
         (&[1, 2], &[(1, 14), (2, 15)]),
         (&[1, 2, 3], &[(1, 14), (2, 14), (3, 14)]),
     ];
-    let passing_over: &[Row] = &[
-        (&[1, 2], &[], Want::Changes(&[(1, 14), (2, 15)]), 0),
-        (&[3], &[], Want::Changes(&[(3, 14)]), 0),
+    let passing_over: &[(&[u32], &[Entry], Want, u64)] = &[
+        (&[1, 2], &[], Want::Changes(2), 0),
+        (&[3], &[], Want::Changes(1), 0),
         (&[1, 3], &[], Want::Fit, 1),
         (&[1, 2, 3], &[], Want::Unfit, 2),
         (&[1, 2, 3], &[], Want::Unfit, 2),
@@ -174,15 +176,15 @@ fn what_was_said_is_not_tried_again(rt: HostRuntime) -> Result<(), Fail> {
     Ok(())
 }
 
-// A free channel of the tested station is said, and not what the cache would suggest, nor what the solver would find. It isn't kept:
-// where no look is had, the cache hasn't that set, the solver tries, and only then it is kept.
+// A free channel of the tested station is said, and not the map that the cache would suggest, which moves the other station too. It
+// isn't kept: where no look is had, the cache hasn't that set, the solver tries, and only then it is kept.
 #[test]
 fn what_a_look_finds_is_neither_tried_nor_kept(rt: HostRuntime) -> Result<(), Fail> {
     let kept: &[(&[u32], &[Entry])] = &[(&[1, 2], &[(1, 15), (2, 14)])];
-    let rows: &[Row] = &[
-        (&[1, 2], &[(1, 14)], Want::Changes(&[(2, 15)]), 0),
-        (&[1, 2], &[], Want::Changes(&[(1, 15), (2, 14)]), 0),
-        (&[1, 3], &[(1, 14)], Want::Changes(&[(3, 15)]), 0),
+    let rows: &[(&[u32], &[Entry], Want, u64)] = &[
+        (&[1, 2], &[(1, 14)], Want::Changes(1), 0),
+        (&[1, 2], &[], Want::Changes(2), 0),
+        (&[1, 3], &[(1, 14)], Want::Changes(1), 0),
         (&[1, 3], &[], Want::Fit, 1),
         (&[1, 3], &[], Want::Fit, 1),
     ];
