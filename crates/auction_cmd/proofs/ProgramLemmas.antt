@@ -1,11 +1,11 @@
 -- What may be relied on of the program follows from how it ends, whatever the words ask for.
-use Rattle.std.proofs.Common.{◌≡◌, ◌∙◌, ℕ, Bool, true, false, inl, inr, List, [], refl, sym, ap, subst, Option, None}
-use Rattle.std.specs.Prelude.{IsFalse, IsSome, IsTrue, is_some}
+use Rattle.std.proofs.Common.{◌≡◌, ◌∙◌, ℕ, true, false, inl, inr, List, [], refl, sym, ap, subst, Option, None}
+use Rattle.std.specs.Prelude.{IsSome, IsTrue, is_some}
 use Rattle.std.proofs.lemmas.Bool.{false≢true, true≢false}
 use Rattle.auction_core.specs.declared.record.Record.{Record}
 use Rattle.auction_cmd.specs.BatchEnds.{BatchEnds}
 use Rattle.auction_cmd.specs.BatchEnds.BatchEnds.{BatchStarved}
-use Rattle.auction_cmd.specs.Ends.{Ends, IsStarved}
+use Rattle.auction_cmd.specs.Ends.{Ends}
 use Rattle.auction_cmd.specs.Ends.Ends.{Starved, Usage, Repeated, Ran, Checked, Verified, Sought, Made, Exported, Imported}
 use Rattle.auction_cmd.specs.Outside.{Outside}
 use Rattle.auction_cmd.specs.Plan.{Plan, batches, resumes}

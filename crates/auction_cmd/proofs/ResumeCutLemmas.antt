@@ -1,11 +1,8 @@
 -- The beginnings and the whole of a sound transcript: what is kept of them, and the record that goes on from the whole.
 use Rattle.std.proofs.Common.{◌≡◌, ◌<◌, ◌∙◌, ◌++◌, ◌^◌, ℕ, true, List, [], length, refl, sym, ap, subst, arith, append-nil, Option, Some, None}
-use Rattle.std.specs.Prelude.{Ok, Err, IsTrue, MatchOption, MatchResult, Result, ⊤}
+use Rattle.std.specs.Prelude.{Ok, Err, MatchResult, Result}
 use Rattle.outside_io.specs.Files.{StoredFile}
-use Rattle.pack_defs.specs.Packing.{fits}
-use Rattle.pack_defs.specs.Prices.{start_set}
 use Rattle.auction_core.specs.declared.prefix.Prefix.{Prefix}
-use Rattle.auction_core.specs.declared.record.Ending.TheVariants.{Done}
 use Rattle.auction_core.specs.declared.record.Record.{Record}
 use Rattle.auction_core.specs.declared.record.Shown.{Shown}
 use Rattle.auction_core.specs.declared.transcript.Transcript.{Transcript}
@@ -21,7 +18,6 @@ use Rattle.transcript_check.specs.Sound.{transcript_record}
 use Rattle.transcript_check.proofs.BeginningLemmas.{any-beginning}
 use Rattle.transcript_check.proofs.SoundLemmas.{shown-sound}
 use Rattle.transcript_check.proofs.WholeLemmas.{none-other, same-text}
-use Rattle.auction_cmd.specs.declared.fault.TranscriptFault.{TranscriptFault}
 use Rattle.auction_cmd.specs.declared.inputs.Inputs.{Inputs}
 use Rattle.auction_cmd.specs.Inputs.{inputs_of}
 use Rattle.auction_cmd.specs.Records.{IsRecordIn, StartFits}

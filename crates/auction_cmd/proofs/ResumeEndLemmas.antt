@@ -23,16 +23,15 @@ use Rattle.auction_core.specs.declared.record.Step.{Step}
 use Rattle.auction_core.specs.Auction.{AuctionView}
 use Rattle.auction_core.specs.Backed.{IsBacked, ending_of, is_outside}
 use Rattle.auction_core.specs.LogNumbers.{steps_in}
-use Rattle.auction_core.specs.NotShown.{NotShown, kept_as, not_kept, not_shown, not_shown_at, order_kept, start_fault, started_fault, step_fault_or, unstarted_fault, within_steps}
-use Rattle.auction_core.specs.Postings.{GoesOn, GoesOnIn}
-use Rattle.auction_core.specs.Prefix.{IsPrefix, resumed}
+use Rattle.auction_core.specs.NotShown.{NotShown, kept_as, not_kept, not_shown, order_kept, start_fault, started_fault, step_fault_or, within_steps}
+use Rattle.auction_core.specs.Postings.{GoesOnIn}
+use Rattle.auction_core.specs.Prefix.{resumed}
 use Rattle.auction_core.specs.Rule.{IsAuction}
 use Rattle.auction_core.proofs.Prefixes.{resumed-goes}
 use Rattle.transcript_text.specs.declared.error.TextErr.{TextErr}
 use Rattle.transcript_text.specs.declared.error.TextErr.TheVariants.{Version, BadLine, Truncated, NoMemory as NoRoom}
 use Rattle.transcript_text.specs.PrefixReading.{prefix_of}
 use Rattle.transcript_text.specs.Steps.{Fails}
-use Rattle.auction_cmd.specs.declared.fault.TranscriptFault.{TranscriptFault}
 use Rattle.auction_cmd.specs.declared.fault.TranscriptFault.TheVariants.{Unshown}
 use Rattle.auction_cmd.specs.declared.inputs.Inputs.{Inputs}
 use Rattle.auction_cmd.specs.declared.shown.Denied.{Denied}

@@ -1,6 +1,6 @@
 -- What may be relied on of `resume` follows from how it ends, case by case: where its auction goes on, by what holds of a run.
-use Rattle.std.proofs.Common.{◌≡◌, ◌≢◌, ◌⊎◌, ◌<◌, ◌≤◌, ◌∙◌, ◌++◌, ℕ, true, false, inl, inr, List, [], ◌∷◌, length, refl, sym, ap, subst, arith, Option, Some, None}
-use Rattle.std.specs.Prelude.{Ok, Err, IsSome, IsTrue, MatchOption, MatchResult, Result, is_some, ⊤}
+use Rattle.std.proofs.Common.{◌≡◌, ◌≢◌, ◌⊎◌, ◌<◌, ◌∙◌, ◌++◌, ℕ, true, false, inl, inr, List, [], ◌∷◌, length, refl, sym, ap, subst, arith, Option, Some, None}
+use Rattle.std.specs.Prelude.{Ok, Err, IsSome, IsTrue, MatchOption, Result, is_some, ⊤}
 use Rattle.std.proofs.lemmas.Bool.{true≢false}
 use Rattle.pack_defs.specs.Lists.{is_in}
 use Rattle.pack_defs.specs.Packing.{fits}

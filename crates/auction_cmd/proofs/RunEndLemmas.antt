@@ -1,5 +1,5 @@
 -- How `run` ends, from how the auction of its inputs concludes.
-use Rattle.std.proofs.Common.{◌≡◌, ◌⊎◌, ◌∙◌, ℕ, inl, inr, subst, Option}
+use Rattle.std.proofs.Common.{◌⊎◌, ◌∙◌, ℕ, inl, inr, subst, Option}
 use Rattle.auction_core.specs.Backed.{undecided_of}
 use Rattle.auction_core.specs.declared.record.Record.{Record}
 use Rattle.pack_defs.specs.declared.order.Order.{Order}

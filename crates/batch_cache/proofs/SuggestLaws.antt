@@ -1,9 +1,7 @@
 -- What gives an answer is suggested: where nothing is, none is given.
-use Rattle.std.proofs.Common.{◌≡◌, ℕ, Bool, true, false, ◌&&◌, ◌==◌, List, [], ◌∷◌, Option, Some, None, refl, find}
-use Rattle.std.specs.List.{list_all}
+use Rattle.std.proofs.Common.{◌≡◌, ℕ, Bool, true, false, ◌==◌, List, [], ◌∷◌, Option, Some, None, refl, find}
 use Rattle.std.proofs.lemmas.Bool.{and_parts, and_from}
 use Rattle.pack_defs.specs.Book.{BookView}
-use Rattle.pack_defs.specs.Lists.{is_in}
 use Rattle.pack_defs.specs.declared.worker.Worker.{Worker}
 use Rattle.cert_types.specs.declared.answer.Answer.TheVariants.{Fit, Refuted}
 use Rattle.cert_types.specs.declared.answer.Refutation.{Refutation}

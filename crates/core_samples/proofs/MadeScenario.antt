@@ -1,7 +1,6 @@
 -- The scenario that is made is the example's, with its own stations and workers.
 use Rattle.std.proofs.Common.{◌≡◌, ℕ, List, [], ◌∷◌, None, refl}
 use Rattle.pack_defs.specs.declared.fall.Fall.TheVariants.{Listed}
-use Rattle.pack_defs.specs.declared.scenario.Scenario.{Scenario}
 use Rattle.pack_defs.specs.declared.station.Station.{Station}
 use Rattle.pack_defs.specs.declared.worker.Worker.{Worker}
 use Rattle.pack_defs.specs.Examples.{three_bids}

@@ -1,5 +1,5 @@
 -- Which channels are free for a station beside others, and what a look for one finds.
-use Rattle.std.specs.Prelude.{ℕ, Bool, true, false, not, ◌≡◌, ◌&&◌, ◌||◌, ◌==◌, List, [], ◌∷◌, Option, Some, None, filter, length, slice_index_or}
+use Rattle.std.specs.Prelude.{ℕ, Bool, true, false, not, ◌≡◌, ◌&&◌, ◌==◌, List, [], ◌∷◌, Option, Some, None, filter, length, slice_index_or}
 use Rattle.std.specs.List.{list_any}
 use Rattle.pack_defs.specs.declared.pair.Pair.{Pair}
 use Rattle.pack_defs.specs.Book.{BookView, domain_of}

@@ -1,10 +1,9 @@
 -- What the settling of a step asks, and what it leaves.
-use Rattle.std.proofs.Common.{◌≡◌, ◌≤◌, ◌<◌, ◌-◌, ◌∙◌, ℕ, zero, suc, Bool, true, false, if◌then◌else◌, List, length, Option, Some, None, is_none, option_map, refl, sym, ap, subst, arith}
+use Rattle.std.proofs.Common.{◌≡◌, ◌≤◌, ◌-◌, ◌∙◌, ℕ, zero, suc, true, if◌then◌else◌, List, length, Option, Some, None, is_none, option_map, refl, sym, ap, subst, arith}
 use Rattle.std.specs.Prelude.{MatchOption, Result, Ok, Err, []}
 use Rattle.std.specs.Option.{option_map_or}
 use Rattle.std.proofs.lemmas.Option.{slice_get_within}
 use Rattle.pack_defs.specs.Book.{BookView}
-use Rattle.rup_check.specs.declared.line.Line.{Line}
 use Rattle.rup_check.specs.declared.line.Log.{Log}
 use Rattle.cert_types.specs.Outside.{IsOutsideProof, outside_fault}
 use Rattle.cert_types.specs.declared.answer.CertifyWhy.{CertifyWhy}
@@ -27,8 +26,7 @@ use Rattle.open_tests.specs.Cut.{up_to_empty}
 use Rattle.open_tests.specs.Queries.{state_before, step_numbered, task_at}
 use Rattle.open_tests.specs.Settled.{IsLeftOpen, RefutesStep, settled_by}
 use Rattle.open_tests.specs.Settling.{SettleFails, cut_proof, refused, set_of_step, settled_log, settled_or, settled_text, unread}
-use Rattle.open_tests.specs.declared.settle.SettleErr.{SettleErr}
-use Rattle.open_tests.specs.declared.settle.SettleErr.TheVariants.{Unread, NoRefutation, NoMemory}
+use Rattle.open_tests.specs.declared.settle.SettleErr.TheVariants.{NoRefutation}
 
 -- ---- the step
 

@@ -1,7 +1,7 @@
 -- The packing formula of a step's test, and what the text of a log from outside makes of a record. The formula is the clause form
 -- of the SATFC papers as DIMACS CNF, the log one of LRAT; that a log is cut at its first empty line, and may have at most
 -- 1,000,000 lines, is this project's own.
-use Rattle.std.specs.Prelude.{ℕ, ◌≡◌, if◌then◌else◌, List, [], Option, is_none, Result, Ok, Err}
+use Rattle.std.specs.Prelude.{ℕ, ◌≡◌, if◌then◌else◌, List, [], is_none, Result, Ok, Err}
 use Rattle.std.specs.Option.{option_map_or}
 use Rattle.pack_defs.specs.Book.{BookView}
 use Rattle.cnf_encode.specs.Formula.{packing_formula, variables_in}

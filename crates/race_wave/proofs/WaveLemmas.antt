@@ -17,7 +17,6 @@ use Rattle.auction_core.specs.Take.{PostingView, is_noted, noted_with, take}
 use Rattle.auction_core.proofs.Cases.{take-cases}
 use Rattle.auction_core.specs.Replay.{EntryView}
 use Rattle.auction_core.proofs.TaskLemmas.{task-has}
-use Rattle.turn_lock.specs.Turns.{AllOf}
 use Rattle.answer_board.specs.declared.board.Board.{Board}
 use Rattle.answer_board.specs.declared.look.Look.TheVariants as Look
 use Rattle.answer_board.specs.Boards.{raised}

@@ -4,14 +4,12 @@ use Rattle.std.specs.Prelude.{Ok, codes, min}
 use Rattle.std.specs.List.{flat_map, range_with_len}
 use Rattle.std.proofs.lemmas.Bool.{cases_Bool, le-ltb}
 use Rattle.std.proofs.lemmas.List.{append-nil}
-use Rattle.pack_defs.specs.Book.{comes_before}
 use Rattle.pack_defs.specs.Lists.{is_in}
 use Rattle.pack_defs.specs.declared.domain.Domain.{Domain}
-use Rattle.pack_defs.specs.declared.pair.Pair.{Pair}
 use Rattle.constraint_files.specs.Domains.{channels_of}
 use Rattle.constraint_files.specs.Numbers.{number, numbers}
 use Rattle.constraint_files.specs.Records.{after_lines, lines_of}
-use Rattle.constraint_files.specs.Rows.{PairsView, add_row, interference_row, pair_of, pairs_of, row_of_fields, row_on, with_kept, with_other, with_pair}
+use Rattle.constraint_files.specs.Rows.{PairsView, add_row, interference_row, pair_of, pairs_of, row_of_fields, row_on, with_kept, with_other}
 use Rattle.constraint_files.specs.declared.interference_row.Offset.{Offset}
 use Rattle.constraint_files.specs.declared.interference_row.Row.{Row}
 use Rattle.rand_pcg.specs.Lcg.{Lcg}

@@ -1,5 +1,5 @@
 -- The first field of a line, where it is a number that is read as it is walked along.
-use Rattle.std.proofs.Common.{◌≡◌, ◌<◌, ◌≤◌, add-one, ◌+◌, ◌-◌, ◌∙◌, ◌∷◌, [], ℕ, List, Bool, true, false, zero, suc, Some, None, refl, sym, ap, subst, arith, length, take, drop, get_or, ne_eqb, eq-eqb, ◌==◌, if◌then◌else◌}
+use Rattle.std.proofs.Common.{◌≡◌, ◌<◌, ◌≤◌, add-one, ◌+◌, ◌-◌, ◌∙◌, ◌∷◌, [], ℕ, List, true, false, zero, suc, Some, refl, sym, subst, arith, length, take, drop, get_or, ne_eqb, eq-eqb}
 use Rattle.std.specs.Char.{is_ascii_digit}
 use Rattle.std.specs.Str.{all_ascii_digits}
 use Rattle.std.specs.Str.Parse.{digits_value}
@@ -7,8 +7,8 @@ use Rattle.std.proofs.lemmas.Bool.{and_parts, leb-true}
 use Rattle.std.proofs.lemmas.List.{take_all}
 use Rattle.std.specs.List.{slice_get}
 use Rattle.lrat_text.specs.declared.field.Field.TheVariants.{Number}
-use Rattle.lrat_text.specs.Lines.{fields_of, pieces, is_space, onto_piece}
-use Rattle.lrat_text.specs.LogReading.{natural, field_of, signed_of}
+use Rattle.lrat_text.specs.Lines.{fields_of, pieces, is_space}
+use Rattle.lrat_text.specs.LogReading.{field_of}
 use Rattle.lrat_text.specs.LogText.{greatest}
 use Rattle.lrat_text.proofs.DigitLemmas.{all-within}
 use Rattle.lrat_text.proofs.SplitLemmas.{piece-at, one-piece}

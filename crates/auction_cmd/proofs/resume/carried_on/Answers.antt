@@ -1,5 +1,5 @@
 -- The record is that of the inputs' auction in its order, and goes on from what was kept.
-use Rattle.std.proofs.Common.{◌∙◌, subst}
+use Rattle.std.proofs.Common.{subst}
 use Rattle.auction_core.proofs.AuctionLemmas.{is-auction}
 use Rattle.auction_core.specs.Backed.{IsBacked}
 use Rattle.auction_cmd.proofs.EndLemmas.{ended-record, own-ended}

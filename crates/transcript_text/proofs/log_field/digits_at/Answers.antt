@@ -1,7 +1,4 @@
-use Rattle.std.proofs.Common.{◌≡◌, ◌+◌, ◌∙◌, sym, true, get_or, take, arith}
-use Rattle.std.specs.Str.{all_ascii_digits}
-use Rattle.std.specs.Str.Parse.{digits_value}
-use Rattle.std.proofs.lemmas.List.{take_all}
+use Rattle.std.proofs.Common.{◌∙◌, sym, true, get_or, arith}
 use Rattle.pack_defs.proofs.Digits.{more-digits, more-value}
 use Rattle.transcript_text.proofs.NumeralLemmas.{digit-most}
 use Rattle.transcript_text.proofs.log_field.digits_at.Goals as goal

@@ -1,5 +1,5 @@
-use Rattle.std.proofs.Common.{◌≡◌, ◌+◌, ◌∙◌, add-one, arith, length, rules, sym, take}
-use Rattle.std.proofs.lemmas.List.{take_all, take_rest}
+use Rattle.std.proofs.Common.{◌+◌, ◌∙◌, add-one, rules, sym}
+use Rattle.std.proofs.lemmas.List.{take_rest}
 use Rattle.transcript_text.proofs.NumeralLemmas.{digits-end, digits-space, first-byte, numeral}
 use Rattle.transcript_text.proofs.log_field.first_numeral.Goals as goal
 

@@ -1,4 +1,4 @@
-use Rattle.std.proofs.Common.{rules, ◌≡◌, ◌∙◌, ◌++◌, ◌∷◌, [], List, ℕ, ap}
+use Rattle.std.proofs.Common.{rules, ◌≡◌, ◌∙◌, ◌++◌, ◌∷◌, [], ℕ, ap}
 use Rattle.turn_lock.specs.Passes.{number_of, seen_of}
 use Rattle.turn_lock.specs.Turns.{last}
 use Rattle.turn_lock.proofs.Lists.{last_of, starts_more}
