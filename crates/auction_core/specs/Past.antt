@@ -2,6 +2,7 @@
 -- were at each station's last test, the steps, and where each station's last fit was told. That it is so kept is this
 -- project's own.
 use Rattle.std.specs.Prelude.{ℕ, ◌≡◌, ◌≤◌, ◌<◌, List, [], ◌∷◌, ◌++◌, length, slice_index, slice_set}
+use Rattle.pack_defs.specs.declared.limits.TheConstants.{MOST_STATIONS}
 use Rattle.auction_core.specs.Parts.{PartsView}
 use Rattle.auction_core.specs.declared.record.Shown.{Shown}
 use Rattle.auction_core.specs.declared.record.Step.{Step}
@@ -30,8 +31,8 @@ with_settled_step past place step room verdicts = record past {
 -- There is a number for each station, and each is within the limit on stations, as that of those on air is.
 pub record AreSeen (stations : List ℕ) (on_air : ℕ) (seen : List ℕ) : Type 0 where
   pub long : length seen ≡ length stations
-  pub few : on_air ≤ 8192
-  pub each : (i : ℕ) → slice_index seen i ≤ 8192
+  pub few : on_air ≤ MOST_STATIONS
+  pub each : (i : ℕ) → slice_index seen i ≤ MOST_STATIONS
 
 -- Each station's last fit among the steps is the one that stands at its place among the verdicts.
 pub record AreLastFits (stations : List ℕ) (steps : List Step) (told : List Shown) (fits : List ℕ) : Type 0 where

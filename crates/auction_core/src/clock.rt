@@ -4,6 +4,7 @@ ghost use Rattle.std.specs.Prelude.{◌≡◌, ◌<◌, ◌≤◌, ◌*◌, [], 
 ghost use Rattle.pack_defs.specs.Scenario.{IsWithinLimits, facilities};
 ghost use Rattle.pack_defs.specs.Prices.{last_round, prices};
 ghost use Rattle.pack_defs.specs.ClockRule.{exits, opening_state};
+ghost use Rattle.pack_defs.specs.declared.limits.TheConstants.{MOST_STATIONS};
 ghost use Rattle.freeze_ledger.specs.Ledger.{price_of, sum_paid, with_price};
 ghost use Rattle.auction_core.specs.Clock.{IsClockOf, answered_clock, declines_offer, most_paid, opening_standing, stands_active, stands_on_air};
 
@@ -164,7 +165,7 @@ impl Clock {
         requires place { i < length self.old.standings }
         requires active { slice_index_or self.old.standings i Standing.Active ≡ Standing.Active }
         requires absent { price_of station self.old.paid ≡ None }
-        requires few { length self.old.standings ≤ 8192 }
+        requires few { length self.old.standings ≤ MOST_STATIONS }
         requires price { price ≤ most_paid }
         ensures { self.new ≡ record { standings = slice_set self.old.standings i (Standing.Frozen round); paid = with_price station price self.old.paid } }
     {
@@ -201,7 +202,7 @@ impl Clock {
 
 // An empty ledger with room for so many stations.
 fn room_to_pay(alloc: Global, stations: usize) -> Result<Ledger, NoMemory>
-    requires { stations ≤ 8192 }
+    requires { stations ≤ MOST_STATIONS }
     ensures paid { IfOk result (λ ledger. ledger.paid ≡ []) }
     ensures room { IfOk result (λ ledger. stations ≤ ledger.spare) }
 {

@@ -5,6 +5,7 @@ ghost use Rattle.pack_defs.specs.Lists.{has_station, is_empty, is_in};
 ghost use Rattle.pack_defs.specs.ClockRule.{is_active, opening_state};
 ghost use Rattle.pack_defs.specs.Prices.{last_round};
 ghost use Rattle.pack_defs.specs.Scenario.{facilities};
+ghost use Rattle.pack_defs.specs.declared.limits.TheConstants.{MOST_STATIONS};
 ghost use Rattle.auction_core.specs.Backed.{IsStartShown, IsStepShown, record_of};
 ghost use Rattle.auction_core.specs.Clock.{AreStandings, stands_on_air};
 ghost use Rattle.auction_core.specs.Course.{IsAtRest, IsCourse, IsDue, IsSettled, clock_of, core_state, is_roomy, left_of, map_after, next_test, turns_left, unasked_of, with_start_shown};
@@ -355,7 +356,7 @@ fn take_if(map: &mut AirMap, past: &Past, place: usize, standing: &Standing)
 // The station, where it stands so: on air, it joins the parts.
 fn air_if(past: &mut Past, book: &Book, station: u32, standing: &Standing)
     requires known { is_in past.old.parts.stations station ≡ true }
-    requires few { past.old.on_air < 8192 }
+    requires few { past.old.on_air < MOST_STATIONS }
     ensures same { past.new ≡ record past.old { parts = past.new.parts; on_air = past.new.on_air } }
     ensures stations { past.new.parts.stations ≡ past.old.parts.stations }
     ensures went { stands_on_air standing.now ≡ true → (past.new.on_air ≡ past.old.on_air + 1) × ((z : ℕ) → label_of past.new.parts z ≡ relabelled book.now (labelled past.old.parts) (label_of past.old.parts) station (past.old.on_air + 1) z) }

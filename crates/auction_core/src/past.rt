@@ -2,6 +2,7 @@
 
 ghost use Rattle.std.specs.Prelude.{◌≡◌, ◌≤◌, ◌<◌, ◌+◌, ℕ, [], IfOk, IsTrue, OnOk, is_some, length, map, option_map, slice_index, true, unwrap_or};
 ghost use Rattle.pack_defs.specs.Lists.{is_ascending, is_in};
+ghost use Rattle.pack_defs.specs.declared.limits.TheConstants.{MOST_STATIONS};
 ghost use Rattle.auction_core.specs.Parts.{label_of, labelled, relabelled, touches_since};
 ghost use Rattle.auction_core.specs.Past.{with_settled_step};
 ghost use Rattle.auction_core.specs.State.{fit_of, last_fit};
@@ -106,7 +107,7 @@ impl Past {
     /// near it, and a pass over the stations for each of these parts. It takes no memory.
     pub fn air(&mut self, book: &Book, station: u32)
         requires known { IsTrue (is_in self.old.parts.stations station) }
-        requires few { self.old.on_air < 8192 }
+        requires few { self.old.on_air < MOST_STATIONS }
         ensures same { self.new ≡ record self.old { parts = self.new.parts; on_air = self.old.on_air + 1 } }
         ensures stations { self.new.parts.stations ≡ self.old.parts.stations }
         ensures labels { (z : ℕ) → label_of self.new.parts z ≡ relabelled book.now (labelled self.old.parts) (label_of self.old.parts) station (self.old.on_air + 1) z }

@@ -1,10 +1,11 @@
 //! What stands while an auction runs.
 
 ghost use Rattle.std.specs.Arc.{arc_value};
-ghost use Rattle.std.specs.Prelude.{◌≡◌, ◌<◌, ◌≤◌, IfOk, length, slice_index};
+ghost use Rattle.std.specs.Prelude.{◌≡◌, ◌+◌, ◌<◌, ◌≤◌, IfOk, length, slice_index};
 ghost use Rattle.pack_defs.specs.ClockRule.{turns};
 ghost use Rattle.pack_defs.specs.Prices.{last_round, prices};
 ghost use Rattle.pack_defs.specs.Scenario.{facilities};
+ghost use Rattle.pack_defs.specs.declared.limits.TheConstants.{MOST_ROUNDS, MOST_STATIONS};
 ghost use Rattle.auction_core.specs.Setup.{IsOfAuction, IsSetupSound};
 
 use crate::turns::places;
@@ -95,7 +96,7 @@ impl Setup {
     /// The last round: the one after the last fall of the price.
     pub fn last_round(&self) -> u32
         ensures value { result ≡ last_round self.now.scenario }
-        ensures few { result ≤ 1001 }
+        ensures few { result ≤ MOST_ROUNDS + 1 }
     {
         self.schedule.len() as u32
     }
@@ -103,7 +104,7 @@ impl Setup {
     /// How many stations a round may test.
     pub fn turns(&self) -> usize
         ensures value { result ≡ length self.now.scenario.stations }
-        ensures few { result ≤ 8192 }
+        ensures few { result ≤ MOST_STATIONS }
     {
         self.scenario.stations.as_slice().len()
     }

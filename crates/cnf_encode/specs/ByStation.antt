@@ -1,16 +1,17 @@
 -- What the formula of a set has from each of its stations.
 use Rattle.std.specs.Prelude.{ℕ, ◌≡◌, ◌==◌, ◌+◌, ◌*◌, ◌≤◌, List, length, take, filter, slice_index, count_by}
+use Rattle.pack_defs.specs.declared.limits.TheConstants.{MOST_STATIONS}
 use Rattle.pack_defs.specs.declared.pair.Pair.{Pair}
 use Rattle.pack_defs.specs.Book.{BookView, stations_of}
 use Rattle.pack_defs.specs.Lists.{is_in}
 use Rattle.cnf_encode.specs.Formula.{variables_in}
 
--- how many variables the stations have: at most 256 for each station of the book, and none for another one; a book has
--- at most 8192 stations
+-- how many variables the stations have: at most 256 for each station of the book, and none for another one, and
+-- so for at most as many stations as a book may have
 pub record IsCount (book : BookView) (stations : List ℕ) (count : ℕ) : Type 0 where
   pub exact : count ≡ variables_in book stations
   pub few : count ≤ 256 * count_by (is_in (stations_of book)) stations
-  pub fits : count ≤ 256 * 8192
+  pub fits : count ≤ 256 * MOST_STATIONS
 
 -- for each station of the set, how many variables the stations before it have, and last how many all have
 pub record AreOffsets (book : BookView) (set offsets : List ℕ) : Type 0 where

@@ -4,6 +4,7 @@ ghost use Rattle.std.specs.Prelude.{◌≡◌, ◌*◌, ◌+◌, ◌<◌, ◌≤
 ghost use Rattle.std.specs.List.{filter, flat_map};
 ghost use Rattle.pack_defs.specs.Book.{IsInOrder};
 ghost use Rattle.pack_defs.specs.Lists.{is_ascending};
+ghost use Rattle.pack_defs.specs.declared.limits.TheConstants.{MOST_STATIONS};
 ghost use Rattle.cnf_encode.specs.ByStation.{pairs_inside_from};
 ghost use Rattle.cnf_encode.specs.Formula.{at_most_one, is_inside, packing_formula, station_variables};
 
@@ -25,7 +26,7 @@ pub fn clause_count(book: &Book, set: &[u32]) -> u64
 fn no_two_count(book: &Book, set: &[u32]) -> u64
     requires { IsTrue (is_ascending set.now) }
     ensures count { result ≡ length (flat_map (λ s. at_most_one (station_variables book.now set.now s)) set.now) }
-    ensures few { result ≤ 32768 * 8192 }
+    ensures few { result ≤ 32768 * MOST_STATIONS }
 {
     // So the sum fits.
     book.keeps_limit();

@@ -5,6 +5,7 @@ ghost use Rattle.std.specs.List.{list_all};
 ghost use Rattle.pack_defs.specs.Book.{AreInOrder, is_of_two, pairs_ascend, stations_of};
 ghost use Rattle.pack_defs.specs.Examples.{pair, three_stations};
 ghost use Rattle.pack_defs.specs.Lists.{is_ascending};
+ghost use Rattle.pack_defs.specs.declared.limits.TheConstants.{MOST_STATIONS};
 
 use pack_defs::book::Book;
 use pack_defs::domain::Domain;
@@ -51,7 +52,7 @@ pub fn book(
     pairs: &[Pair],
 ) -> Result<Book, NoMemory>
     requires ids { IsTrue (is_ascending ids.now) }
-    requires few { length ids.now ≤ 8192 }
+    requires few { length ids.now ≤ MOST_STATIONS }
     requires domains { AreInOrder domains.now }
     requires pairs { IsTrue (pairs_ascend pairs.now) }
     requires of_two { IsTrue (list_all is_of_two pairs.now) }

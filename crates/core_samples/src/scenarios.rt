@@ -3,6 +3,7 @@
 ghost use Rattle.std.specs.Prelude.{◌≡◌, ◌≤◌, ◌∷◌, [], All, IfOk, IsTrue, None, Some, length};
 ghost use Rattle.std.specs.List.{list_any};
 ghost use Rattle.pack_defs.specs.Scenario.{IsStationWithinLimits, IsWithinLimits, IsWorkerWithinLimits, StationsAscend, facilities, is_prover};
+ghost use Rattle.pack_defs.specs.declared.limits.TheConstants.{MOST_STATIONS, MOST_WORKERS};
 ghost use Rattle.cert_types.specs.Examples.{learner};
 ghost use Rattle.auction_core.specs.Examples.{auction_of_three};
 
@@ -27,11 +28,11 @@ pub fn auction_of(
     stations: Vec<Station>,
     workers: Vec<Worker>,
 ) -> Result<Scenario, NoMemory>
-    requires few { length stations.items ≤ 8192 }
+    requires few { length stations.items ≤ MOST_STATIONS }
     requires ascend { StationsAscend (record { version = 1; top = 15; opening = 100; fall = Fall.Listed []; stations = stations.items; workers = []; owners = None }) }
     requires limits { All IsStationWithinLimits stations.items }
     requires some_worker { 1 ≤ length workers.items }
-    requires few_workers { length workers.items ≤ 16 }
+    requires few_workers { length workers.items ≤ MOST_WORKERS }
     requires budgets { All IsWorkerWithinLimits workers.items }
     requires prover { IsTrue (list_any is_prover workers.items) }
     ensures value { IfOk result (λ sc. sc ≡ record (auction_of_three workers.items) { stations = stations.items }) }
@@ -60,7 +61,7 @@ pub fn three_bids(
     requires some_volume { 1 ≤ volume }
     requires volume { volume ≤ 1000 }
     requires some_worker { 1 ≤ length workers.items }
-    requires few_workers { length workers.items ≤ 16 }
+    requires few_workers { length workers.items ≤ MOST_WORKERS }
     requires budgets { All IsWorkerWithinLimits workers.items }
     requires prover { IsTrue (list_any is_prover workers.items) }
     ensures value { IfOk result (λ sc. sc ≡ record (auction_of_three workers.items) { stations = record { id = 1; volume = 1; value = Some 50 } ∷ record { id = 2; volume = 1; value = Some value } ∷ record { id = 3; volume = volume; value = Some 10 } ∷ [] }) }

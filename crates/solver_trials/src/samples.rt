@@ -12,6 +12,7 @@ use pack_defs::book::Book;
 use pack_defs::channel_map::ChannelMap;
 use pack_defs::domain::Domain;
 use pack_defs::items::Items;
+use pack_defs::limits::MOST_STATIONS;
 use std::alloc::{AllocError as NoMemory, Global};
 
 // Query 5, about these stations, while these channels stand. It tests none of them alone.
@@ -44,7 +45,7 @@ pub(crate) fn book(alloc: Global, domains: &str, rows: &str) -> Option<Book> {
     let domains = read_domains(alloc, domains.as_bytes()).ok()?;
     let pairs = read_pairs(alloc, rows.as_bytes(), &domains).ok()?;
     let ids = ids_of(alloc, domains.list()).ok()?;
-    if ids.len() > 8192 {
+    if ids.len() as u64 > MOST_STATIONS {
         return None;
     }
     Book::build(alloc, 51, &ids, domains.list(), pairs.list()).ok()
