@@ -6,26 +6,6 @@ ghost use Rattle.pack_defs.specs.Lists.{is_ascending, is_in};
 ghost use Rattle.batch_cache.specs.Gaps.{ends_below, goes_on_above, has_gap};
 ghost use Rattle.batch_cache.specs.Walks.{finds_all};
 
-/// Whether each number is above the one before it.
-pub(crate) fn ascends(numbers: &[u32]) -> bool
-    ensures { result ≡ is_ascending numbers.now }
-{
-    for i in 1..numbers.len() {
-        if numbers[i - 1] >= numbers[i] {
-            return false;
-        }
-    }
-    true
-}
-
-/// Whether the ascending list has the number, by halves.
-pub(crate) fn is_in(numbers: &[u32], number: u32) -> bool
-    requires { IsTrue (is_ascending numbers.now) }
-    ensures { result ≡ is_in numbers.now number }
-{
-    numbers.binary_search(&number).is_ok()
-}
-
 /// Whether the ascending list has the number. A look at the gap tells, if the number would fill it; else it is sought by halves,
 /// and the gap that it would fill is left for the next list.
 pub(crate) fn is_in_near(numbers: &[u32], number: u32, gap: &mut usize) -> bool

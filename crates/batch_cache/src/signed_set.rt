@@ -10,9 +10,11 @@ ghost use Rattle.std.proofs.Common.{rules};
 ghost use Rattle.pack_defs.specs.Lists.{is_in};
 ghost use Rattle.batch_cache.specs.Gaps.{lacks_at};
 
-use crate::numbers::{are_few, ascends, finds_all, is_in, is_in_near, is_in_next};
+use crate::numbers::{are_few, finds_all, is_in_near, is_in_next};
 use crate::station_bits::{StationBits, are_covered, station_bits};
 use crate::witness::Witness;
+use cert_types::subset::ascends;
+use pack_defs::numbers::is_in;
 use std::alloc::{AllocError as NoMemory, Global};
 use std::hash::{Hash, Hasher};
 use std::marker::Model;

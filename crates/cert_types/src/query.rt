@@ -9,11 +9,12 @@ ghost use Rattle.assign_check.specs.Fault.{violation};
 ghost use Rattle.cert_types.specs.Certificate.{IsTaskOf};
 ghost use Rattle.cert_types.specs.Query.{IsQuery, has_channels, has_others, is_last_map, is_on_domains, is_query};
 
-use crate::subset::{ascends, is_in};
+use crate::subset::ascends;
 use crate::task::Task;
 use assign_check::check::violation;
 use pack_defs::book::Book;
 use pack_defs::channel_map::ChannelMap;
+use pack_defs::numbers::is_in;
 
 /// Whether a task is one that a solver may be asked beside a book: its set ascends and each of its stations has a channel;
 /// its last map is of stations of the set, each on a channel of its domain, violates no pair, and where a station is tested

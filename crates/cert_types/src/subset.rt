@@ -5,6 +5,8 @@ ghost use Rattle.std.specs.List.{list_all};
 ghost use Rattle.pack_defs.specs.Lists.{is_ascending, is_in};
 ghost use Rattle.cert_types.specs.Refutes.{is_subset};
 
+use pack_defs::numbers::is_in;
+
 /// Whether a list ascends and is of stations of an ascending set. It searches by halves, once for each station.
 pub fn is_subset(subset: &[u32], set: &[u32]) -> bool
     requires { IsTrue (is_ascending set.now) }
@@ -13,8 +15,8 @@ pub fn is_subset(subset: &[u32], set: &[u32]) -> bool
     ascends(subset) && are_in(subset, set)
 }
 
-// Whether each number is above the one before it.
-pub(crate) fn ascends(numbers: &[u32]) -> bool
+/// Whether each number is above the one before it.
+pub fn ascends(numbers: &[u32]) -> bool
     ensures { result ≡ is_ascending numbers.now }
 {
     for i in 1..numbers.len() {
@@ -23,14 +25,6 @@ pub(crate) fn ascends(numbers: &[u32]) -> bool
         }
     }
     true
-}
-
-/// Whether the ascending set has the number, by halves.
-pub(crate) fn is_in(set: &[u32], number: u32) -> bool
-    requires { IsTrue (is_ascending set.now) }
-    ensures { result ≡ is_in set.now number }
-{
-    set.binary_search(&number).is_ok()
 }
 
 // Whether each number is in the ascending set.

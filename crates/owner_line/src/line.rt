@@ -1,11 +1,12 @@
 //! The line that a record of an owners' file gives.
 
 ghost use Rattle.std.specs.Prelude.{◌≡◌, map, true};
-ghost use Rattle.pack_defs.specs.Lists.{is_ascending, is_in};
+ghost use Rattle.pack_defs.specs.Lists.{is_ascending};
 ghost use Rattle.owner_line.specs.OwnersOf.{line_on, owner_line, word_of};
 
 use crate::error::OwnerWhy;
 use constraint_files::field::number;
+use pack_defs::numbers::is_in;
 use pack_defs::owners::OwnerLine;
 
 /// Whether a word says that a station stays.
@@ -17,14 +18,6 @@ fn word_of(word: &[u8]) -> Option<bool>
         b"leave" => Some(false),
         _ => None,
     }
-}
-
-/// Whether the list has the number. The search is by halves.
-fn is_in(set: &[u32], number: u32) -> bool
-    requires { is_ascending set.now ≡ true }
-    ensures { result ≡ is_in set.now number }
-{
-    set.binary_search(&number).is_ok()
 }
 
 /// The line of this round, station and word, where the price falls in so many rounds and the auction has these

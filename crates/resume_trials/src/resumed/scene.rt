@@ -87,7 +87,7 @@ pub fn leaves<W: Threads + Wait + Sync>(
 }
 
 /// The beginning of an auction, what its transcript then begins with, what is changed, and the facts of what is left.
-pub type Row<'a> = (&'a str, &'a str, Change<'a>, &'a str);
+pub type ResumeRow<'a> = (&'a str, &'a str, Change<'a>, &'a str);
 
 // The words of a run over this scenario.
 fn line_of(alloc: Global, scenario: &str) -> Result<String, NoMemory> {
@@ -99,7 +99,7 @@ pub fn first_untrue<'a, W: Threads + Wait + Sync>(
     rt: &W,
     alloc: Global,
     scenario: &str,
-    table: &[Row<'a>],
+    table: &[ResumeRow<'a>],
 ) -> Result<Option<&'a str>, NoMemory> {
     let line = line_of(alloc, scenario)?;
     for &(prefix, kept, change, facts) in table {

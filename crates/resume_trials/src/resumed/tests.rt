@@ -1,6 +1,6 @@
 //! What an auction that goes on leaves.
 
-use super::scene::{Row, first_untrue, leaves};
+use super::scene::{ResumeRow, first_untrue, leaves};
 use run_scenes::change::Change;
 use run_scenes::stations::TRANSCRIPT;
 use std::alloc::{AllocError as NoMemory, Global};
@@ -17,7 +17,7 @@ const SETTLED: &str =
     "status 0; said: stations 3\non-air 2\nfrozen 1\nundecided 0\ntotal 60\n; out.csv: facility,outcome,round,price\n1,exit,2,0\n2,exit,1,0\n3,frozen,2,60\n; a record; goes on; inputs kept";
 
 // Beginnings of their transcript.
-const PLAIN: &[Row] = &[
+const PLAIN: &[ResumeRow] = &[
     // Nothing, a piece of a line, the first line alone, and a start that was shown.
     ("", "transcript 2\n", Change::Nothing, SETTLED),
     ("transcr", "transcript 2\n", Change::Nothing, SETTLED),
@@ -103,7 +103,7 @@ const PLAIN: &[Row] = &[
 ];
 
 // Beginnings from which no auction goes on.
-const REFUSED: &[Row] = &[
+const REFUSED: &[ResumeRow] = &[
     (
         "transcript 3\n",
         "",
@@ -164,7 +164,7 @@ fn auctions_go_on(rt: HostRuntime) -> Result<(), Fail> {
 }
 
 // The third station is tested last by the stations' numbers, and first by their volume.
-const VOLUME: &[Row] = &[
+const VOLUME: &[ResumeRow] = &[
     (
         "transcript 1\n",
         "transcript 1\nstart empty\nfit 1 1 1\n",
@@ -192,7 +192,7 @@ const VOLUME: &[Row] = &[
 ];
 
 // The second station starts on air, and the third test asks the same as one round before.
-const HIGH: &[Row] = &[
+const HIGH: &[ResumeRow] = &[
     (
         "transcript 1\nstart fit 1\n",
         "transcript 1\nstart fit 1\n",
@@ -214,7 +214,7 @@ const HIGH: &[Row] = &[
 ];
 
 // The start set doesn't fit; in the second table its test is left open.
-const UNFIT: &[Row] = &[
+const UNFIT: &[ResumeRow] = &[
     (
         "transcript 1\n",
         "",
@@ -229,7 +229,7 @@ const UNFIT: &[Row] = &[
     ),
 ];
 
-const OPEN: &[Row] = &[(
+const OPEN: &[ResumeRow] = &[(
     "",
     "",
     Change::Nothing,
@@ -247,7 +247,7 @@ fn other_auctions_go_on(rt: HostRuntime) -> Result<(), Fail> {
 }
 
 // Two workers left the last test open. By them nothing is asked.
-const BY_TWO: &[Row] = &[(
+const BY_TWO: &[ResumeRow] = &[(
     LEFT_OPEN,
     LEFT_OPEN,
     Change::Nothing,
@@ -255,7 +255,7 @@ const BY_TWO: &[Row] = &[(
 )];
 
 // One with a budget of one line leaves it open for itself, where it isn't kept, and keeps a proof of two lines.
-const BY_ONE: &[Row] = &[
+const BY_ONE: &[ResumeRow] = &[
     (
         "transcript 1\nstart empty\nfit 1 1 1\nat 1 14\nfit 1 2 1\nat 2 14\nfit 1 3 1\nat 3 15\nfit 2 1 1\nat 1 15\n",
         "transcript 1\nstart empty\nfit 1 1 1\nat 1 14\nfit 1 2 1\nat 2 14\nfit 1 3 1\nat 3 15\nfit 2 1 1\nat 1 15\nundecided 2 3 1\nlines 0 1\n",
