@@ -1,4 +1,5 @@
-//! The command `batch`: the auctions of many scenarios over the same constraint files, carried out as many at a time as there are processors.
+//! The command `batch`: the auctions of many scenarios over the same constraint files, carried out as many at a time as there
+//! are processors.
 
 ghost use Rattle.std.specs.Prelude.{◌≡◌, ◌==◌, ◌++◌, ◌∷◌, [], All, IfOk, None, OnOk, length, map, option_map};
 ghost use Rattle.std.specs.List.{list_any};

@@ -60,9 +60,9 @@ impl Model for Cdcl {
 }
 
 impl Cdcl {
-    /// The solver of a worker that learns, which spends the worker's budget in lines, and by the worker's seed breaks the ties
-    /// of the order in which variables are decided. Where a proof is long it searches for a shorter one. The only error is want of
-    /// memory.
+    /// The solver of a worker that learns, which spends the worker's budget in lines, and by the worker's seed breaks the
+    /// ties of the order in which variables are decided. Where a proof is long it searches for a shorter one. The only error
+    /// is want of memory.
     pub fn new(alloc: Global, worker: &Worker) -> Result<Cdcl, NoMemory>
         requires { worker.now.kind ≡ Kind.Cdcl }
         ensures { IfOk result (λ solver. solver ≡ worker.now) }
@@ -113,10 +113,11 @@ impl Cdcl {
     /// another query stands, it stops. Of each station what its last fit changed is kept for its next query.
     ///
     /// It searches first with what it learnt from the queries before, by two policies, each up to as many conflicts as the
-    /// budget has lines for each station without a channel; a proof that is longer than the budget, or long where short ones are
-    /// wanted, is searched for once or twice more. What that suggests is checked before it is said. Where it comes to no answer, a search begins anew,
-    /// with the whole budget: over the stations that it says do not fit, if it does, and then over the whole set, of which a
-    /// receipt always is. In each search the poll is asked before the first line and then after each 16.
+    /// budget has lines for each station without a channel; a proof that is longer than the budget, or long where short ones
+    /// are wanted, is searched for once or twice more. What that suggests is checked before it is said. Where it comes to no
+    /// answer, a search begins anew, with the whole budget: over the stations that it says do not fit, if it does, and then
+    /// over the whole set, of which a receipt always is. In each search the poll is asked before the first line and then
+    /// after each 16.
     ///
     /// The seed decides which of two variables comes first that are equally active. With seed 0 nothing is left to chance:
     /// that is their places in a heap, which begins in the variables' order. Any other seed gives each variable an activity

@@ -207,9 +207,10 @@ fn cached_racers<'a, W: Wait>(
 }
 
 /// The record of the auction of this scenario and book, each round of which tests the stations by volume. It is carried out
-/// as `run_auction` does, by racers each of which asks the shared cache before it searches, under the scenario's top channel, and puts
-/// what it finds into it. Its proofs may be long, since no one reads them but the cache. Where memory runs out in the cache the auction goes on without what would have been answered or kept; the
-/// only error is want of memory of the auction itself.
+/// as `run_auction` does, by racers each of which asks the shared cache before it searches, under the scenario's top channel,
+/// and puts what it finds into it. Its proofs may be long, since no one reads them but the cache. Where memory runs out in
+/// the cache the auction goes on without what would have been answered or kept; the only error is want of memory of the
+/// auction itself.
 pub fn run_cached<G: Gate + Sync, W: Threads + Wait + Sync>(
     rt: &W,
     alloc: Global,
