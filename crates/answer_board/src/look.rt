@@ -1,6 +1,6 @@
 //! What a worker sees of an auction.
 
-ghost use Rattle.std.specs.Prelude.{◌≡◌, IfOk};
+ghost use Rattle.std.specs.Prelude.{IfOk};
 ghost use Rattle.answer_board.specs.Posts.{LookIs};
 
 use auction_core::auction::Auction;

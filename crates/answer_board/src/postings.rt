@@ -2,7 +2,6 @@
 
 ghost use Rattle.std.specs.Prelude.{◌≡◌, IfErr, IfOk, Some, slice_get, true};
 ghost use Rattle.cert_types.specs.Query.{IsQuery};
-ghost use Rattle.cert_types.specs.Valid.{answer_fault};
 ghost use Rattle.turn_lock.specs.Passes.{IsIdle, IsLegal, known_of, mine_of, number_of, seen_of, standing};
 ghost use Rattle.turn_lock.specs.Turns.{StartsWith};
 ghost use Rattle.answer_board.specs.Boards.{IsPassOn, raised};

@@ -4,7 +4,7 @@ ghost use Rattle.std.specs.Prelude.{◌≡◌, ◌==◌, IsTrue, filter};
 ghost use Rattle.std.specs.List.{list_any};
 ghost use Rattle.pack_defs.specs.ChannelMap.{IsAscending, overlaid};
 ghost use Rattle.pack_defs.specs.Lists.{has_entry};
-ghost use Rattle.assign_check.specs.Changes.{violates_at, violates_at_some};
+ghost use Rattle.assign_check.specs.Changes.{violates_at_some};
 ghost use Rattle.assign_check.specs.Fault.{is_violated};
 
 use pack_defs::book::Book;

@@ -5,7 +5,7 @@
 //! Auctions that go on side by side come to the same hard query at the same time, and each answers it for itself; those that begin
 //! later find it answered. So more of them at a time would spend more, and end no sooner.
 
-ghost use Rattle.std.specs.Prelude.{◌≡◌, All, IfOk, length, map, option_map};
+ghost use Rattle.std.specs.Prelude.{◌≡◌, All, IfOk, map, option_map};
 ghost use Rattle.std.specs.List.{AllZip};
 ghost use Rattle.std.specs.Thread.{IsSync};
 ghost use Rattle.auction_core.specs.Setup.{IsOfAuction};

@@ -1,7 +1,7 @@
 //! The constraint files, read in pieces: whatever the length of a file, no more of it is held than one piece and the line
 //! that a piece's end cuts.
 
-ghost use Rattle.std.specs.Prelude.{◌≡◌, ◌≤◌, ◌+◌, ◌++◌, [], ℕ, List, Ok, Some, OnOk, length};
+ghost use Rattle.std.specs.Prelude.{◌≡◌, ◌≤◌, ◌+◌, ◌++◌, ℕ, List, Ok, Some, length};
 ghost use Rattle.outside_io.specs.Files.{StoredFile};
 ghost use Rattle.constraint_files.specs.Domains.{domains_fed, domains_of};
 ghost use Rattle.constraint_files.specs.Rows.{pairs_fed, pairs_of};

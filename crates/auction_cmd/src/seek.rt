@@ -6,7 +6,7 @@ ghost use Rattle.result_text.specs.ChannelsText.{channels_text};
 ghost use Rattle.auction_cmd.specs.Delivery.{Delivers, named};
 ghost use Rattle.auction_cmd.specs.Ends.{SeekEnds};
 ghost use Rattle.auction_cmd.specs.Faults.{AreFaultsCounted};
-ghost use Rattle.auction_cmd.specs.Inputs.{Agrees, CountsFault, inputs_of};
+ghost use Rattle.auction_cmd.specs.Inputs.{Agrees, CountsFault};
 ghost use Rattle.auction_cmd.specs.Outside.{outside};
 ghost use Rattle.auction_cmd.specs.Seek.{IsSeekable, base_of, seekable_of, top_status, top_text};
 ghost use Rattle.auction_cmd.specs.Words.{inputs_seen, seek_seen};

@@ -1,6 +1,6 @@
 //! Which step of a verified record can be exported or settled, and the lines of what is at fault with a step and with a log.
 
-ghost use Rattle.std.specs.Prelude.{◌≡◌, ◌≤◌, ◌++◌, decimal, option_map};
+ghost use Rattle.std.specs.Prelude.{◌≡◌, ◌≤◌, ◌++◌, option_map};
 ghost use Rattle.auction_cmd.specs.Outside.{IsSaidTo};
 ghost use Rattle.auction_cmd.specs.Settling.{unsettled_line, missing_fault, open_fault, step_line, step_why, unlogged_text};
 ghost use Rattle.open_tests.specs.Queries.{step_numbered};

@@ -1,6 +1,6 @@
 //! The channel map of the stations on air, kept so that it is overwritten in place.
 
-ghost use Rattle.std.specs.Prelude.{◌≡◌, ◌<◌, ℕ, [], ◌∷◌, IfOk, IsTrue, List, MatchOption, false, get_or, length, map};
+ghost use Rattle.std.specs.Prelude.{◌≡◌, ◌<◌, ℕ, [], IfOk, IsTrue, List, MatchOption, false, get_or, length, map};
 ghost use Rattle.pack_defs.specs.ChannelMap.{IsAscending, channel_of, overlaid, put};
 ghost use Rattle.pack_defs.specs.Lists.{has_station, is_ascending, is_in};
 ghost use Rattle.auction_core.specs.AirMap.{placed_entries};

@@ -1,7 +1,7 @@
 //! An auction between two queries, whoever answers them.
 
 ghost use Rattle.std.specs.Arc.{arc_value};
-ghost use Rattle.std.specs.Prelude.{◌≡◌, ◌≢◌, ℕ, [], None, Some, IfOk, MatchOption, OnOk, ⊤, false, true};
+ghost use Rattle.std.specs.Prelude.{◌≡◌, ◌≢◌, [], None, Some, IfOk, MatchOption, OnOk, ⊤, false, true};
 ghost use Rattle.cert_types.specs.Query.{IsQuery};
 ghost use Rattle.pack_defs.specs.Book.{IsInOrder};
 ghost use Rattle.auction_core.specs.Backed.{IsBacked, record_of};

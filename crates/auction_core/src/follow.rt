@@ -2,7 +2,7 @@
 //! transcript says, where the certificate for it is let through. In this order: one step is checked (`step_check`, by `shown_by`,
 //! `receipts`, `log_numbers` and `step_err`), then the start, then all steps, then the end.
 
-ghost use Rattle.std.specs.Prelude.{◌≡◌, ◌<◌, ◌^◌, ◌≤◌, ◌&&◌, [], IfErr, IfOk, List, None, OnOk, Option, Some, length, not, option_map, true};
+ghost use Rattle.std.specs.Prelude.{◌≡◌, ◌<◌, ◌^◌, ◌&&◌, [], IfErr, IfOk, List, None, OnOk, Option, Some, length, not, option_map, true};
 ghost use Rattle.auction_core.specs.Setup.{IsOfAuction};
 ghost use Rattle.auction_core.specs.State.{answered, has_ended, opening, start_task};
 ghost use Rattle.auction_core.specs.declared.record.Shown.{Shown};

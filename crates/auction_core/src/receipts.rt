@@ -1,6 +1,6 @@
 //! The check of the receipts of a test that was left open.
 
-ghost use Rattle.std.specs.Prelude.{◌≡◌, IfErr, IfOk, None, Some, length, option_map};
+ghost use Rattle.std.specs.Prelude.{◌≡◌, IfErr, IfOk, None, length, option_map};
 ghost use Rattle.cert_types.specs.Query.{IsQuery};
 ghost use Rattle.cert_types.specs.Valid.{answer_fault};
 ghost use Rattle.cert_types.specs.declared.answer.Answer.TheVariants as Answer;

@@ -1,6 +1,6 @@
 //! The check of what one query was settled by: a fit, a worker's refutation, a proof from outside.
 
-ghost use Rattle.std.specs.Prelude.{◌≡◌, IfErr, IfOk, None, Some, length, option_map, slice_get};
+ghost use Rattle.std.specs.Prelude.{◌≡◌, IfErr, IfOk, None, Some, option_map, slice_get};
 ghost use Rattle.cert_types.specs.Outside.{outside_fault};
 ghost use Rattle.cert_types.specs.Query.{IsQuery};
 ghost use Rattle.cert_types.specs.Valid.{answer_fault, fit_fault};

@@ -1,7 +1,7 @@
 //! The reader of a list: from its bytes to its records, one after another. Its lines, records and fields are those of the
 //! constraint files.
 
-ghost use Rattle.std.specs.Prelude.{◌≡◌, ◌≤◌, [], IfOk, length, map};
+ghost use Rattle.std.specs.Prelude.{◌≤◌, [], IfOk, length, map};
 ghost use Rattle.constraint_files.specs.Records.{line_records, lines_of};
 ghost use Rattle.batch_list.specs.ListOf.{list_limit, list_of, with_list_lines, with_listed, with_all_listed};
 ghost use Rattle.batch_list.specs.Reads.{ListChanges, ListReads};

@@ -1,10 +1,10 @@
 //! What the searcher that is kept from query to query says of one, once it is checked.
 
-ghost use Rattle.std.specs.Prelude.{ℕ, ◌≡◌, IfOk, IfSome, IsTrue, true};
+ghost use Rattle.std.specs.Prelude.{ℕ, IfOk, IsTrue};
 ghost use Rattle.pack_defs.specs.Book.{BookView};
 ghost use Rattle.pack_defs.specs.Lists.{is_ascending};
 ghost use Rattle.pack_defs.specs.declared.worker.Worker.{Worker};
-ghost use Rattle.cert_types.specs.Query.{AttemptIs, IsQuery};
+ghost use Rattle.cert_types.specs.Query.{IsQuery};
 ghost use Rattle.cert_types.specs.Refutes.{is_subset};
 ghost use Rattle.cdcl_prove.specs.Kept.{AskedIs};
 

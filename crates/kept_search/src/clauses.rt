@@ -1,6 +1,6 @@
 //! The stored clauses, which are those of the stations and the lines that were learnt, and the two literals that each watches.
 
-use crate::cells::{read, short, write};
+use crate::cells::{read, short};
 use crate::hint::Hint;
 use crate::literal::Literal;
 use crate::policy::LINE_DECAY;

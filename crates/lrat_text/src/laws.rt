@@ -1,7 +1,7 @@
 //! What holds of the texts of logs, about the definitions alone: a log that is written is read again as itself, and a
 //! plain text is the one that is written of the log which it says.
 
-ghost use Rattle.std.specs.Prelude.{◌≡◌, ◌+◌, ◌≤◌, ◌++◌, [], ◌∷◌, ℕ, List, Ok, Err, codes, length};
+ghost use Rattle.std.specs.Prelude.{◌≡◌, ◌+◌, ◌≤◌, [], ℕ, List, Ok, Err, codes, length};
 ghost use Rattle.clause_db.specs.declared.lit.Lit.{Lit};
 ghost use Rattle.rup_check.specs.declared.line.Line.{Line};
 ghost use Rattle.rup_check.specs.declared.line.Log.{Log};

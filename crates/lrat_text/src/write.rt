@@ -1,9 +1,8 @@
 //! The writing of logs and formulas, number by number behind the text so far.
 
-ghost use Rattle.std.specs.Prelude.{◌≡◌, ◌+◌, ◌≤◌, ◌^◌, ◌∷◌, ◌++◌, [], ℕ, IfOk, OnErr, OnOk, decimal, length, map, take};
-ghost use Rattle.std.specs.List.{flat_map};
+ghost use Rattle.std.specs.Prelude.{◌≡◌, ◌+◌, ◌≤◌, ◌^◌, ◌++◌, ℕ, IfOk, OnErr, OnOk, decimal, length, map, take};
 ghost use Rattle.lrat_text.specs.Lines.{line_of};
-ghost use Rattle.lrat_text.specs.LogText.{clause_fields, dimacs_text, formula_header, lit_text, log_fields, log_text, spaced, zero_field};
+ghost use Rattle.lrat_text.specs.LogText.{clause_fields, dimacs_text, formula_header, lit_text, log_fields, log_text, spaced};
 
 use clause_db::list::ClauseList;
 use clause_db::lit::Lit;

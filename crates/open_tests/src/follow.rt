@@ -1,8 +1,8 @@
 //! The first steps of a record, gone through by reference beside a clock and a map of their own.
 
-ghost use Rattle.std.specs.Prelude.{◌≡◌, ◌<◌, ◌≤◌, ℕ, [], IfOk, IsFalse, IsTrue, MatchOption, if◌then◌else◌, is_some, length, map, option_map, slice_index, slice_set, take, true, unwrap_or};
+ghost use Rattle.std.specs.Prelude.{◌≡◌, ◌<◌, ◌≤◌, ℕ, [], IfOk, IsFalse, MatchOption, if◌then◌else◌, is_some, length, map, option_map, slice_index, slice_set, take, true, unwrap_or};
 ghost use Rattle.std.specs.List.Sorted.{IsStrictlyIncreasing};
-ghost use Rattle.pack_defs.specs.ChannelMap.{IsAscending, overlaid};
+ghost use Rattle.pack_defs.specs.ChannelMap.{overlaid};
 ghost use Rattle.pack_defs.specs.Lists.{has_station, is_in};
 ghost use Rattle.pack_defs.specs.Scenario.{IsWithinLimits, StationsAscend, facilities};
 ghost use Rattle.auction_core.specs.Backed.{IsBacked, after_start, after_steps};

@@ -1,14 +1,12 @@
 //! A wave: the workers of an auction try its queries on a board, each in a thread of its own.
 
-ghost use Rattle.std.specs.Prelude.{◌≡◌, ◌≢◌, ◌⊎◌, [], All, IfErr, IfOk, Some, false, true, slice_get, ℕ};
+ghost use Rattle.std.specs.Prelude.{◌≡◌, ◌≢◌, [], All, IfErr, IfOk, Some, false, true, slice_get};
 ghost use Rattle.std.specs.List.{AllZip, list_all};
 ghost use Rattle.std.specs.Thread.{IsSync};
-ghost use Rattle.cert_types.specs.Query.{AttemptIs, IsQuery};
-ghost use Rattle.auction_core.specs.State.{task_of};
-ghost use Rattle.turn_lock.specs.Passes.{IsIdle, IsLegal, mine_of, number_of, seen_of, standing};
-ghost use Rattle.turn_lock.specs.Turns.{StartsWith};
+ghost use Rattle.cert_types.specs.Query.{IsQuery};
+ghost use Rattle.turn_lock.specs.Passes.{IsIdle, IsLegal, mine_of, number_of, seen_of};
 ghost use Rattle.answer_board.specs.Boards.{IsPassOn, raised};
-ghost use Rattle.answer_board.specs.Posts.{HasStood, Sees};
+ghost use Rattle.answer_board.specs.Posts.{HasStood};
 ghost use Rattle.cert_types.specs.Valid.{IsValid};
 ghost use Rattle.pack_defs.specs.declared.worker.Worker.{Worker};
 ghost use Rattle.race_wave.specs.Watches.{IsNumberAfter};

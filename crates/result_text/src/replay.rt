@@ -8,7 +8,7 @@ ghost use Rattle.auction_core.specs.Backed.{IsBacked, is_undecided, undecided_of
 ghost use Rattle.auction_core.specs.Clock.{IsClockOf};
 ghost use Rattle.result_text.specs.ResultText.{each_frozen_by, final_state};
 
-use auction_core::clock::{Clock, Standing};
+use auction_core::clock::Clock;
 use auction_core::record::{Ending, Record, Shown};
 use offer_sched::offers::schedule;
 use pack_defs::book::Book;

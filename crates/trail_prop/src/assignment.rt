@@ -1,6 +1,6 @@
 //! The literals that are true, in order, and a mark for each.
 
-ghost use Rattle.std.specs.Prelude.{ℕ, ◌≡◌, ◌≢◌, ◌+◌, ◌-◌, ◌*◌, ◌<◌, ◌≤◌, ◌++◌, ◌∷◌, [], length, IfOk, IfSome, OnOk, OnErr, Some, None, true, false, slice_index_or};
+ghost use Rattle.std.specs.Prelude.{ℕ, ◌≡◌, ◌+◌, ◌-◌, ◌*◌, ◌<◌, ◌≤◌, ◌++◌, ◌∷◌, [], length, IfOk, IfSome, Some, None, true, false};
 ghost use Rattle.clause_db.specs.Clause.{has_lit, code_of};
 ghost use Rattle.clause_db.specs.Clauses.{LitWithin};
 ghost use Rattle.trail_prop.specs.Open.{is_open};

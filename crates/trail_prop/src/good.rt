@@ -1,6 +1,6 @@
 //! Where a clause can be watched.
 
-ghost use Rattle.std.specs.Prelude.{Option, ◌≡◌, ◌<◌, length, true, IfSome, None, Some};
+ghost use Rattle.std.specs.Prelude.{Option, ◌≡◌, ◌<◌, true, IfSome, None, Some};
 ghost use Rattle.clause_db.specs.Clauses.{LitWithin};
 ghost use Rattle.trail_prop.specs.Entries.{lits_of};
 ghost use Rattle.trail_prop.specs.Good.{IsGood, IsGoodPlace, AreGood};

@@ -1,6 +1,5 @@
 //! A look at one clause.
 
-ghost use Rattle.std.specs.Prelude.{◌≡◌};
 ghost use Rattle.trail_prop.specs.Open.{LitsWithin};
 ghost use Rattle.trail_prop.specs.Entries.{lits_of};
 ghost use Rattle.trail_prop.specs.Look.{ClauseLookIs};

@@ -1,6 +1,6 @@
 //! A trail that looks at all its clauses to propagate.
 
-ghost use Rattle.std.specs.Prelude.{ℕ, ◌≡◌, ◌+◌, ◌-◌, ◌<◌, ◌≤◌, ◌++◌, ◌∷◌, [], length, filter, IfOk, IfSome, IfNone, OnOk, OnErr, Some, None, true, false};
+ghost use Rattle.std.specs.Prelude.{◌≡◌, ◌+◌, ◌-◌, ◌<◌, ◌≤◌, ◌++◌, ◌∷◌, [], length, filter, IfOk, IfSome, IfNone, OnOk, OnErr, Some, None, true, false};
 ghost use Rattle.std.specs.List.{All};
 ghost use Rattle.clause_db.specs.Clause.{clause_at};
 ghost use Rattle.clause_db.specs.Clauses.{LitWithin, ClausesWithin};

@@ -1,6 +1,6 @@
 //! Propagation over watched clauses.
 
-ghost use Rattle.std.specs.Prelude.{ℕ, ◌≡◌, ◌+◌, ◌-◌, ◌*◌, ◌<◌, ◌++◌, ◌∷◌, [], length, if◌then◌else◌, IfOk, IfSome, IfNone, OnOk, OnErr, Some, None, true, false, slice_set};
+ghost use Rattle.std.specs.Prelude.{◌≡◌, ◌+◌, ◌-◌, ◌<◌, length, if◌then◌else◌, IfOk, IfSome, IfNone, Some, None, true, false};
 ghost use Rattle.clause_db.specs.Clause.{clause_at, opposite, has_lit};
 ghost use Rattle.clause_db.specs.Clauses.{LitWithin};
 ghost use Rattle.trail_prop.specs.declared.watches.Watch.{Watch};

@@ -1,6 +1,6 @@
 //! What a clause does when one of the two literals that it watches becomes false.
 
-ghost use Rattle.std.specs.Prelude.{◌≡◌, ◌<◌, length, true};
+ghost use Rattle.std.specs.Prelude.{◌≡◌, ◌<◌, true};
 ghost use Rattle.clause_db.specs.Clause.{has_lit, opposite};
 ghost use Rattle.trail_prop.specs.Entries.{lits_of};
 ghost use Rattle.trail_prop.specs.Open.{LitsWithin};

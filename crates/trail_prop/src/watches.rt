@@ -1,6 +1,6 @@
 //! The clauses that watch each literal.
 
-ghost use Rattle.std.specs.Prelude.{ℕ, ◌≡◌, ◌≢◌, ◌+◌, ◌*◌, ◌<◌, ◌++◌, ◌⊎◌, ◌∷◌, [], length, replicate, swap_remove, IfOk, IfSome, OnOk, OnErr, slice_index_or, slice_set};
+ghost use Rattle.std.specs.Prelude.{◌≡◌, ◌+◌, ◌<◌, ◌++◌, ◌⊎◌, ◌∷◌, [], length, replicate, swap_remove, IfOk, IfSome, OnOk, OnErr, slice_index_or, slice_set};
 ghost use Rattle.trail_prop.specs.declared.watches.Watch.{Watch};
 ghost use Rattle.trail_prop.specs.Entries.{HasCode};
 ghost use Rattle.trail_prop.specs.Watching.{lit_of, IsListed};

@@ -1,6 +1,6 @@
 //! The clauses on a trail, each of which waits for a look or watches two of its literals.
 
-ghost use Rattle.std.specs.Prelude.{ℕ, ◌≡◌, ◌≢◌, ◌+◌, ◌-◌, ◌*◌, ◌<◌, ◌≤◌, ◌++◌, ◌∷◌, [], length, filter, take, IfOk, IfSome, IfNone, OnOk, OnErr, Some, None, true, false, slice_index_or, slice_set};
+ghost use Rattle.std.specs.Prelude.{◌≡◌, ◌+◌, ◌-◌, ◌*◌, ◌<◌, ◌≤◌, ◌++◌, ◌∷◌, [], length, filter, IfOk, IfSome, IfNone, OnOk, OnErr, Some, None, true, slice_index_or, slice_set};
 ghost use Rattle.std.specs.List.{All};
 ghost use Rattle.clause_db.specs.Clause.{clause_at, opposite, has_lit};
 ghost use Rattle.clause_db.specs.Clauses.{LitWithin, ClausesWithin};

@@ -1,6 +1,6 @@
 //! What is proved of sound transcripts, about the definitions alone.
 
-ghost use Rattle.std.specs.Prelude.{◌≡◌, ◌<◌, ◌^◌, ◌++◌, [], ◌∷◌, ℕ, List, MatchResult, None, Ok, Some, length};
+ghost use Rattle.std.specs.Prelude.{◌≡◌, ◌<◌, ◌^◌, ◌++◌, [], ℕ, List, MatchResult, None, Ok, length};
 ghost use Rattle.pack_defs.specs.declared.scenario.Scenario.{Scenario};
 ghost use Rattle.pack_defs.specs.Book.{BookView};
 ghost use Rattle.auction_core.specs.declared.record.Record.{Record};

@@ -15,7 +15,7 @@ use lrat_text::write::{push_log, push_number, push_numbers};
 use pack_defs::book::Book;
 use pack_defs::order::Order;
 use rup_check::line::Log;
-use std::alloc::{AllocError as NoMemory, Global};
+use std::alloc::AllocError as NoMemory;
 
 // Adds a line: a word, and numbers behind it.
 fn push_line(text: &mut Vec<u8>, word: &[u8], numbers: &[u64]) -> Result<(), NoMemory>

@@ -1,6 +1,6 @@
 //! A text that is there in part: its whole lines, and what stands behind them.
 
-ghost use Rattle.std.specs.Prelude.{◌≡◌, ◌++◌, IfOk, List, ℕ, length, take, true};
+ghost use Rattle.std.specs.Prelude.{◌≡◌, IfOk, length, take, true};
 ghost use Rattle.lrat_text.specs.Lines.{is_whole, ended_lines};
 ghost use Rattle.transcript_text.specs.Pieces.{HasLinesOf};
 

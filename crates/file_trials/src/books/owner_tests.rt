@@ -1,7 +1,7 @@
 //! Which lines of owners stand.
 
 use pack_defs::owners::{OwnerLine, Owners};
-use std::alloc::{AllocError as NoMemory, Global};
+use std::alloc::AllocError as NoMemory;
 use std::test::Fail;
 
 // What is said, line by line: round, station, whether it stays; and whether the line is new.

@@ -1,6 +1,6 @@
 //! Literals and formulas that the tests are made of, by their DIMACS numbers.
 
-ghost use Rattle.std.specs.Prelude.{◌≡◌, ◌<◌, IfOk, OnOk, true};
+ghost use Rattle.std.specs.Prelude.{◌≡◌, ◌<◌, IfOk, true};
 ghost use Rattle.clause_db.specs.Clauses.{LitWithin, ClausesWithin};
 ghost use Rattle.trail_prop.specs.Open.{LitsWithin};
 
