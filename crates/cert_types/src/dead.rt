@@ -5,8 +5,8 @@ ghost use Rattle.std.specs.List.{list_any};
 ghost use Rattle.pack_defs.specs.Lists.{is_ascending, is_only};
 ghost use Rattle.cert_types.specs.Refutes.{is_dead, same_pair};
 
-use crate::subset::is_in;
 use pack_defs::book::Book;
+use pack_defs::numbers::is_in;
 use pack_defs::pair::Pair;
 
 /// Whether a pair is one of the book between two stations of an ascending set, each of which has the pair's channel alone.
