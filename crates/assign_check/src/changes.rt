@@ -59,14 +59,14 @@ fn violates_to(book: &Book, last: &ChannelMap, changes: &ChannelMap, own: (u32, 
 
 // Whether the map has the station on this channel.
 #[tactic(auto, using(crate::proofs::Changed::standing))]
-fn stands(last: &ChannelMap, changes: &ChannelMap, s: u32, c: u8) -> bool
+fn stands(last: &ChannelMap, changes: &ChannelMap, station: u32, c: u8) -> bool
     requires last { IsAscending last.now }
     requires changes { IsAscending changes.now }
-    ensures { result ≡ has_entry (overlaid last.now changes.now) (s, c) }
+    ensures { result ≡ has_entry (overlaid last.now changes.now) (station, c) }
 {
-    match changes.get(s) {
+    match changes.get(station) {
         Some(d) => d == c,
-        None => last.has(s, c),
+        None => last.has(station, c),
     }
 }
 

@@ -63,11 +63,11 @@ fn violates_some(map: &Assignment) -> bool
 }
 
 // Whether some pair of the station is violated.
-fn is_in_trouble(book: &Book, map: &Assignment, s: u32) -> bool
+fn is_in_trouble(book: &Book, map: &Assignment, station: u32) -> bool
     requires { book.now ≡ map.now.book }
-    ensures { result ≡ is_in_trouble book.now map.now.entries s }
+    ensures { result ≡ is_in_trouble book.now map.now.entries station }
 {
-    map.violations_of(book, s) > 0
+    map.violations_of(book, station) > 0
 }
 
 // Whether the map has the station on this channel.

@@ -64,11 +64,11 @@ fn has_others(tested: Option<u32>, set: &[u32], map: &ChannelMap) -> bool
 }
 
 // Whether each station of the set but this one stands in the map.
-fn has_all_but(s: u32, set: &[u32], map: &ChannelMap) -> bool
-    ensures { result ≡ list_all (λ t. (t == s) || has_station map.now t) set.now }
+fn has_all_but(tested: u32, set: &[u32], map: &ChannelMap) -> bool
+    ensures { result ≡ list_all (λ t. (t == tested) || has_station map.now t) set.now }
 {
     for t in set {
-        if !is_there(s, map, *t) {
+        if !is_there(tested, map, *t) {
             return false;
         }
     }
@@ -76,10 +76,10 @@ fn has_all_but(s: u32, set: &[u32], map: &ChannelMap) -> bool
 }
 
 // Whether a station is this one or stands in the map.
-fn is_there(s: u32, map: &ChannelMap, t: u32) -> bool
-    ensures { result ≡ ((t == s) || has_station map.now t) }
+fn is_there(tested: u32, map: &ChannelMap, station: u32) -> bool
+    ensures { result ≡ ((station == tested) || has_station map.now station) }
 {
-    t == s || map.get(t).is_some()
+    station == tested || map.get(station).is_some()
 }
 
 /// Whether each entry is of a station of the ascending set, on a channel of its domain.

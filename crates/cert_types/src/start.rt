@@ -28,12 +28,12 @@ pub fn start_map(alloc: Global, book: &Book, task: &Task) -> Result<Vec<(u32, u8
 }
 
 // The channel that a walk starts a station on.
-fn start_channel(book: &Book, last: &ChannelMap, s: u32) -> u8
-    ensures { result ≡ unwrap_or (channel_of s last.now) (least_of (domain_of book.now s)) }
+fn start_channel(book: &Book, last: &ChannelMap, station: u32) -> u8
+    ensures { result ≡ unwrap_or (channel_of station last.now) (least_of (domain_of book.now station)) }
 {
-    match last.get(s) {
+    match last.get(station) {
         Some(c) => c,
-        None => least(book.domain(s)),
+        None => least(book.domain(station)),
     }
 }
 

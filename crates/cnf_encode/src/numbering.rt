@@ -11,18 +11,18 @@ use std::alloc::{AllocError as NoMemory, Global};
 
 /// The variable, from 1, that is true where station `s` of an ascending set is on channel `c` of its domain, in the
 /// packing formula of the set. It adds up the domains of the stations before `s`.
-pub fn var(book: &Book, set: &[u32], s: u32, c: u8) -> u32
+pub fn var(book: &Book, set: &[u32], station: u32, c: u8) -> u32
     requires ascending { IsTrue (is_ascending set.now) }
-    requires of_set { IsTrue (is_in set.now s) }
-    requires on_domain { IsTrue (is_in (domain_of book.now s) c) }
-    ensures { result ≡ variable_of book.now set.now (s, c) }
+    requires of_set { IsTrue (is_in set.now station) }
+    requires on_domain { IsTrue (is_in (domain_of book.now station) c) }
+    ensures { result ≡ variable_of book.now set.now (station, c) }
 {
-    let place = set.partition_point(|t| *t < s);
+    let place = set.partition_point(|t| *t < station);
     let mut before = 0;
     for i in 0..place {
         before = with_station(book, set, i, before);
     }
-    before + place_of(channels_of(book, s), c) as u32 + 1
+    before + place_of(channels_of(book, station), c) as u32 + 1
 }
 
 // For each station of an ascending set, how many variables the stations before it have, and last how many all have.
@@ -62,12 +62,12 @@ pub(crate) fn count_of(channels: &[u8]) -> u32
 }
 
 // The channels of a station, which ascend.
-pub(crate) fn channels_of(book: &Book, s: u32) -> &[u8]
-    ensures channels { result.now ≡ domain_of book.now s }
+pub(crate) fn channels_of(book: &Book, station: u32) -> &[u8]
+    ensures channels { result.now ≡ domain_of book.now station }
     ensures ascending { IsTrue (is_ascending result.now) }
 {
     book.keeps_order();
-    book.domain(s)
+    book.domain(station)
 }
 
 // The place of one of these ascending channels, by halves.

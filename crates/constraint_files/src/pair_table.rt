@@ -42,16 +42,21 @@ impl Model for PairTable {
 }
 
 /// The pair of `s` on channel `a` and `t` on channel `b`, with the lesser station first.
-fn pair_of(s: u32, a: u8, t: u32, b: u8) -> Pair
-    ensures { result ≡ pair_of s a t b }
+fn pair_of(station: u32, a: u8, other: u32, b: u8) -> Pair
+    ensures { result ≡ pair_of station a other b }
 {
-    if s < t {
-        Pair { f: s, a, g: t, b }
+    if station < other {
+        Pair {
+            f: station,
+            a,
+            g: other,
+            b,
+        }
     } else {
         Pair {
-            f: t,
+            f: other,
             a: b,
-            g: s,
+            g: station,
             b: a,
         }
     }

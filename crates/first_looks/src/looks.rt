@@ -103,15 +103,15 @@ impl FirstLooks {
     }
 
     // Keeps a copy of what a fit of a station changed, in the place of what was kept of it.
-    fn keep(&mut self, alloc: Global, s: u32, fit: &ChannelMap) {
+    fn keep(&mut self, alloc: Global, station: u32, fit: &ChannelMap) {
         if let Ok(copy) = ChannelMap::of(alloc, fit.entries()) {
-            let _kept = self.fits.insert(s, copy).is_ok();
+            let _kept = self.fits.insert(station, copy).is_ok();
         }
     }
 
     /// What the last fit of a station changed, if one is kept. It may no longer fit.
-    pub fn kept(&self, s: u32) -> Option<&ChannelMap> {
-        self.fits.get(&s)
+    pub fn kept(&self, station: u32) -> Option<&ChannelMap> {
+        self.fits.get(&station)
     }
 
     // What the station's last fit changed, if that still fits.
@@ -120,12 +120,12 @@ impl FirstLooks {
         alloc: Global,
         book: &Book,
         task: &Task,
-        s: u32,
+        station: u32,
     ) -> Result<Option<ChannelMap>, NoMemory>
         requires { IsQuery book.now task.now }
         ensures { IfOk result (λ r. IfSome r (λ delta. fit_fault book.now task.now delta ≡ None)) }
     {
-        let Some(fit) = self.fits.get(&s) else {
+        let Some(fit) = self.fits.get(&station) else {
             return Ok(None);
         };
         if !fits_by_changes(book, task, fit) {

@@ -44,18 +44,18 @@ pub(crate) fn propose(
     alloc: Global,
     book: &Book,
     map: &ChannelMap,
-    s: u32,
+    station: u32,
 ) -> Result<Option<Proposal>, NoMemory>
-    ensures { (c : ℕ) → is_in (domain_of book.now s) c ≡ true → is_free book.now map.now s c ≡ true → IfOk result (IsFreeProposal book.now map.now s) }
+    ensures { (c : ℕ) → is_in (domain_of book.now station) c ≡ true → is_free book.now map.now station c ≡ true → IfOk result (IsFreeProposal book.now map.now station) }
 {
-    let ways = ways_of(alloc, book, Stands { map, moved: None }, s)?;
-    if let Some(c) = free_channel(book.domain(s), &ways) {
+    let ways = ways_of(alloc, book, Stands { map, moved: None }, station)?;
+    if let Some(c) = free_channel(book.domain(station), &ways) {
         return Ok(Some(Proposal {
-            own: (s, c),
+            own: (station, c),
             moved: None,
         }));
     }
-    repair(alloc, book, map, s, &ways)
+    repair(alloc, book, map, station, &ways)
 }
 
 // The first channel of a station on which one other alone stands in the way and can go elsewhere.
@@ -63,16 +63,16 @@ fn repair(
     alloc: Global,
     book: &Book,
     map: &ChannelMap,
-    s: u32,
+    station: u32,
     ways: &[ChannelWay],
 ) -> Result<Option<Proposal>, NoMemory> {
-    for c in book.domain(s) {
+    for c in book.domain(station) {
         let Some(t) = alone_in_the_way(ways, *c) else {
             continue;
         };
-        if let Some(d) = way_out(alloc, book, map, (s, *c), t)? {
+        if let Some(d) = way_out(alloc, book, map, (station, *c), t)? {
             return Ok(Some(Proposal {
-                own: (s, *c),
+                own: (station, *c),
                 moved: Some((t, d)),
             }));
         }

@@ -36,17 +36,17 @@ pub(crate) struct Stands<'a> {
 impl<'a> Stands<'a> {
     // Whether the station is on this channel.
     #[tactic(auto, using(crate::proofs::FreeLemmas::moved))]
-    fn is_on(&self, s: u32, c: u8) -> bool
-        ensures { result ≡ has_entry (stood self.now.map.now self.now.moved) (s, c) }
+    fn is_on(&self, station: u32, c: u8) -> bool
+        ensures { result ≡ has_entry (stood self.now.map.now self.now.moved) (station, c) }
     {
         self.map.keeps_order();
         let Some(x) = self.moved else {
-            return self.map.has(s, c);
+            return self.map.has(station, c);
         };
-        if x.0 == s {
+        if x.0 == station {
             return x.1 == c;
         }
-        self.map.has(s, c)
+        self.map.has(station, c)
     }
 }
 
@@ -59,38 +59,38 @@ pub(crate) fn ways_of(
     alloc: Global,
     book: &Book,
     stands: Stands,
-    s: u32,
+    station: u32,
 ) -> Result<Vec<ChannelWay>, NoMemory>
-    ensures { IfOk result (λ ways. AreWays book.now (stood stands.entry.map.now stands.entry.moved) s ways.items) }
+    ensures { IfOk result (λ ways. AreWays book.now (stood stands.entry.map.now stands.entry.moved) station ways.items) }
 {
     let open = ChannelWay {
         blocker: Blocker::No,
         pairs: 0,
     };
     let mut ways = vec![in alloc; open; CHANNELS]?;
-    meet_first(&mut ways, book, stands, s);
-    meet_second(&mut ways, book, stands, s);
+    meet_first(&mut ways, book, stands, station);
+    meet_second(&mut ways, book, stands, station);
     Ok(ways)
 }
 
 // Notes the pairs whose first station this is.
-fn meet_first(ways: &mut [ChannelWay], book: &Book, stands: Stands, s: u32)
+fn meet_first(ways: &mut [ChannelWay], book: &Book, stands: Stands, station: u32)
     requires { length ways.old ≡ 256 }
     ensures size { length ways.new ≡ 256 }
-    ensures way { (c : ℕ) → is_way_open (way_at ways.new c) ≡ (is_way_open (way_at ways.old c) && not (list_any (blocks_first (stood stands.entry.map.now stands.entry.moved) c) (filter (λ p. p.f == s) book.now.pairs))) }
+    ensures way { (c : ℕ) → is_way_open (way_at ways.new c) ≡ (is_way_open (way_at ways.old c) && not (list_any (blocks_first (stood stands.entry.map.now stands.entry.moved) c) (filter (λ p. p.f == station) book.now.pairs))) }
 {
-    for p in book.pairs_from(s) {
+    for p in book.pairs_from(station) {
         meet(ways, p.a, p.g, stands.is_on(p.g, p.b));
     }
 }
 
 // Notes the pairs whose second station this is.
-fn meet_second(ways: &mut [ChannelWay], book: &Book, stands: Stands, s: u32)
+fn meet_second(ways: &mut [ChannelWay], book: &Book, stands: Stands, station: u32)
     requires { length ways.old ≡ 256 }
     ensures size { length ways.new ≡ 256 }
-    ensures way { (c : ℕ) → is_way_open (way_at ways.new c) ≡ (is_way_open (way_at ways.old c) && not (list_any (blocks_second (stood stands.entry.map.now stands.entry.moved) c) (filter (λ p. p.g == s) book.now.pairs))) }
+    ensures way { (c : ℕ) → is_way_open (way_at ways.new c) ≡ (is_way_open (way_at ways.old c) && not (list_any (blocks_second (stood stands.entry.map.now stands.entry.moved) c) (filter (λ p. p.g == station) book.now.pairs))) }
 {
-    for p in book.pairs_to(s) {
+    for p in book.pairs_to(station) {
         meet(ways, p.b, p.f, stands.is_on(p.f, p.a));
     }
 }

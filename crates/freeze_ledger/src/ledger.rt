@@ -55,25 +55,25 @@ impl Ledger {
 
     /// A station, by its facility number, is frozen at this price, in cents. It was not frozen before, there is room for it,
     /// and what is paid in all stays below 2^64. It takes no memory.
-    pub fn freeze(&mut self, s: u32, price: u64)
+    pub fn freeze(&mut self, station: u32, price: u64)
         requires room { 1 ≤ self.old.spare }
-        requires absent { price_of s self.old.paid ≡ None }
+        requires absent { price_of station self.old.paid ≡ None }
         requires total { sum_paid self.old.paid + price < 2 ^ 64 }
-        ensures paid { self.new.paid ≡ with_price s price self.old.paid }
+        ensures paid { self.new.paid ≡ with_price station price self.old.paid }
         ensures spare { self.new.spare + 1 ≡ self.old.spare }
     {
-        let place = place_of(&self.entries, s);
-        let Ok(()) = self.entries.insert(place, (s, price)) else {
+        let place = place_of(&self.entries, station);
+        let Ok(()) = self.entries.insert(place, (station, price)) else {
             unreachable!();
         };
         self.total += price;
     }
 
     /// What a station, by its facility number, is paid, in cents; none where it is not frozen. It searches by halves.
-    pub fn paid(&self, s: u32) -> Option<u64>
-        ensures { result ≡ price_of s self.now.paid }
+    pub fn paid(&self, station: u32) -> Option<u64>
+        ensures { result ≡ price_of station self.now.paid }
     {
-        match self.entries.binary_search_by_key(&s, |x| x.0) {
+        match self.entries.binary_search_by_key(&station, |x| x.0) {
             Ok(i) => Some(self.entries[i].1),
             Err(_) => None,
         }
@@ -88,12 +88,12 @@ impl Ledger {
 }
 
 // How many of these stations, which ascend, are below this one.
-fn place_of(entries: &[(u32, u64)], s: u32) -> usize
+fn place_of(entries: &[(u32, u64)], station: u32) -> usize
     requires { IsAscending entries.now }
     ensures within { result ≤ length entries.now }
-    ensures place { (price : ℕ) → insert entries.now result (s, price) ≡ with_price s price entries.now }
+    ensures place { (price : ℕ) → insert entries.now result (station, price) ≡ with_price station price entries.now }
 {
-    entries.partition_point(|x| x.0 < s)
+    entries.partition_point(|x| x.0 < station)
 }
 
 #[cfg(test)]

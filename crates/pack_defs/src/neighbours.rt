@@ -52,17 +52,17 @@ pub fn copied_lists(alloc: Global, lists: &[Items<u32>]) -> Result<Vec<Items<u32
 // it is first in.
 fn list_of(
     alloc: Global,
-    s: u32,
+    station: u32,
     pairs: &[Pair],
     by_second: &[Pair],
 ) -> Result<Items<u32>, NoMemory>
     requires rises { IsNonDecreasingBy (λ p. p.f) pairs.now }
     requires by_second { IsBySecond pairs.now by_second.now }
-    ensures { IfOk result (IsListFor pairs.now s) }
+    ensures { IfOk result (IsListFor pairs.now station) }
 {
     let mut near = Vec::new(alloc);
-    put_firsts(&mut near, second_is(by_second, s))?;
-    put_seconds(&mut near, first_is(pairs, s))?;
+    put_firsts(&mut near, second_is(by_second, station))?;
+    put_seconds(&mut near, first_is(pairs, station))?;
     Ok(Items::from_vec(near))
 }
 

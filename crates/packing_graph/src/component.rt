@@ -13,11 +13,11 @@ use std::collections::BTreeSet;
 
 /// The stations that `s` reaches by pairs of the book among the stations on air, ascending, with `s`. It costs what
 /// `component_among` does, with a search by halves in `on` for each question. The only error is want of memory.
-pub fn component(alloc: Global, book: &Book, on: &[u32], s: u32) -> Result<Vec<u32>, NoMemory>
+pub fn component(alloc: Global, book: &Book, on: &[u32], station: u32) -> Result<Vec<u32>, NoMemory>
     requires { IsTrue (is_ascending on.now) }
-    ensures { IfOk result (λ stations. stations.items ≡ component book.now (with_station on.now s) s) }
+    ensures { IfOk result (λ stations. stations.items ≡ component book.now (with_station on.now station) station) }
 {
-    component_among(alloc, book, &ListedStations { list: on }, s)
+    component_among(alloc, book, &ListedStations { list: on }, station)
 }
 
 /// The stations that `s` reaches by pairs of the book among the stations of a set, ascending, with `s`. It costs what these
@@ -28,13 +28,13 @@ pub fn component_among<S: StationSet>(
     alloc: Global,
     book: &Book,
     on: &S,
-    s: u32,
+    station: u32,
 ) -> Result<Vec<u32>, NoMemory>
     requires { IsTrue (is_ascending (S.stations on.now)) }
-    ensures component { IfOk result (λ stations. stations.items ≡ component book.now (with_station (S.stations on.now) s) s) }
+    ensures component { IfOk result (λ stations. stations.items ≡ component book.now (with_station (S.stations on.now) station) station) }
     ensures ascending { IfOk result (λ stations. IsTrue (is_ascending stations.items)) }
 {
-    let seen = reached(alloc, book, on, s)?;
+    let seen = reached(alloc, book, on, station)?;
     listed(alloc, seen)
 }
 

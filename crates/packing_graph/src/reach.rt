@@ -18,13 +18,13 @@ pub fn reached<S: StationSet>(
     alloc: Global,
     book: &Book,
     on: &S,
-    s: u32,
+    station: u32,
 ) -> Result<BTreeSet<u32>, NoMemory>
-    ensures { IfOk result (λ seen. (t : ℕ) → contains nat_cmp seen t ≡ is_in (component book.now (with_station (S.stations on.now) s) s) t) }
+    ensures { IfOk result (λ seen. (t : ℕ) → contains nat_cmp seen t ≡ is_in (component book.now (with_station (S.stations on.now) station) station) t) }
 {
     let mut seen = BTreeSet::new(alloc);
-    seen.insert(s)?;
-    let mut waiting = vec![in alloc; s]?;
+    seen.insert(station)?;
+    let mut waiting = vec![in alloc; station]?;
     while let Some(next) = waiting.pop() {
         visit(on, book.neighbours(next), &mut seen, &mut waiting)?;
     }

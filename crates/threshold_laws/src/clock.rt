@@ -24,10 +24,10 @@ impl Model for Aired {
 
 impl Aired {
     // Whether it is of this station.
-    fn is_of(&self, s: u32) -> bool
-        ensures { result ≡ (self.now.station == s) }
+    fn is_of(&self, station: u32) -> bool
+        ensures { result ≡ (self.now.station == station) }
     {
-        self.station == s
+        self.station == station
     }
 }
 
@@ -49,10 +49,10 @@ impl Model for Bought {
 
 impl Bought {
     // Whether it is of this station.
-    fn is_of(&self, s: u32) -> bool
-        ensures { result ≡ (self.now.station == s) }
+    fn is_of(&self, station: u32) -> bool
+        ensures { result ≡ (self.now.station == station) }
     {
-        self.station == s
+        self.station == station
     }
 }
 
@@ -85,45 +85,45 @@ impl PlainClock {
     }
 
     /// Whether the station is still asked.
-    pub(crate) fn is_active(&self, s: u32) -> bool
-        ensures { result ≡ is_active self.now s }
+    pub(crate) fn is_active(&self, station: u32) -> bool
+        ensures { result ≡ is_active self.now station }
     {
-        self.active.iter().any(|x| *x == s)
+        self.active.iter().any(|x| *x == station)
     }
 
     /// Whether the station is on air.
-    pub(crate) fn is_on_air(&self, s: u32) -> bool
-        ensures { result ≡ is_on_air self.now s }
+    pub(crate) fn is_on_air(&self, station: u32) -> bool
+        ensures { result ≡ is_on_air self.now station }
     {
-        self.on_air.iter().any(|x| x.is_of(s))
+        self.on_air.iter().any(|x| x.is_of(station))
     }
 
     /// Whether the station is frozen.
-    pub(crate) fn is_frozen(&self, s: u32) -> bool
-        ensures { result ≡ is_frozen self.now s }
+    pub(crate) fn is_frozen(&self, station: u32) -> bool
+        ensures { result ≡ is_frozen self.now station }
     {
-        self.frozen.iter().any(|x| x.is_of(s))
+        self.frozen.iter().any(|x| x.is_of(station))
     }
 
     /// The station goes on air in this round. The only error is want of memory.
-    pub(crate) fn air(&mut self, s: u32, round: usize) -> Result<(), NoMemory>
-        ensures { IfOk result (λ _. self.new ≡ goes_on_air self.old (record { round = round; station = s })) }
+    pub(crate) fn air(&mut self, station: u32, round: usize) -> Result<(), NoMemory>
+        ensures { IfOk result (λ _. self.new ≡ goes_on_air self.old (record { round = round; station = station })) }
     {
-        self.on_air.push(Aired { station: s, round })?;
-        self.active.retain(|x| *x != s);
+        self.on_air.push(Aired { station, round })?;
+        self.active.retain(|x| *x != station);
         Ok(())
     }
 
     /// The station is frozen in this round, at this price, in cents. The only error is want of memory.
-    pub(crate) fn freeze(&mut self, s: u32, round: usize, price: u64) -> Result<(), NoMemory>
-        ensures { IfOk result (λ _. self.new ≡ freezes_at self.old (record { station = s; round = round; price = price })) }
+    pub(crate) fn freeze(&mut self, station: u32, round: usize, price: u64) -> Result<(), NoMemory>
+        ensures { IfOk result (λ _. self.new ≡ freezes_at self.old (record { station = station; round = round; price = price })) }
     {
         self.frozen.push(Bought {
-            station: s,
+            station,
             round,
             price,
         })?;
-        self.active.retain(|x| *x != s);
+        self.active.retain(|x| *x != station);
         Ok(())
     }
 }

@@ -12,9 +12,9 @@ use pack_defs::scenario::Scenario;
 /// Where the values stand for the owners and the clock rule freezes this station, every test being decided and the
 /// tests of a round in this order, its price is the greatest admissible value with which it would have been bought.
 /// (For clock auctions a theorem of Milgrom and Segal.)
-pub fn paid_is_greatest(sc: &Scenario, book: &Book, s: u32, order: Order)
+pub fn paid_is_greatest(sc: &Scenario, book: &Book, station: u32, order: Order)
     requires ascend { StationsAscend sc.now }
     requires by_value { sc.now.owners ≡ None }
-    ensures { (f : FrozenAt) → Contains (clock_rule sc.now book.now order []).frozen f → f.station ≡ s →
-        IsThresholdPrice sc.now book.now order s f.price }
+    ensures { (f : FrozenAt) → Contains (clock_rule sc.now book.now order []).frozen f → f.station ≡ station →
+        IsThresholdPrice sc.now book.now order station f.price }
 {}

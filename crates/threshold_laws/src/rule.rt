@@ -27,12 +27,12 @@ pub(crate) struct PlainRule<'a> {
 }
 
 // The value of a station of the scenario, if it has one.
-fn value_of(sc: &Scenario, s: u32) -> Option<u64>
-    ensures { result ≡ value_of sc.now s }
+fn value_of(sc: &Scenario, station: u32) -> Option<u64>
+    ensures { result ≡ value_of sc.now station }
 {
     let stations = sc.stations.as_slice();
     for x in stations {
-        if x.id == s {
+        if x.id == station {
             return x.value;
         }
     }
@@ -40,77 +40,74 @@ fn value_of(sc: &Scenario, s: u32) -> Option<u64>
 }
 
 // Whether an owner's line says that the station stays in this round.
-fn stays(owners: &Owners, round: usize, s: u32) -> bool
-    ensures { result ≡ stays owners.now round s }
+fn stays(owners: &Owners, round: usize, station: u32) -> bool
+    ensures { result ≡ stays owners.now round station }
 {
-    owners
-        .lines()
-        .iter()
-        .any(|x| x.round as usize == round && x.station == s && x.stays)
+    owners.lines().iter().any(|x| x.round as usize == round && x.station == station && x.stays)
 }
 
 // Whether the test of a station asks about this one.
-fn is_asked(clock: &PlainClock, f: u32, s: u32) -> bool
-    ensures { result ≡ (is_on_air clock.now f || (f == s)) }
+fn is_asked(clock: &PlainClock, station: u32, tested: u32) -> bool
+    ensures { result ≡ (is_on_air clock.now station || (station == tested)) }
 {
-    clock.is_on_air(f) || f == s
+    clock.is_on_air(station) || station == tested
 }
 
 impl PlainRule<'_> {
     // What the station is offered in this round, in cents.
-    fn offer(&self, s: u32, round: usize) -> u64
+    fn offer(&self, station: u32, round: usize) -> u64
         requires { round < length self.now.schedule.now }
-        ensures { result ≡ offer self.now.sc.now s round }
+        ensures { result ≡ offer self.now.sc.now station round }
     {
-        u64::from(self.schedule[round]) * u64::from(volume_of(self.sc, s))
+        u64::from(self.schedule[round]) * u64::from(volume_of(self.sc, station))
     }
 
     // Whether by its value the station would sooner stay on air than take the round's offer.
-    fn declines_by_value(&self, s: u32, round: usize) -> bool
+    fn declines_by_value(&self, station: u32, round: usize) -> bool
         requires { round < length self.now.schedule.now }
-        ensures { result ≡ declines_by_value self.now.sc.now s round }
+        ensures { result ≡ declines_by_value self.now.sc.now station round }
     {
-        match value_of(self.sc, s) {
-            Some(value) => self.offer(s, round) < value,
+        match value_of(self.sc, station) {
+            Some(value) => self.offer(station, round) < value,
             None => true,
         }
     }
 
     // Whether the station declines the round's offer.
-    fn declines(&self, s: u32, round: usize) -> bool
+    fn declines(&self, station: u32, round: usize) -> bool
         requires { round < length self.now.schedule.now }
-        ensures { result ≡ declines self.now.sc.now s round }
+        ensures { result ≡ declines self.now.sc.now station round }
     {
         match &self.sc.owners {
-            Some(owners) => !stays(owners, round, s),
-            None => self.declines_by_value(s, round),
+            Some(owners) => !stays(owners, round, station),
+            None => self.declines_by_value(station, round),
         }
     }
 
     // Whether the station declines the opening offer.
-    fn declines_opening(&self, s: u32) -> bool
-        ensures { result ≡ declines self.now.sc.now s 0 }
+    fn declines_opening(&self, station: u32) -> bool
+        ensures { result ≡ declines self.now.sc.now station 0 }
     {
-        self.declines(s, 0)
+        self.declines(station, 0)
     }
 
     // Whether the station, where its test of this round fits, goes on air.
-    fn exits(&self, s: u32, round: usize) -> bool
+    fn exits(&self, station: u32, round: usize) -> bool
         requires { round ≤ length self.now.schedule.now }
-        ensures { result ≡ exits self.now.sc.now (record { round = round; station = s }) }
+        ensures { result ≡ exits self.now.sc.now (record { round = round; station = station }) }
     {
         // The last round comes after the last price.
-        round == self.schedule.len() || self.declines(s, round)
+        round == self.schedule.len() || self.declines(station, round)
     }
 
     // The stations on air and this one, ascending.
-    fn asked(&self, alloc: Global, clock: &PlainClock, s: u32) -> Result<Vec<u32>, NoMemory>
-        ensures { IfOk result (λ set. set.items ≡ asked_set self.now.sc.now clock.now s) }
+    fn asked(&self, alloc: Global, clock: &PlainClock, station: u32) -> Result<Vec<u32>, NoMemory>
+        ensures { IfOk result (λ set. set.items ≡ asked_set self.now.sc.now clock.now station) }
     {
         let mut set = Vec::new(alloc);
         let ids = facilities(alloc, self.sc)?;
         for f in &ids {
-            if !is_asked(clock, *f, s) {
+            if !is_asked(clock, *f, station) {
                 continue;
             }
             set.push(*f)?;
@@ -119,11 +116,11 @@ impl PlainRule<'_> {
     }
 
     // Whether the stations on air and this one fit.
-    fn has_room(&self, alloc: Global, clock: &PlainClock, s: u32) -> Result<bool, NoMemory>
+    fn has_room(&self, alloc: Global, clock: &PlainClock, station: u32) -> Result<bool, NoMemory>
         requires { StationsAscend self.now.sc.now }
-        ensures { IfOk result (λ room. room ≡ fits self.now.book.now (asked_set self.now.sc.now clock.now s)) }
+        ensures { IfOk result (λ room. room ≡ fits self.now.book.now (asked_set self.now.sc.now clock.now station)) }
     {
-        let set = self.asked(alloc, clock, s)?;
+        let set = self.asked(alloc, clock, station)?;
         match fits(alloc, self.book, &set)? {
             Some(_) => Ok(true),
             None => Ok(false),
@@ -176,7 +173,7 @@ impl PlainRule<'_> {
     fn test(
         &self,
         alloc: Global,
-        s: u32,
+        station: u32,
         round: usize,
         clock: &mut PlainClock,
     ) -> Result<(), NoMemory>
@@ -184,19 +181,19 @@ impl PlainRule<'_> {
         requires begun { 1 ≤ round }
         requires last { round ≤ length self.now.schedule.now }
         ensures { IfOk result (λ _. clock.new ≡
-            after_test self.now.sc.now self.now.book.now [] clock.old (record { round = round; station = s })) }
+            after_test self.now.sc.now self.now.book.now [] clock.old (record { round = round; station = station })) }
     {
-        if !clock.is_active(s) {
+        if !clock.is_active(station) {
             return Ok(());
         }
-        if !self.has_room(alloc, clock, s)? {
-            clock.freeze(s, round, self.offer(s, round - 1))?;
+        if !self.has_room(alloc, clock, station)? {
+            clock.freeze(station, round, self.offer(station, round - 1))?;
             return Ok(());
         }
-        if !self.exits(s, round) {
+        if !self.exits(station, round) {
             return Ok(());
         }
-        clock.air(s, round)
+        clock.air(station, round)
     }
 
     // The tests of these stations in this round, in their order.

@@ -22,14 +22,14 @@ pub fn wins_at(
     alloc: Global,
     sc: &Scenario,
     book: &Book,
-    s: u32,
+    station: u32,
     v: u64,
     order: Order,
 ) -> Result<bool, NoMemory>
     requires ascend { StationsAscend sc.now }
-    ensures { IfOk result (λ won. won ≡ wins sc.now book.now order s v) }
+    ensures { IfOk result (λ won. won ≡ wins sc.now book.now order station v) }
 {
-    let sc = with_value(alloc, sc, s, v)?;
+    let sc = with_value(alloc, sc, station, v)?;
     let prices = schedule(alloc, &sc)?;
     let rule = PlainRule {
         sc: &sc,
@@ -37,17 +37,17 @@ pub fn wins_at(
         schedule: &prices,
     };
     let clock = rule.run(alloc, order)?;
-    Ok(clock.is_frozen(s))
+    Ok(clock.is_frozen(station))
 }
 
 // The scenario in which this station has this value, and all else is as it was.
-fn with_value(alloc: Global, sc: &Scenario, s: u32, v: u64) -> Result<Scenario, NoMemory>
-    ensures { IfOk result (λ new. new ≡ with_value sc.now s v) }
+fn with_value(alloc: Global, sc: &Scenario, station: u32, v: u64) -> Result<Scenario, NoMemory>
+    ensures { IfOk result (λ new. new ≡ with_value sc.now station v) }
 {
     let before = sc.stations.as_slice();
     let mut stations = Vec::with_capacity(alloc, before.len())?;
-    for station in before {
-        stations.push(revalued(station, s, v))?;
+    for own in before {
+        stations.push(revalued(own, station, v))?;
     }
     let mut new = sc.copy(alloc)?;
     new.stations = Items::from_vec(stations);
@@ -55,15 +55,15 @@ fn with_value(alloc: Global, sc: &Scenario, s: u32, v: u64) -> Result<Scenario, 
 }
 
 // The station with this value, if it is the one of this number.
-fn revalued(station: &Station, s: u32, v: u64) -> Station
-    ensures { result ≡ revalued s v station.now }
+fn revalued(before: &Station, station: u32, v: u64) -> Station
+    ensures { result ≡ revalued station v before.now }
 {
-    if station.id == s {
+    if before.id == station {
         return Station {
-            id: station.id,
-            volume: station.volume,
+            id: before.id,
+            volume: before.volume,
             value: Some(v),
         };
     }
-    *station
+    *before
 }

@@ -91,8 +91,8 @@ fn book(alloc: Global, start: u64) -> Result<Book, NoMemory> {
 }
 
 // The map with one station on this channel.
-fn with(alloc: Global, map: &ChannelMap, s: u32, c: u8) -> Result<ChannelMap, NoMemory> {
-    map.overlay(alloc, &ChannelMap::of(alloc, &[(s, c)])?)
+fn with(alloc: Global, map: &ChannelMap, station: u32, c: u8) -> Result<ChannelMap, NoMemory> {
+    map.overlay(alloc, &ChannelMap::of(alloc, &[(station, c)])?)
 }
 
 fn is_clean(book: &Book, map: &ChannelMap) -> bool {
@@ -105,14 +105,14 @@ fn placed(
     alloc: Global,
     book: &Book,
     map: ChannelMap,
-    s: u32,
+    station: u32,
     seed: u64,
 ) -> Result<ChannelMap, NoMemory> {
     let first = pick(seed, 3);
     for k in 0..3 {
         let c = (14 + (first + k) % 3) as u8;
-        let more = with(alloc, &map, s, c)?;
-        if book.domain(s).contains(&c) && is_clean(book, &more) {
+        let more = with(alloc, &map, station, c)?;
+        if book.domain(station).contains(&c) && is_clean(book, &more) {
             return Ok(more);
         }
     }

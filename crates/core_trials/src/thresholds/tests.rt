@@ -90,7 +90,7 @@ type Auction = (u8, Falls, Order, &'static [(u32, u64)]);
 fn first_other(
     alloc: Global,
     auction: Auction,
-    s: u32,
+    station: u32,
     values: &[u64],
     won: bool,
 ) -> Result<Option<u64>, NoMemory> {
@@ -98,7 +98,7 @@ fn first_other(
     let book = book_up_to(alloc, top)?;
     let sc = scenario(alloc, falls, bids)?;
     for v in values {
-        if wins_at(alloc, &sc, &book, s, *v, order)? != won {
+        if wins_at(alloc, &sc, &book, station, *v, order)? != won {
             return Ok(Some(*v));
         }
     }

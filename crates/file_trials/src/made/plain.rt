@@ -49,15 +49,15 @@ fn stations(alloc: Global, words: &mut Words, size: u32) -> Result<String, NoMem
 }
 
 // Two stations are of one block.
-fn share_block(s: u32, t: u32) -> bool {
-    s > 0 && t > 0 && (s - 1) / 16 == (t - 1) / 16
+fn share_block(station: u32, other: u32) -> bool {
+    station > 0 && other > 0 && (station - 1) / 16 == (other - 1) / 16
 }
 
 // Those that a station interferes with on the same channel, each behind a comma.
-fn links(alloc: Global, words: &mut Words, s: u32, size: u32) -> Result<String, NoMemory> {
+fn links(alloc: Global, words: &mut Words, station: u32, size: u32) -> Result<String, NoMemory> {
     let mut text = String::new(alloc);
     for t in 1..=size {
-        if t > s && share_block(s, t) && words.next() % 2 == 1 {
+        if t > station && share_block(station, t) && words.next() % 2 == 1 {
             text.push_str(format!(in alloc; ",{t}")?.as_str())?;
         }
     }
@@ -65,19 +65,19 @@ fn links(alloc: Global, words: &mut Words, s: u32, size: u32) -> Result<String, 
 }
 
 // The lines of a station.
-fn rows_of(alloc: Global, words: &mut Words, s: u32, size: u32) -> Result<String, NoMemory> {
+fn rows_of(alloc: Global, words: &mut Words, station: u32, size: u32) -> Result<String, NoMemory> {
     let mut text = String::new(alloc);
-    let links = links(alloc, words, s, size)?;
-    let next = s.saturating_add(1);
-    let adjacent = next <= size && share_block(s, next) && words.next() % 4 == 0;
+    let links = links(alloc, words, station, size)?;
+    let next = station.saturating_add(1);
+    let adjacent = next <= size && share_block(station, next) && words.next() % 4 == 0;
     for c in 14..18 {
         if !links.is_empty() {
-            text.push_str(format!(in alloc; "CO,{c},{c},{s}{links}\n")?.as_str())?;
+            text.push_str(format!(in alloc; "CO,{c},{c},{station}{links}\n")?.as_str())?;
         }
     }
     for c in 14..17 {
         if adjacent {
-            text.push_str(format!(in alloc; "ADJ+1,{c},{},{s},{next}\n", c + 1)?.as_str())?;
+            text.push_str(format!(in alloc; "ADJ+1,{c},{},{station},{next}\n", c + 1)?.as_str())?;
         }
     }
     Ok(text)

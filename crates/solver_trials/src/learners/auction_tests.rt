@@ -33,10 +33,10 @@ impl Auction {
     }
 
     // The query that tests a station.
-    fn query(&self, alloc: Global, s: u32) -> Result<Task, NoMemory> {
+    fn query(&self, alloc: Global, station: u32) -> Result<Task, NoMemory> {
         let mut set = Vec::from_slice(alloc, &self.set)?;
-        set.push(s)?;
-        task_of(alloc, Some(s), &set, self.last.entries())
+        set.push(station)?;
+        task_of(alloc, Some(station), &set, self.last.entries())
     }
 
     // Tests a station, by the solver too where it hears of the query. Where it fits it goes on air if chance has it. Whether the
@@ -46,10 +46,10 @@ impl Auction {
         alloc: Global,
         solver: &mut Cdcl,
         worker: &Worker,
-        s: u32,
+        station: u32,
         turn: Turn,
     ) -> Option<bool> {
-        let task = self.query(alloc, s).ok()?;
+        let task = self.query(alloc, station).ok()?;
         if !is_query(&self.book, &task) {
             return None;
         }
@@ -65,7 +65,7 @@ impl Auction {
         }
         if let Some(map) = map {
             if turn.stays {
-                self.set.push(s).ok()?;
+                self.set.push(station).ok()?;
                 self.last = map;
             }
         }

@@ -137,8 +137,8 @@ pub(crate) fn packing<F: Fn(u32, u32, u8) -> bool>(
 }
 
 // Whether two stations may not share a channel, as chance has it: of sixteen about nine may not.
-pub(crate) fn by_chance(seed: u64, s: u32, t: u32, c: u8) -> bool {
-    let key = ((seed << 8 ^ s as u64) << 8 ^ t as u64) << 8 ^ c as u64;
+pub(crate) fn by_chance(seed: u64, station: u32, other: u32, c: u8) -> bool {
+    let key = ((seed << 8 ^ station as u64) << 8 ^ other as u64) << 8 ^ c as u64;
     let once = (key ^ key >> 30).wrapping_mul(0xbf58_476d_1ce4_e5b9);
     let twice = (once ^ once >> 27).wrapping_mul(0x94d0_49bb_1331_11eb);
     (twice ^ twice >> 31) % 16 < 9

@@ -12,12 +12,12 @@ returns-in-Ok c =
     let by_key = c.in-Ok.ensures.position (λ x. x.0) (answers_always _ _ _ (λ f a r g called. search rules)) in
     let items = c.args.entries.now.items in
     let bound = rw c.deref.ensures.value at c.in-Ok.ensures.bound in
-    put-at items (c.args.s, c.args.c) c.in-Ok.i (0, 0) c.requires.ascending bound (found-key (λ x. x.0) items c.args.s c.in-Ok.i (0, 0) (rw c.deref.ensures.value at by_key))
+    put-at items (c.args.station, c.args.c) c.in-Ok.i (0, 0) c.requires.ascending bound (found-key (λ x. x.0) items c.args.station c.in-Ok.i (0, 0) (rw c.deref.ensures.value at by_key))
 
 pub returns-in_default : goal.returns-in_default
 returns-in_default c =
     let by_key = c.in_default.ensures.position (λ x. x.0) (answers_always _ _ _ (λ f a r g called. search rules)) in
     let items = c.args.entries.now.items in
-    let none = found-no_key (λ x. x.0) c.deref.result.now c.args.s c.in_default.field-0 c.in_default.ensures.bound by_key (rw c.deref.ensures.value c.requires.ascending) in
+    let none = found-no_key (λ x. x.0) c.deref.result.now c.args.station c.in_default.field-0 c.in_default.ensures.bound by_key (rw c.deref.ensures.value c.requires.ascending) in
     let missing = rw c.deref.ensures.value at none in
-    absurd (both_ways (has_station items c.args.s) (sym (list_any-map (λ z. z == c.args.s) (λ y. y.0) items) ∙ missing) c.requires.there)
+    absurd (both_ways (has_station items c.args.station) (sym (list_any-map (λ z. z == c.args.station) (λ y. y.0) items) ∙ missing) c.requires.there)

@@ -5,4 +5,4 @@ use Rattle.assign_check.proofs.assignment.stands.Goals as goal
 
 pub returns : goal.returns
 returns c =
-    c.eq.ensures ∙ ap (λ o. option_eq nat_eq o (Some c.args.c)) c.channel_in.ensures ∙ stands-exactly c.args.s c.args.c c.args.entries.now c.requires
+    c.eq.ensures ∙ ap (λ o. option_eq nat_eq o (Some c.args.c)) c.channel_in.ensures ∙ stands-exactly c.args.station c.args.c c.args.entries.now c.requires

@@ -143,10 +143,10 @@ fn rows_that_are_refused(rt: HostRuntime) {
 }
 
 // The row of s with each station above it up to 2,829.
-fn row_of(alloc: Global, s: u32) -> Result<String, AllocError> {
-    let mut row = format!(in alloc; "CO,14,14,{s}")?;
+fn row_of(alloc: Global, station: u32) -> Result<String, AllocError> {
+    let mut row = format!(in alloc; "CO,14,14,{station}")?;
     for t in 1..2_830 {
-        if t > s {
+        if t > station {
             row.push_str(format!(in alloc; ",{t}")?.as_str())?;
         }
     }

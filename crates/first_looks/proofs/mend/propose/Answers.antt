@@ -8,6 +8,6 @@ use Rattle.first_looks.proofs.mend.propose.Goals as goal
 
 pub returns : goal.returns
 returns c = λ d there free.
-    let are : AreWays c.args.book.now c.args.map.now c.args.s c.deref.result.now = subst (AreWays c.args.book.now c.args.map.now c.args.s) (sym c.deref.ensures.value) c.in_ok-ways.ensures in
-    let found : is_some c.free_channel.result ≡ true = found-free c.args.book.now c.args.map.now c.args.s d c.deref.result.now c.domain.result.now (is_some c.free_channel.result) are c.domain.ensures c.free_channel.ensures.some there free in
+    let are : AreWays c.args.book.now c.args.map.now c.args.station c.deref.result.now = subst (AreWays c.args.book.now c.args.map.now c.args.station) (sym c.deref.ensures.value) c.in_ok-ways.ensures in
+    let found : is_some c.free_channel.result ≡ true = found-free c.args.book.now c.args.map.now c.args.station d c.deref.result.now c.domain.result.now (is_some c.free_channel.result) are c.domain.ensures c.free_channel.ensures.some there free in
     absurd (false≢true (sym (ap is_some c.in_default.is) ∙ found))

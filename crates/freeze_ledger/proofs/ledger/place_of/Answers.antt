@@ -6,5 +6,5 @@ use Rattle.freeze_ledger.proofs.ledger.place_of.Goals as goal
 
 pub returns-clause-place : goal.returns-clause-place
 returns-clause-place c =
-    let low = IsPartitionPoint-from_clause (λ (y : ℕ × ℕ). nat_lt y.0 c.args.s) _ _ c.partition_point.ensures.partitioned (IsPartitionedBy-ltb (λ (y : ℕ × ℕ). y.0) c.args.entries.now c.args.s (rising c.args.entries.now c.requires)) (λ a r q k. search rules) in
-    λ price. insert-place c.args.s price c.args.entries.now c.partition_point.result c.partition_point.ensures.bound low
+    let low = IsPartitionPoint-from_clause (λ (y : ℕ × ℕ). nat_lt y.0 c.args.station) _ _ c.partition_point.ensures.partitioned (IsPartitionedBy-ltb (λ (y : ℕ × ℕ). y.0) c.args.entries.now c.args.station (rising c.args.entries.now c.requires)) (λ a r q k. search rules) in
+    λ price. insert-place c.args.station price c.args.entries.now c.partition_point.result c.partition_point.ensures.bound low

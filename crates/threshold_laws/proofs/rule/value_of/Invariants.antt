@@ -3,4 +3,4 @@ use Rattle.pack_defs.specs.Scenario.{value_in}
 use Rattle.threshold_laws.proofs.rule.value_of.Given as goal
 
 abbrev pub invariant-loop-x : goal.invariant-loop-x
-invariant-loop-x l = value_in (drop l.x-index l.stations) l.s ≡ value_in l.stations l.s
+invariant-loop-x l = value_in (drop l.x-index l.stations) l.station ≡ value_in l.stations l.station

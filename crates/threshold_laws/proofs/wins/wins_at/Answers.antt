@@ -9,12 +9,12 @@ use Rattle.threshold_laws.proofs.wins.wins_at.Goals as goal
 
 pub run-requires : goal.run-requires
 run-requires c =
-    let same = (with_value_agrees c.args.sc.now c.args.s c.args.v).same_facilities ∙ ap facilities (sym c.in_ok-sc.ensures) in
+    let same = (with_value_agrees c.args.sc.now c.args.station c.args.v).same_facilities ∙ ap facilities (sym c.in_ok-sc.ensures) in
     subst IsStrictlyIncreasing same c.requires.ascend
 
 pub returns : goal.returns
 unfolding wins
 returns c =
     c.is_frozen.ensures
-    ∙ ap (λ state. is_frozen state c.args.s)
+    ∙ ap (λ state. is_frozen state c.args.station)
     (c.in_ok-clock.ensures ∙ ap (λ sc. clock_rule sc c.args.book.now c.args.order []) c.in_ok-sc.ensures)

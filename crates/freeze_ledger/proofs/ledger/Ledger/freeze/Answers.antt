@@ -8,7 +8,7 @@ use Rattle.freeze_ledger.proofs.ledger.Ledger.freeze.Goals as goal
 
 pub invariant_of-self : goal.invariant_of-self
 invariant_of-self c =
-    let s : ℕ = c.args.s in
+    let s : ℕ = c.args.station in
     let price : ℕ = c.args.price in
     let own : List (ℕ × ℕ) = c.self.inside.entries.items in
     let place : insert own c.place_of-place.result (s, price) ≡ with_price s price own = subst (λ xs. insert xs c.place_of-place.result (s, price) ≡ with_price s price xs) c.deref.ensures.value (c.place_of-place.ensures.place price) in

@@ -5,6 +5,6 @@ use Rattle.threshold_laws.proofs.clock.PlainClock.air.Goals as goal
 
 pub returns : goal.returns
 returns c =
-    let kept : c.retain.new.self.items ≡ without c.self.inside.active.items c.args.s =
-    filter_same _ (λ y. not (eqb y c.args.s)) _ (λ x b f' k. search rules) _ _ c.retain.ensures.filtered in
+    let kept : c.retain.new.self.items ≡ without c.self.inside.active.items c.args.station =
+    filter_same _ (λ y. not (eqb y c.args.station)) _ (λ x b f' k. search rules) _ _ c.retain.ensures.filtered in
     rw (← c.self.view_is, c.in_ok-push.ensures.items, kept) refl

@@ -5,8 +5,8 @@ use Rattle.threshold_laws.proofs.rule.PlainRule.exits.Goals as goal
 
 pub returns-then-round-self : goal.returns-then-round-self
 returns-then-round-self c =
-    exits-at_last c.args.self.now.sc.now c.args.s c.args.round _ (ap length c.args.self.now.priced) c.if-round-self.true
+    exits-at_last c.args.self.now.sc.now c.args.station c.args.round _ (ap length c.args.self.now.priced) c.if-round-self.true
 
 pub returns-else-round-self : goal.returns-else-round-self
 returns-else-round-self c =
-    exits-before c.args.self.now.sc.now c.args.s c.args.round _ c.declines.result (ap length c.args.self.now.priced) c.if-round-self.false c.declines.ensures
+    exits-before c.args.self.now.sc.now c.args.station c.args.round _ c.declines.result (ap length c.args.self.now.priced) c.if-round-self.false c.declines.ensures
