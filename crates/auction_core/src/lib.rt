@@ -25,6 +25,7 @@ pub mod record;
 pub mod setup;
 mod shown_by;
 mod start;
+pub mod station_list;
 mod step_check;
 mod step_err;
 pub mod step_list;

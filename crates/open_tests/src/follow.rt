@@ -1,7 +1,6 @@
 //! The first steps of a record, gone through by reference beside a clock and a map of their own.
 
-ghost use Rattle.std.specs.Prelude.{◌≡◌, ◌<◌, ◌≤◌, ℕ, [], IfOk, IsFalse, MatchOption, if◌then◌else◌, is_some, length, map, option_map, slice_index, slice_set, take, true, unwrap_or};
-ghost use Rattle.std.specs.List.Sorted.{IsStrictlyIncreasing};
+ghost use Rattle.std.specs.Prelude.{◌≡◌, ◌<◌, ◌≤◌, ℕ, [], IfOk, if◌then◌else◌, is_some, length, map, option_map, slice_set, take, true, unwrap_or};
 ghost use Rattle.pack_defs.specs.ChannelMap.{overlaid};
 ghost use Rattle.pack_defs.specs.Lists.{has_station, is_in};
 ghost use Rattle.pack_defs.specs.Scenario.{IsWithinLimits, StationsAscend, facilities};
@@ -13,11 +12,11 @@ ghost use Rattle.open_tests.specs.Follow.{IsLeftSo, fit_named};
 use auction_core::air_map::AirMap;
 use auction_core::clock::{Clock, Standing};
 use auction_core::record::{Ending, Record, Shown, Step};
+use auction_core::station_list::place_of;
 use offer_sched::offers::schedule;
 use pack_defs::book::Book;
 use pack_defs::channel_map::ChannelMap;
 use pack_defs::scenario::Scenario;
-use pack_defs::station::Station;
 use std::alloc::{AllocError as NoMemory, Global};
 
 /// Where the first steps of a record leave the clock and the channel map.
@@ -25,17 +24,6 @@ use std::alloc::{AllocError as NoMemory, Global};
 pub(crate) struct Left {
     pub(crate) clock: Clock,
     pub(crate) map: AirMap,
-}
-
-// The place of the station of this number.
-fn place_of(stations: &[Station], id: u32) -> Option<usize>
-    requires { IsStrictlyIncreasing (map (λ x. x.id) stations.now) }
-    ensures { MatchOption result (IsFalse (is_in (map (λ x. x.id) stations.now) id))
-        (λ i. (i < length stations.now) × (slice_index (map (λ x. x.id) stations.now) i ≡ id)) }
-{
-    stations
-        .binary_search_by_key(&id, |station| station.id)
-        .ok()
 }
 
 // The channels that it is shown by, if it is a fit.

@@ -1,8 +1,6 @@
 //! What became of each station of a finished auction, from its record.
 
-ghost use Rattle.std.specs.Prelude.{◌≡◌, ◌<◌, IfOk, IsFalse, MatchOption, length, map, slice_index};
-ghost use Rattle.std.specs.List.Sorted.{IsStrictlyIncreasing};
-ghost use Rattle.pack_defs.specs.Lists.{is_in};
+ghost use Rattle.std.specs.Prelude.{◌≡◌, ◌<◌, IfOk};
 ghost use Rattle.pack_defs.specs.Scenario.{IsWithinLimits, facilities};
 ghost use Rattle.auction_core.specs.Backed.{IsBacked, is_undecided, undecided_of};
 ghost use Rattle.auction_core.specs.Clock.{IsClockOf};
@@ -10,9 +8,9 @@ ghost use Rattle.result_text.specs.ResultText.{each_frozen_by, final_state};
 
 use auction_core::clock::Clock;
 use auction_core::record::{Ending, Record, Shown};
+use auction_core::station_list::place_of;
 use offer_sched::offers::schedule;
 use pack_defs::book::Book;
-use pack_defs::station::Station;
 use std::alloc::{AllocError as NoMemory, Global};
 
 /// What became of each station, in the scenario's order.
@@ -21,17 +19,6 @@ pub(crate) struct Outcomes {
     pub(crate) clock: Clock,
     /// Whether an undecided test froze the station.
     pub(crate) undecided: Vec<bool>,
-}
-
-// The place of the station of this number.
-fn place_of(stations: &[Station], id: u32) -> Option<usize>
-    requires { IsStrictlyIncreasing (map (λ x. x.id) stations.now) }
-    ensures { MatchOption result (IsFalse (is_in (map (λ x. x.id) stations.now) id))
-        (λ i. (i < length stations.now) × (slice_index (map (λ x. x.id) stations.now) i ≡ id)) }
-{
-    stations
-        .binary_search_by_key(&id, |station| station.id)
-        .ok()
 }
 
 // Whether every worker spent its budget on the test.

@@ -2,8 +2,7 @@
 //! says which stations are on air when a step's test is asked, hence over how many clauses the step's logs are
 //! numbered.
 
-ghost use Rattle.std.specs.Prelude.{◌≡◌, ◌≤◌, ◌+◌, ◌<◌, ◌^◌, IfOk, IsFalse, IsTrue, MatchOption, length, map, slice_index};
-ghost use Rattle.std.specs.List.Sorted.{IsStrictlyIncreasing};
+ghost use Rattle.std.specs.Prelude.{◌≡◌, ◌≤◌, ◌+◌, ◌<◌, ◌^◌, IfOk, IsTrue, length};
 ghost use Rattle.pack_defs.specs.ClockRule.{ClockState};
 ghost use Rattle.pack_defs.specs.Lists.{is_in};
 ghost use Rattle.pack_defs.specs.Scenario.{IsWithinLimits, StationsAscend, facilities};
@@ -17,23 +16,12 @@ use crate::parts::{push_end, push_start, push_step, push_version};
 use crate::test_set::test_set;
 use auction_core::clock::Clock;
 use auction_core::record::{Ending, Record, Shown, Step};
+use auction_core::station_list::place_of;
 use cnf_encode::count::clause_count;
 use offer_sched::offers::schedule;
 use pack_defs::book::Book;
 use pack_defs::scenario::Scenario;
-use pack_defs::station::Station;
 use std::alloc::{AllocError as NoMemory, Global};
-
-// The place of the station of this number.
-fn place_of(stations: &[Station], id: u32) -> Option<usize>
-    requires { IsStrictlyIncreasing (map (λ x. x.id) stations.now) }
-    ensures { MatchOption result (IsFalse (is_in (map (λ x. x.id) stations.now) id))
-        (λ i. (i < length stations.now) × (slice_index (map (λ x. x.id) stations.now) i ≡ id)) }
-{
-    stations
-        .binary_search_by_key(&id, |station| station.id)
-        .ok()
-}
 
 // How many clauses the formula of a test's set has: of the stations that its station reaches among those on air.
 fn test_clauses(
