@@ -1,9 +1,9 @@
 //! How a board is raised, looked at and closed.
 
 ghost use Rattle.std.specs.Prelude.{◌≡◌, ◌≤◌, IfErr, IfOk, length, map};
-ghost use Rattle.turn_lock.specs.Passes.{IsIdle, IsLegal, known_of, mine_of, seen_of, standing};
-ghost use Rattle.turn_lock.specs.Turns.{AllOf, IsWhole, StartsWith, each_new};
-ghost use Rattle.answer_board.specs.Boards.{AreAllOn, IsPassOn, beginning_of, raised};
+ghost use Rattle.turn_lock.specs.Passes.{IsIdle, known_of, mine_of, seen_of, standing};
+ghost use Rattle.turn_lock.specs.Turns.{AllOf, IsWhole, each_new};
+ghost use Rattle.answer_board.specs.Boards.{AreAllOn, GoesOnIdle, IsIdleOn, beginning_of, raised};
 ghost use Rattle.answer_board.specs.Entries.{numbered};
 ghost use Rattle.answer_board.specs.Posts.{LookIs, Sees};
 
@@ -61,14 +61,9 @@ impl Board {
 
     /// What stands in the auction. It waits for its turn. The only error is want of memory.
     pub fn look<R: Wait>(&self, rt: &R, alloc: Global, pass: &mut Pass) -> Result<Look, NoMemory>
-        requires own { IsPassOn self.now pass.old }
-        requires idle { IsIdle pass.old }
-        ensures own { IsPassOn self.now pass.new }
-        ensures idle { IsIdle pass.new }
-        ensures standing { standing pass.new ≡ standing pass.old }
-        ensures seen { StartsWith (seen_of pass.new) (seen_of pass.old) }
+        requires idle { IsIdleOn self.now pass.old }
+        ensures idle { GoesOnIdle self.now pass.old pass.new }
         ensures mine { mine_of pass.new ≡ mine_of pass.old }
-        ensures legal { IsLegal pass.new }
         ensures look { IfOk result (λ look. Sees (raised self.now) (seen_of pass.new) (λ state. LookIs (raised self.now).scenario (raised self.now).book state look)) }
     {
         let turn = self.lock.enter(rt, pass);
@@ -81,14 +76,9 @@ impl Board {
 
     /// The number of the standing query; once the auction has ended, one past the last. It waits for its turn.
     pub fn current<R: Wait>(&self, rt: &R, pass: &mut Pass) -> u64
-        requires own { IsPassOn self.now pass.old }
-        requires idle { IsIdle pass.old }
-        ensures own { IsPassOn self.now pass.new }
-        ensures idle { IsIdle pass.new }
-        ensures standing { standing pass.new ≡ standing pass.old }
-        ensures seen { StartsWith (seen_of pass.new) (seen_of pass.old) }
+        requires idle { IsIdleOn self.now pass.old }
+        ensures idle { GoesOnIdle self.now pass.old pass.new }
         ensures mine { mine_of pass.new ≡ mine_of pass.old }
-        ensures legal { IsLegal pass.new }
         ensures number { Sees (raised self.now) (seen_of pass.new) (λ state. result ≡ state.number) }
     {
         let turn = self.lock.enter(rt, pass);

@@ -40,8 +40,8 @@ leave-requires-clause-base g c =
     let taken : IsTaken value c.meets.new.auction posting c.in-Ok-Told.reply = told (Fit []) in
     ap (λ t. beginning_of t.value.auction) c.commit.ensures.value ∙ (taken.beginning ∙ c.enter-turn.ensures.base)
 
-pub returns-in-Ok-Told-clause-seen : goal.returns-in-Ok-Told-clause-seen
-returns-in-Ok-Told-clause-seen g c =
+pub returns-in-Ok-Told-clause-idle : goal.returns-in-Ok-Told-clause-idle
+returns-in-Ok-Told-clause-idle g c =
     let value = c.enter-turn.result.value.auction in
     let told = subst (HasMet value c.meets.new.auction c.number-worker.result c.args.number) c.in-Ok-Told.field-0-is c.in-Ok-Told.ensures.met in
     let posting : PostingView = record { worker = c.number-worker.result; number = c.args.number; answer = Fit [] } in
@@ -50,7 +50,13 @@ returns-in-Ok-Told-clause-seen g c =
     let whole = ap numbered taken.history ∙ (numbered-more value.history e ∙ ap (λ l. l ++ (c.number-worker.result, e) ∷ []) c.enter-turn.ensures.value) in
     let last = ap (λ k. k.seen) c.leave.ensures.known ∙ c.commit.ensures.seen in
     let begins = c.enter-turn.ensures.seen in
-    (begins.0 ++ (c.number-worker.result, e) ∷ [], last ∙ (whole ∙ (ap (λ l. l ++ (c.number-worker.result, e) ∷ []) begins.1 ∙ append_assoc (seen_of c.args.pass.now) begins.0 ((c.number-worker.result, e) ∷ []))))
+    record {
+      own = c.leave.ensures.own;
+      idle = c.leave.ensures.idle;
+      stands = c.leave.ensures.standing ∙ (c.commit.ensures.standing ∙ c.enter-turn.ensures.standing);
+      seen = (begins.0 ++ (c.number-worker.result, e) ∷ [], last ∙ (whole ∙ (ap (λ l. l ++ (c.number-worker.result, e) ∷ []) begins.1 ∙ append_assoc (seen_of c.args.pass.now) begins.0 ((c.number-worker.result, e) ∷ []))));
+      legal = search rules;
+    }
 
 pub returns-in-Ok-Told-clause-met : goal.returns-in-Ok-Told-clause-met
 returns-in-Ok-Told-clause-met g c answer =

@@ -50,8 +50,8 @@ leave-requires-clause-base g c =
     let taken : IsTaken value c.tells.new.auction posting c.in-Ok.reply = c.in-Ok.ensures.taken c.args.answer.now.value stands in
     ap (λ t. beginning_of t.value.auction) c.commit.ensures.value ∙ (taken.beginning ∙ c.enter-turn.ensures.base)
 
-pub returns-in-Ok-clause-seen : goal.returns-in-Ok-clause-seen
-returns-in-Ok-clause-seen g c =
+pub returns-in-Ok-clause-idle : goal.returns-in-Ok-clause-idle
+returns-in-Ok-clause-idle g c =
     let value = c.enter-turn.result.value.auction in
     let said : Posting = record { worker = c.number-worker.result; number = c.args.number; said = c.args.said } in
     let on = subst (λ w. StandsOn (raised c.args.self.now) (seen_of c.args.pass.now) (record { worker = w; number = c.args.number; said = c.args.said }) c.args.answer.now.value) (sym c.number-worker.ensures) c.requires.stands in
@@ -62,7 +62,13 @@ returns-in-Ok-clause-seen g c =
     let whole = ap numbered taken.history ∙ (numbered-more value.history e ∙ ap (λ l. l ++ (c.number-worker.result, e) ∷ []) c.enter-turn.ensures.value) in
     let last = ap (λ k. k.seen) c.leave.ensures.known ∙ c.commit.ensures.seen in
     let begins = c.enter-turn.ensures.seen in
-    (begins.0 ++ (c.number-worker.result, e) ∷ [], last ∙ (whole ∙ (ap (λ l. l ++ (c.number-worker.result, e) ∷ []) begins.1 ∙ append_assoc (seen_of c.args.pass.now) begins.0 ((c.number-worker.result, e) ∷ []))))
+    record {
+      own = c.leave.ensures.own;
+      idle = c.leave.ensures.idle;
+      stands = c.leave.ensures.standing ∙ (c.commit.ensures.standing ∙ c.enter-turn.ensures.standing);
+      seen = (begins.0 ++ (c.number-worker.result, e) ∷ [], last ∙ (whole ∙ (ap (λ l. l ++ (c.number-worker.result, e) ∷ []) begins.1 ∙ append_assoc (seen_of c.args.pass.now) begins.0 ((c.number-worker.result, e) ∷ []))));
+      legal = search rules;
+    }
 
 pub returns-in-Ok-clause-posted : goal.returns-in-Ok-clause-posted
 returns-in-Ok-clause-posted g c =
