@@ -1,4 +1,4 @@
-use Rattle.std.proofs.Common.{◌≡◌, ◌∙◌, ◌++◌, ◌∷◌, [], Some, ap, sym, subst, append_assoc}
+use Rattle.std.proofs.Common.{rules, ◌≡◌, ◌∙◌, ◌++◌, ◌∷◌, [], Some, ap, sym, subst, append_assoc}
 use Rattle.std.specs.Prelude.{slice_get}
 use Rattle.cert_types.specs.declared.answer.Answer.TheVariants.{Fit}
 use Rattle.cert_types.specs.Query.{IsQuery}

@@ -1,4 +1,4 @@
-use Rattle.std.proofs.Common.{◌∙◌, ◌++◌, ◌∷◌, [], ap, sym, subst, append_assoc}
+use Rattle.std.proofs.Common.{rules, ◌∙◌, ◌++◌, ◌∷◌, [], ap, sym, subst, append_assoc}
 use Rattle.auction_core.specs.Replay.{EntryView, entry_of}
 use Rattle.auction_core.specs.Take.{PostingView}
 use Rattle.auction_core.specs.declared.posting.Posting.{Posting}
