@@ -99,9 +99,9 @@ pub(crate) const LINES_TO_ONE_DROPPED: usize = 2;
 /// Chosen without a measurement.
 pub(crate) const MOST_LEVELS_OF_KEPT_LINE: u32 = 4;
 
-/// Lines that no stored clause needs are let go once for each so many that were held after the last time one more is held,
-/// and `LINES_TO_SPARE_BEFORE_SWEEP` more: a sweep moves all that stay, and so comes the later the more they are. Chosen
-/// without a measurement.
+/// Lines that no stored clause needs are let go in a sweep, once to each so many that were held after the last one another is
+/// held, and `LINES_TO_SPARE_BEFORE_SWEEP` beside these: a sweep moves all that stay, and so comes the later the more they
+/// are. Chosen without a measurement.
 pub(crate) const LINES_HELD_TO_ONE_NEW: usize = 2;
 
 /// So many more, so that a sweep of few lines isn't made again and again. Chosen without a measurement.
