@@ -117,7 +117,7 @@ impl Cdcl {
     /// are wanted, is searched for once or twice more. What that suggests is checked before it is said. Where it comes to no
     /// answer, a search begins anew, with the whole budget: over the stations that it says do not fit, if it does, and then
     /// over the whole set, of which a receipt always is. In each search the poll is asked before the first line and then
-    /// after each 16.
+    /// now and again (`LINES_BETWEEN_POLLS` of `policy`).
     ///
     /// The seed decides which of two variables comes first that are equally active. With seed 0 nothing is left to chance:
     /// that is their places in a heap, which begins in the variables' order. Any other seed gives each variable an activity

@@ -1,4 +1,8 @@
 //! The whole search: step after step, until it is decided, its budget is spent or another query stands.
+//!
+//! `solve` asks the poll now and then, and ends where it answers another number. Else it takes a step: one that learns a line
+//! is followed by the next, as long as fewer lines are learnt than the budget has; a model, or the last line of a refutation,
+//! ends it.
 
 ghost use Rattle.std.specs.Prelude.{◌≡◌, ◌≤◌, IfOk, length};
 ghost use Rattle.cdcl_prove.specs.Search.{SearchEndIs};
@@ -23,7 +27,8 @@ pub(crate) enum SearchEnd {
 }
 
 /// Searches until there is a model or a refutation, or so many lines are learnt, or the poll answers another number than
-/// this one. The poll is asked before the first line, and then after each 16.
+/// this one. The poll is asked before the first line, and then now and again (`LINES_BETWEEN_POLLS`
+/// of `policy`).
 pub(crate) fn solve<P: Poll>(
     alloc: Global,
     search: &mut Search,

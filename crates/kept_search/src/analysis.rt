@@ -10,6 +10,7 @@ use crate::engine::Engine;
 use crate::hint::{Hint, Reason};
 use crate::literal::Literal;
 use crate::marks::Mark;
+use crate::policy::STEPS_OF_CONFLICT;
 use std::alloc::AllocError as NoMemory;
 
 // Facts come before this rank, by their lines, and behind it the literals as they came to the trail.
@@ -82,7 +83,7 @@ impl Engine {
                 continue;
             }
             self.marks.mark(var, Mark::Met)?;
-            self.play.order.raise(var, 1.0);
+            self.play.order.raise(var, STEPS_OF_CONFLICT);
             if level >= last {
                 open = open.saturating_add(1);
             } else {

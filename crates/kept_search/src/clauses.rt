@@ -3,16 +3,13 @@
 use crate::cells::{read, short};
 use crate::hint::Hint;
 use crate::literal::Literal;
-use crate::policy::LINE_DECAY;
+use crate::policy::{LINE_DECAY, MOST_ACTIVITY};
 use crate::trail::{KeptTrail, Value};
 use std::alloc::{AllocError as NoMemory, Global};
 use std::mem::replace;
 
 // Before the literals of a clause stand how many there are, and the place of what is known of it.
-const PREFIX: u32 = 2;
-
-// Where a use is above this, all are scaled down.
-const MOST: f64 = 1e100;
+const WORDS_BEFORE_LITERALS: u32 = 2;
 
 /// A clause that watches a literal, and another literal of it: where that is true, the clause needs no look.
 #[derive(Clone, Copy)]
@@ -85,7 +82,7 @@ impl KeptClauses {
 
     /// The codes of a clause's literals.
     pub(crate) fn codes(&self, at: u32) -> &[u32] {
-        let begin = at.saturating_add(PREFIX) as usize;
+        let begin = at.saturating_add(WORDS_BEFORE_LITERALS) as usize;
         let end = begin + read(&self.words, at, 0) as usize;
         if end <= self.words.len() {
             &self.words[begin..end]
@@ -101,7 +98,9 @@ impl KeptClauses {
 
     /// A literal of a clause, from 0.
     pub(crate) fn literal(&self, at: u32, place: u32) -> Literal {
-        let at = at.saturating_add(PREFIX).saturating_add(place);
+        let at = at
+            .saturating_add(WORDS_BEFORE_LITERALS)
+            .saturating_add(place);
         Literal {
             code: read(&self.words, at, 0),
         }
@@ -165,11 +164,11 @@ impl KeptClauses {
             return;
         }
         self.heads[place].used = self.heads[place].used + self.step;
-        if self.heads[place].used > MOST {
+        if self.heads[place].used > MOST_ACTIVITY {
             for head in self.heads.iter_mut() {
-                head.used = head.used / MOST;
+                head.used = head.used / MOST_ACTIVITY;
             }
-            self.step = self.step / MOST;
+            self.step = self.step / MOST_ACTIVITY;
         }
     }
 
@@ -203,7 +202,7 @@ impl KeptClauses {
         watch: KeptWatch,
         falsified: Literal,
     ) -> Result<KeptLook, NoMemory> {
-        let begin = watch.at.saturating_add(PREFIX) as usize;
+        let begin = watch.at.saturating_add(WORDS_BEFORE_LITERALS) as usize;
         let end = begin + read(&self.words, watch.at, 0) as usize;
         if end > self.words.len() || end - begin < 2 {
             return Ok(KeptLook::Moved);

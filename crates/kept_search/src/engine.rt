@@ -8,7 +8,7 @@ use crate::lines::KeptLines;
 use crate::literal::Literal;
 use crate::marks::AnalysisMarks;
 use crate::play::{NOBODY, Play};
-use crate::policy::{LINES_BETWEEN, Policy};
+use crate::policy::{LINES_BETWEEN_THINNINGS, Policy};
 use crate::restarts::Restarts;
 use crate::ties::Ties;
 use crate::trail::KeptTrail;
@@ -36,7 +36,7 @@ pub(crate) struct Engine {
     pub(crate) room: usize,
     // What is known is at odds with itself.
     pub(crate) is_lost: bool,
-    // The stations of the query, of them the tested one, and those that wait for their test, the next one last.
+    // The places of the query's stations, of the tested one, and of those that wait for their test, the next one last.
     pub(crate) set: Vec<u32>,
     pub(crate) tested: u32,
     pub(crate) waiting: Vec<u32>,
@@ -58,7 +58,7 @@ impl Engine {
             is_due: false,
             line: Vec::new(alloc),
             hints: Vec::new(alloc),
-            room: LINES_BETWEEN,
+            room: LINES_BETWEEN_THINNINGS,
             is_lost: false,
             set: Vec::new(alloc),
             tested: NOBODY,
@@ -75,9 +75,9 @@ impl Engine {
         }
     }
 
-    /// The variable that says that a station is in the set.
-    pub(crate) fn selector(&self, station: u32) -> u32 {
-        self.grid.vars().saturating_add(station)
+    /// The variable that says that the station at a place is in the set.
+    pub(crate) fn selector(&self, place: u32) -> u32 {
+        self.grid.vars().saturating_add(place)
     }
 
     /// Whether a variable is of a channel.
@@ -97,15 +97,15 @@ impl Engine {
         Ok(())
     }
 
-    /// A station comes into play: its variables can be decided, and at first it is tried on its last channel.
-    pub(crate) fn disturb(&mut self, station: u32) -> Result<(), NoMemory> {
-        if self.play.bring_in(station)? {
-            let channel = self.play.standing(station).channel;
-            for var in self.grid.vars_of(station) {
+    /// The station at a place comes into play: its variables can be decided, and at first it is tried on its last channel.
+    pub(crate) fn disturb(&mut self, place: u32) -> Result<(), NoMemory> {
+        if self.play.bring_in(place)? {
+            let channel = self.play.standing(place).channel;
+            for var in self.grid.vars_of(place) {
                 self.play.set_phase(var, var == channel);
             }
         }
-        for var in self.grid.vars_of(station) {
+        for var in self.grid.vars_of(place) {
             if self.trail.is_open(var) {
                 self.play.order.put(var)?;
             }
@@ -161,10 +161,10 @@ impl Engine {
         if !self.is_channel(var) {
             return Ok(());
         }
-        let station = self.grid.owner(var);
-        let standing = self.play.standing(station);
+        let place = self.grid.owner(var);
+        let standing = self.play.standing(place);
         if standing.channel == var && standing.in_set {
-            self.disturb(station)?;
+            self.disturb(place)?;
         }
         Ok(())
     }

@@ -1,18 +1,19 @@
 //! A book as numbers: a place for each station, a variable for each of its channels, and of each variable those that
-//! interfere with it.
+//! interfere with it. Here and in what calls this, `station` is a station's own number, and `place` where the book has it.
 
 use crate::cells::{filled, part, read, short, write};
 use pack_defs::book::Book;
 use std::alloc::{AllocError as NoMemory, Global};
 use std::ops::Range;
 
-/// Stations from 0 and variables from 0, both in the order of the book. The lists of rivals are made once and lie flat.
+/// Places of stations and variables, both from 0 and in the order of the book. Lists of rivals are made once and lie flat.
 #[derive(Drop)]
 pub(crate) struct Grid {
-    facilities: Vec<u32>,
-    // Of each station its first variable, and behind the last how many there are.
+    // Of each place the number of its station.
+    stations: Vec<u32>,
+    // Of each place the first variable of its station, and behind the last how many there are.
     firsts: Vec<u32>,
-    // Of each variable its station and its channel.
+    // Of each variable the place of its station, and its channel.
     owners: Vec<u32>,
     channels: Vec<u8>,
     // Of each variable where its rivals begin, and behind the last how many there are.
@@ -46,7 +47,7 @@ impl Grid {
     /// The same numbers once more.
     pub(crate) fn copy(&self, alloc: Global) -> Result<Grid, NoMemory> {
         Ok(Grid {
-            facilities: Vec::from_slice(alloc, &self.facilities)?,
+            stations: Vec::from_slice(alloc, &self.stations)?,
             firsts: Vec::from_slice(alloc, &self.firsts)?,
             owners: Vec::from_slice(alloc, &self.owners)?,
             channels: Vec::from_slice(alloc, &self.channels)?,
@@ -59,7 +60,7 @@ impl Grid {
 
     fn empty(alloc: Global, top: u8, pairs: usize) -> Grid {
         Grid {
-            facilities: Vec::new(alloc),
+            stations: Vec::new(alloc),
             firsts: Vec::new(alloc),
             owners: Vec::new(alloc),
             channels: Vec::new(alloc),
@@ -73,14 +74,14 @@ impl Grid {
     /// Whether these may be the numbers of a book: as many stations, channels and pairs. Another book of the same size leads
     /// to suggestions that are worth nothing.
     pub(crate) fn may_be_of(&self, book: &Book) -> bool {
-        self.facilities.len() == book.len() as usize
+        self.stations.len() == book.len() as usize
             && self.top == book.top()
             && self.pairs == book.pairs().len()
     }
 
     /// The number of stations.
     pub(crate) fn stations(&self) -> u32 {
-        short(self.facilities.len())
+        short(self.stations.len())
     }
 
     /// The number of variables.
@@ -88,26 +89,26 @@ impl Grid {
         short(self.owners.len())
     }
 
-    /// The facility of a station.
-    pub(crate) fn facility(&self, station: u32) -> u32 {
-        read(&self.facilities, station, 0)
+    /// The number of the station at a place.
+    pub(crate) fn station_at(&self, place: u32) -> u32 {
+        read(&self.stations, place, 0)
     }
 
-    /// The place of a facility, if the book has it.
-    pub(crate) fn station(&self, facility: u32) -> Option<u32> {
-        match self.facilities.binary_search(&facility) {
+    /// The place of a station, if the book has it.
+    pub(crate) fn place_of(&self, station: u32) -> Option<u32> {
+        match self.stations.binary_search(&station) {
             Ok(place) => Some(short(place)),
             Err(_) => None,
         }
     }
 
-    /// The variables of a station.
-    pub(crate) fn vars_of(&self, station: u32) -> Range<u32> {
-        let end = read(&self.firsts, station.saturating_add(1), 0);
-        read(&self.firsts, station, end)..end
+    /// The variables of the station at a place.
+    pub(crate) fn vars_of(&self, place: u32) -> Range<u32> {
+        let end = read(&self.firsts, place.saturating_add(1), 0);
+        read(&self.firsts, place, end)..end
     }
 
-    /// The station of a variable.
+    /// The place of a variable's station.
     pub(crate) fn owner(&self, var: u32) -> u32 {
         read(&self.owners, var, u32::MAX)
     }
@@ -117,9 +118,9 @@ impl Grid {
         read(&self.channels, var, 0)
     }
 
-    /// The variable of a station's channel, if it may use that.
-    pub(crate) fn var_of(&self, station: u32, channel: u8) -> Option<u32> {
-        let vars = self.vars_of(station);
+    /// The variable of a channel of the station at a place, if it may use that.
+    pub(crate) fn var_of(&self, place: u32, channel: u8) -> Option<u32> {
+        let vars = self.vars_of(place);
         match part(&self.channels, vars.start, vars.end).binary_search(&channel) {
             Ok(place) => Some(vars.start.saturating_add(short(place))),
             Err(_) => None,
@@ -147,11 +148,11 @@ impl Grid {
         if place >= book.len() {
             return Ok(());
         }
-        let facility = book.facility(place);
+        let station = book.facility(place);
         let first = self.vars();
-        self.facilities.push(facility)?;
+        self.stations.push(station)?;
         self.firsts.push(first)?;
-        for channel in book.domain(facility) {
+        for channel in book.domain(station) {
             self.owners.push(place)?;
             self.channels.push(*channel)?;
         }
@@ -171,8 +172,8 @@ impl Grid {
         Ok(couples)
     }
 
-    fn entry(&self, facility: u32, channel: u8) -> Option<u32> {
-        self.var_of(self.station(facility)?, channel)
+    fn entry(&self, station: u32, channel: u8) -> Option<u32> {
+        self.var_of(self.place_of(station)?, channel)
     }
 
     // Counts the rivals of each variable, and then puts each in its place. A variable's come in the order of the pairs, those

@@ -5,7 +5,7 @@
 pub(crate) enum Hint {
     /// Two variables that may not both be true: two channels of one station, or two that interfere.
     Pair { v: u32, w: u32 },
-    /// The clause of a station: it stands on one of its channels, if it is in the set.
+    /// The clause of the station at this place: it stands on one of its channels, if it is in the set.
     Own(u32),
     /// An earlier line.
     Line(u32),

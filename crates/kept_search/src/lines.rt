@@ -3,9 +3,10 @@
 use crate::cells::{filled, part, read, short, write};
 use crate::hint::Hint;
 use crate::literal::Literal;
+use crate::policy::LINES_HELD_TO_ONE_NEW;
 use std::alloc::{AllocError as NoMemory, Global};
 
-// A hint begins with one of these: the first of two variables, a station, or the number of a line with neither.
+// A hint begins with one of these: the first of two variables, the place of a station, or the number of a line with neither.
 const PAIR: u32 = 1 << 31;
 
 const OWN: u32 = 1 << 30;
@@ -125,7 +126,7 @@ impl KeptLines {
         self.held
             > self
                 .swept
-                .saturating_add(self.swept / 2)
+                .saturating_add(self.swept / LINES_HELD_TO_ONE_NEW)
                 .saturating_add(spare)
     }
 
@@ -193,7 +194,7 @@ fn push_hint(words: &mut Vec<u32>, hint: Hint) -> Result<(), NoMemory> {
             words.push(v | PAIR)?;
             words.push(w)?;
         }
-        Hint::Own(station) => words.push(station | OWN)?,
+        Hint::Own(place) => words.push(place | OWN)?,
         Hint::Line(line) => words.push(line)?,
     }
     Ok(())

@@ -16,7 +16,7 @@ use std::alloc::{AllocError as NoMemory, Global};
 struct Numbering {
     // Of each variable its number, from 1; 0 where its station is not one of these.
     vars: Vec<u32>,
-    // Of each station the number of its own clause, and how many clauses come before those of its channels two by two.
+    // Of each place the number of its station's own clause, and how many come before those of its channels two by two.
     owns: Vec<u32>,
     twos: Vec<u64>,
     // Of each variable how many clauses come before its pairs, and where these begin among the variables of all pairs.
@@ -31,7 +31,7 @@ struct Numbering {
 impl Engine {
     /// The log that the cone is, without the literals that say of a station that it is in the set.
     pub(crate) fn log(&self, alloc: Global) -> Result<Log, NoMemory> {
-        let numbering = Numbering::of(alloc, &self.grid, &self.cone.stations)?;
+        let numbering = Numbering::of(alloc, &self.grid, &self.cone.places)?;
         let mut lines = Lines::new(alloc);
         let (mut literals, mut hints) = (Vec::new(alloc), Vec::new(alloc));
         let (mut lits, mut numbers) = (Vec::new(alloc), Vec::new(alloc));
@@ -58,8 +58,8 @@ impl Engine {
 }
 
 impl Numbering {
-    // The numbers of the packing formula of these stations.
-    fn of(alloc: Global, grid: &Grid, stations: &[u32]) -> Result<Numbering, NoMemory> {
+    // The numbers of the packing formula of the stations at these places.
+    fn of(alloc: Global, grid: &Grid, places: &[u32]) -> Result<Numbering, NoMemory> {
         let vars = grid.vars();
         let mut numbering = Numbering {
             vars: filled(alloc, vars, 0)?,
@@ -69,24 +69,24 @@ impl Numbering {
             begins: filled(alloc, vars, 0)?,
             ends: filled(alloc, vars, 0)?,
             seconds: Vec::new(alloc),
-            clauses: stations.len() as u64,
+            clauses: places.len() as u64,
         };
-        numbering.number_stations(grid, stations);
-        for station in stations {
-            for var in grid.vars_of(*station) {
+        numbering.number_stations(grid, places);
+        for place in places {
+            for var in grid.vars_of(*place) {
                 numbering.number_pairs(grid, var)?;
             }
         }
         Ok(numbering)
     }
 
-    fn number_stations(&mut self, grid: &Grid, stations: &[u32]) {
+    fn number_stations(&mut self, grid: &Grid, places: &[u32]) {
         let mut last: u32 = 0;
-        for (i, station) in stations.iter().enumerate() {
-            write(&mut self.owns, *station, short(i).saturating_add(1));
-            write(&mut self.twos, *station, self.clauses);
+        for (i, place) in places.iter().enumerate() {
+            write(&mut self.owns, *place, short(i).saturating_add(1));
+            write(&mut self.twos, *place, self.clauses);
             let mut count: u64 = 0;
-            for var in grid.vars_of(*station) {
+            for var in grid.vars_of(*place) {
                 last = last.saturating_add(1);
                 write(&mut self.vars, var, last);
                 count = count.saturating_add(1);
@@ -113,8 +113,8 @@ impl Numbering {
     // The number of a clause of the formula, or of a line behind it.
     fn number(&self, grid: &Grid, cone: &Cone, hint: Hint) -> u64 {
         match hint {
-            Hint::Own(station) => read(&self.owns, station, 0) as u64,
-            Hint::Line(line) => self.clauses.saturating_add(cone.place(line) as u64),
+            Hint::Own(place) => read(&self.owns, place, 0) as u64,
+            Hint::Line(line) => self.clauses.saturating_add(cone.rank(line) as u64),
             Hint::Pair { v, w } => {
                 let (first, second) = (v.min(w), v.max(w));
                 if grid.owner(first) == grid.owner(second) {
@@ -128,13 +128,13 @@ impl Numbering {
 
     // Of a station's channels the first with each later one comes first, and so on.
     fn number_of_two(&self, grid: &Grid, first: u32, second: u32) -> u64 {
-        let station = grid.owner(first);
-        let vars = grid.vars_of(station);
+        let place = grid.owner(first);
+        let vars = grid.vars_of(place);
         let count = vars.end.saturating_sub(vars.start) as u64;
         let row = first.saturating_sub(vars.start) as u64;
         let later = (2 * count).saturating_sub(row).saturating_sub(1);
         let earlier = row.saturating_mul(later) / 2;
-        read(&self.twos, station, 0)
+        read(&self.twos, place, 0)
             .saturating_add(earlier)
             .saturating_add(second.saturating_sub(first) as u64)
     }

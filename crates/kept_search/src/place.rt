@@ -11,42 +11,42 @@ use crate::trail::Value;
 use std::alloc::AllocError as NoMemory;
 
 impl Engine {
-    /// A station stands on air, on the channel of this variable.
-    pub(crate) fn stand(&mut self, station: u32, var: u32) -> Result<(), NoMemory> {
-        let standing = self.play.standing(station);
+    /// The station at a place stands on air, on the channel of this variable.
+    pub(crate) fn stand(&mut self, place: u32, var: u32) -> Result<(), NoMemory> {
+        let standing = self.play.standing(place);
         if !standing.on_air {
-            self.join(station)?;
+            self.join(place)?;
         }
-        let mut standing = self.play.standing(station);
+        let mut standing = self.play.standing(place);
         standing.channel = var;
-        self.play.set(station, standing);
+        self.play.set(place, standing);
         Ok(())
     }
 
-    /// Whether of these facilities at most one in so many is not on air yet, the tested one left out.
-    pub(crate) fn knows_most(&self, facilities: &[u32], tested: u32, one_in: u32) -> bool {
+    /// Whether of these stations at most one in so many is not on air yet, the tested one left out.
+    pub(crate) fn knows_most(&self, stations: &[u32], tested: u32, one_in: u32) -> bool {
         let mut others: u32 = 0;
-        for facility in facilities {
-            if *facility != tested && !self.is_on_air(*facility) {
+        for station in stations {
+            if *station != tested && !self.is_on_air(*station) {
                 others = others.saturating_add(1);
             }
         }
-        others.saturating_mul(one_in) <= short(facilities.len())
+        others.saturating_mul(one_in) <= short(stations.len())
     }
 
-    /// Begins the test of a station beside those on air, by this policy.
-    pub(crate) fn begin(&mut self, station: u32, policy: Policy) -> Result<(), NoMemory> {
+    /// Begins the test of the station at a place beside those on air, by this policy.
+    pub(crate) fn begin(&mut self, place: u32, policy: Policy) -> Result<(), NoMemory> {
         self.go_back(0)?;
         self.play.clear();
-        self.tested = station;
+        self.tested = place;
         self.policy = policy;
-        let mut standing = self.play.standing(station);
+        let mut standing = self.play.standing(place);
         standing.channel = NOWHERE;
-        self.play.set(station, standing);
-        self.activate(station)?;
+        self.play.set(place, standing);
+        self.activate(place)?;
         self.restarts = Restarts::new(policy.restart_unit);
         self.is_due = false;
-        self.disturb(station)?;
+        self.disturb(place)?;
         if policy.all_in_play {
             self.disturb_all()?;
         }
@@ -62,10 +62,10 @@ impl Engine {
         self.disturb_all()
     }
 
-    /// Lets the search try a station on a channel first.
-    pub(crate) fn prefer(&mut self, station: u32, var: u32) -> Result<(), NoMemory> {
-        self.disturb(station)?;
-        let last = self.play.standing(station).channel;
+    /// Lets the search try the station at a place on the channel of this variable first.
+    pub(crate) fn prefer(&mut self, place: u32, var: u32) -> Result<(), NoMemory> {
+        self.disturb(place)?;
+        let last = self.play.standing(place).channel;
         self.play.set_phase(last, false);
         self.play.set_phase(var, true);
         Ok(())
@@ -73,17 +73,17 @@ impl Engine {
 
     /// Where a fit was found: each station that it moves stands on its new channel, the tested one among them.
     pub(crate) fn adopt(&mut self) {
-        for place in 0..self.trail.len() {
-            let literal = self.trail.at(place);
+        for at in 0..self.trail.len() {
+            let literal = self.trail.at(at);
             let var = literal.var();
             if literal.is_negated() || !self.is_channel(var) {
                 continue;
             }
-            let station = self.grid.owner(var);
-            let mut standing = self.play.standing(station);
+            let place = self.grid.owner(var);
+            let mut standing = self.play.standing(place);
             if standing.in_set {
                 standing.channel = var;
-                self.play.set(station, standing);
+                self.play.set(place, standing);
             }
         }
     }
@@ -98,32 +98,32 @@ impl Engine {
         Ok(())
     }
 
-    fn is_on_air(&self, facility: u32) -> bool {
-        match self.grid.station(facility) {
-            Some(station) => self.play.standing(station).on_air,
+    fn is_on_air(&self, station: u32) -> bool {
+        match self.grid.place_of(station) {
+            Some(place) => self.play.standing(place).on_air,
             None => false,
         }
     }
 
     // Each station of the set that is on air comes into play.
     fn disturb_all(&mut self) -> Result<(), NoMemory> {
-        for place in 0..short(self.set.len()) {
-            let station = read(&self.set, place, NOBODY);
-            if self.play.is_in_set(station) {
-                self.disturb(station)?;
+        for i in 0..short(self.set.len()) {
+            let place = read(&self.set, i, NOBODY);
+            if self.play.is_in_set(place) {
+                self.disturb(place)?;
             }
         }
         Ok(())
     }
 
-    // A station comes on air for good.
-    fn join(&mut self, station: u32) -> Result<(), NoMemory> {
+    // The station at a place comes on air for good.
+    fn join(&mut self, place: u32) -> Result<(), NoMemory> {
         self.go_back(0)?;
-        self.activate(station)?;
-        let mut standing = self.play.standing(station);
+        self.activate(place)?;
+        let mut standing = self.play.standing(place);
         standing.on_air = true;
-        self.play.set(station, standing);
-        let selector = Literal::of(self.selector(station));
+        self.play.set(place, standing);
+        let selector = Literal::of(self.selector(place));
         match self.trail.value(selector) {
             Value::Open => self.assign(selector, Reason::Chosen)?,
             Value::True => {}
@@ -132,18 +132,18 @@ impl Engine {
         Ok(())
     }
 
-    // The station is in the set: its own clause, and what the facts say of its channels.
-    fn activate(&mut self, station: u32) -> Result<(), NoMemory> {
-        let mut standing = self.play.standing(station);
+    // The station at a place is in the set: its own clause, and what the facts say of its channels.
+    fn activate(&mut self, place: u32) -> Result<(), NoMemory> {
+        let mut standing = self.play.standing(place);
         let is_new = !standing.has_clause;
         standing.in_set = true;
         standing.has_clause = true;
-        self.play.set(station, standing);
-        for v in self.grid.vars_of(station) {
+        self.play.set(place, standing);
+        for v in self.grid.vars_of(place) {
             self.rule_out_by_facts(v)?;
         }
         if is_new {
-            self.add_own_clause(station)?;
+            self.add_own_clause(place)?;
         }
         Ok(())
     }
@@ -162,17 +162,17 @@ impl Engine {
         Ok(())
     }
 
-    // A station that is in the set stands on one of its channels.
-    fn add_own_clause(&mut self, station: u32) -> Result<(), NoMemory> {
+    // The station at a place, if it is in the set, stands on one of its channels.
+    fn add_own_clause(&mut self, place: u32) -> Result<(), NoMemory> {
         self.line.clear();
-        for var in self.grid.vars_of(station) {
+        for var in self.grid.vars_of(place) {
             self.line.push(Literal::of(var))?;
         }
-        let selector = self.selector(station);
+        let selector = self.selector(place);
         self.line.push(Literal::against(selector))?;
         let found = self.open_first();
         let first = read(&self.line, 0, Literal::of(0));
-        let at = self.clauses.add(&self.line, Hint::Own(station), 0, 0.0)?;
+        let at = self.clauses.add(&self.line, Hint::Own(place), 0, 0.0)?;
         if found == 1 && self.trail.value(first) == Value::Open {
             self.assign(first, Reason::Clause { at })?;
         }

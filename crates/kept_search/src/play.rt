@@ -8,7 +8,7 @@ use std::alloc::{AllocError as NoMemory, Global};
 /// The variable of a station without a channel.
 pub(crate) const NOWHERE: u32 = u32::MAX;
 
-/// No station.
+/// The place of no station.
 pub(crate) const NOBODY: u32 = u32::MAX;
 
 /// How a station stands.
@@ -40,6 +40,7 @@ pub(crate) struct Play {
     // Of each variable the value that it had last, and with which it is tried first.
     phases: Vec<bool>,
     pub(crate) order: ActivityOrder,
+    // The places of the stations in play.
     played: Vec<u32>,
 }
 
@@ -54,19 +55,19 @@ impl Play {
         })
     }
 
-    /// How a station stands.
-    pub(crate) fn standing(&self, station: u32) -> StationState {
-        read(&self.standings, station, OFF_AIR)
+    /// How the station at a place stands.
+    pub(crate) fn standing(&self, place: u32) -> StationState {
+        read(&self.standings, place, OFF_AIR)
     }
 
-    /// Notes how a station stands.
-    pub(crate) fn set(&mut self, station: u32, standing: StationState) {
-        write(&mut self.standings, station, standing);
+    /// Notes how the station at a place stands.
+    pub(crate) fn set(&mut self, place: u32, standing: StationState) {
+        write(&mut self.standings, place, standing);
     }
 
-    /// Whether a station is on air or tested.
-    pub(crate) fn is_in_set(&self, station: u32) -> bool {
-        self.standing(station).in_set
+    /// Whether the station at a place is on air or tested.
+    pub(crate) fn is_in_set(&self, place: u32) -> bool {
+        self.standing(place).in_set
     }
 
     /// The value with which a variable is tried.
@@ -79,15 +80,15 @@ impl Play {
         write(&mut self.phases, var, value);
     }
 
-    /// A station comes into play. Whether it was not yet.
-    pub(crate) fn bring_in(&mut self, station: u32) -> Result<bool, NoMemory> {
-        let mut standing = self.standing(station);
+    /// The station at a place comes into play. Whether it was not yet.
+    pub(crate) fn bring_in(&mut self, place: u32) -> Result<bool, NoMemory> {
+        let mut standing = self.standing(place);
         if standing.in_play {
             return Ok(false);
         }
         standing.in_play = true;
-        self.set(station, standing);
-        self.played.push(station)?;
+        self.set(place, standing);
+        self.played.push(place)?;
         Ok(true)
     }
 
@@ -95,12 +96,12 @@ impl Play {
     pub(crate) fn clear(&mut self) {
         self.order.clear();
         for _ in 0..self.played.len() {
-            let Some(station) = self.played.pop() else {
+            let Some(place) = self.played.pop() else {
                 return;
             };
-            let mut standing = self.standing(station);
+            let mut standing = self.standing(place);
             standing.in_play = false;
-            self.set(station, standing);
+            self.set(place, standing);
         }
     }
 }

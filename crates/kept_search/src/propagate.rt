@@ -1,4 +1,9 @@
 //! What follows from the literals that are true, until nothing more does or a clause is false.
+//!
+//! `visit` goes along the clauses that watch a literal which became false. One whose blocker is true stays without a look,
+//! and so does each behind a false clause. Of the others one whose other watched literal is true stays, and one that finds
+//! a literal to watch in the place of the false one leaves the list. The rest stay: the other watched literal becomes true
+//! where it is open, and the clause is the conflict where it is false. What is looked at and stays has it for its blocker.
 
 use crate::clauses::{KeptLook, KeptWatch};
 use crate::engine::Engine;

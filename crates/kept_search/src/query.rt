@@ -1,5 +1,10 @@
 //! A query from its beginning to its end. Where several stations have no channel yet, as at the start of an auction, one after
 //! the other is tested beside those before it.
+//!
+//! `search` takes turn after turn. One that learns a line is counted, and after so many of them the search is left open.
+//! Where the tested station fits, its fit is adopted, and it ends: with the test of the next one begun, where one waits, or
+//! with a fit. Where the station is refuted, the query is over, and the search ends with the line that says so; it ends,
+//! too, where it is lost. After any other turn comes the next.
 
 ghost use Rattle.std.specs.Bool.{OnTrue};
 ghost use Rattle.pack_defs.specs.ChannelMap.{IsAscending};
@@ -38,8 +43,8 @@ impl Engine {
         self.tested = NOBODY;
         self.set.clear();
         self.waiting.clear();
-        for facility in set.iter().rev() {
-            self.place(*facility, last.get(*facility))?;
+        for station in set.iter().rev() {
+            self.take_in(*station, last.get(*station))?;
         }
         self.test_next()?;
         if let Some(fit) = from {
@@ -50,25 +55,25 @@ impl Engine {
         Ok(())
     }
 
-    /// Begins the test of one of these facilities beside the others, which come on air where they are not yet.
+    /// Begins the test of one of these stations beside the others, which come on air where they are not yet.
     pub(crate) fn begin_beside(
         &mut self,
-        facilities: &[u32],
+        stations: &[u32],
         tested: u32,
         policy: Policy,
     ) -> Result<(), NoMemory> {
         self.end()?;
         self.set.clear();
-        for facility in facilities {
-            if let Some(station) = self.grid.station(*facility) {
-                self.set.push(station)?;
-                if *facility != tested {
-                    self.stand(station, NOWHERE)?;
+        for station in stations {
+            if let Some(place) = self.grid.place_of(*station) {
+                self.set.push(place)?;
+                if *station != tested {
+                    self.stand(place, NOWHERE)?;
                 }
             }
         }
-        match self.grid.station(tested) {
-            Some(station) => self.begin(station, policy),
+        match self.grid.place_of(tested) {
+            Some(place) => self.begin(place, policy),
             None => Ok(()),
         }
     }
@@ -112,10 +117,10 @@ impl Engine {
         last: &ChannelMap,
     ) -> Result<Option<ChannelMap>, NoMemory> {
         let mut entries = Vec::new(alloc);
-        for facility in set {
-            if let Some(channel) = self.channel_of(*facility) {
-                if last.get(*facility) != Some(channel) {
-                    entries.push((*facility, channel))?;
+        for station in set {
+            if let Some(channel) = self.channel_of(*station) {
+                if last.get(*station) != Some(channel) {
+                    entries.push((*station, channel))?;
                 }
             }
         }
@@ -127,16 +132,16 @@ impl Engine {
     }
 
     // A station of the set stands where it is, or waits for its test.
-    fn place(&mut self, facility: u32, channel: Option<u8>) -> Result<(), NoMemory> {
-        let Some(station) = self.grid.station(facility) else {
+    fn take_in(&mut self, station: u32, channel: Option<u8>) -> Result<(), NoMemory> {
+        let Some(place) = self.grid.place_of(station) else {
             return Ok(());
         };
-        self.set.push(station)?;
+        self.set.push(place)?;
         match channel {
-            None => self.waiting.push(station)?,
+            None => self.waiting.push(place)?,
             Some(channel) => {
-                if let Some(var) = self.grid.var_of(station, channel) {
-                    self.stand(station, var)?;
+                if let Some(var) = self.grid.var_of(place, channel) {
+                    self.stand(place, var)?;
                 }
             }
         }
@@ -145,22 +150,22 @@ impl Engine {
 
     // Begins the test of the next station that waits. Whether one did.
     fn test_next(&mut self) -> Result<bool, NoMemory> {
-        let Some(station) = self.waiting.pop() else {
+        let Some(place) = self.waiting.pop() else {
             return Ok(false);
         };
-        self.begin(station, USUAL)?;
+        self.begin(place, USUAL)?;
         Ok(true)
     }
 
-    fn prefer_entry(&mut self, facility: u32, channel: u8) -> Result<(), NoMemory> {
-        let Some(station) = self.grid.station(facility) else {
+    fn prefer_entry(&mut self, station: u32, channel: u8) -> Result<(), NoMemory> {
+        let Some(place) = self.grid.place_of(station) else {
             return Ok(());
         };
-        let Some(var) = self.grid.var_of(station, channel) else {
+        let Some(var) = self.grid.var_of(place, channel) else {
             return Ok(());
         };
-        if self.play.is_in_set(station) {
-            self.prefer(station, var)?;
+        if self.play.is_in_set(place) {
+            self.prefer(place, var)?;
         }
         Ok(())
     }
@@ -172,15 +177,15 @@ impl Engine {
         if self.waiting.is_empty() {
             return Ok(false);
         }
-        let station = self.tested;
-        let channel = self.play.standing(station).channel;
-        self.stand(station, channel)?;
+        let place = self.tested;
+        let channel = self.play.standing(place).channel;
+        self.stand(place, channel)?;
         self.test_next()
     }
 
-    fn channel_of(&self, facility: u32) -> Option<u8> {
-        let station = self.grid.station(facility)?;
-        let var = self.play.standing(station).channel;
+    fn channel_of(&self, station: u32) -> Option<u8> {
+        let place = self.grid.place_of(station)?;
+        let var = self.play.standing(place).channel;
         if self.is_channel(var) {
             Some(self.grid.channel(var))
         } else {

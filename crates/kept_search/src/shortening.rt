@@ -4,7 +4,10 @@
 
 use crate::engine::Engine;
 use crate::grid::Grid;
-use crate::policy::{CONFLICTS_OF_FIVE, LINES_LONG, LINES_SHORT, NEW_OF_CROWD, SHORTENING};
+use crate::policy::{
+    CONFLICTS_OF_SHARE, CROWD_STATIONS_TO_ONE_NEW, LINES_OF_LONG_LOG, LINES_OF_SHARE,
+    LINES_OF_SHORT_LOG, SHORTENING,
+};
 use crate::query::Found;
 use crate::searcher::LogLength;
 use crate::suggestion::Disproof;
@@ -14,7 +17,7 @@ use std::alloc::{AllocError as NoMemory, Global};
 #[derive(Drop)]
 pub(crate) struct Shortening {
     // The stations of the shortest one so far, how many lines it has, and itself, unless it is the one that was known.
-    facilities: Vec<u32>,
+    stations: Vec<u32>,
     lines: usize,
     found: Option<Disproof>,
     tested: u32,
@@ -33,7 +36,7 @@ impl Shortening {
     pub(crate) fn is_worth(lines: usize, budget: u32, logs: LogLength) -> bool {
         let most = budget as usize;
         match logs {
-            LogLength::Short => lines > LINES_SHORT.min(most),
+            LogLength::Short => lines > LINES_OF_SHORT_LOG.min(most),
             LogLength::Any => lines > most,
         }
     }
@@ -46,14 +49,14 @@ impl Shortening {
         crowd: Option<Engine>,
         budget: u32,
     ) -> Result<Shortening, NoMemory> {
-        let facilities = known.named(alloc)?;
+        let stations = known.named(alloc)?;
         let lines = known.cone.lines.len();
-        let tested = known.grid.facility(known.tested);
-        let mut engine = engine_for(alloc, &known.grid, crowd, &facilities, tested)?;
-        engine.begin_beside(&facilities, tested, SHORTENING[0])?;
+        let tested = known.grid.station_at(known.tested);
+        let mut engine = engine_for(alloc, &known.grid, crowd, &stations, tested)?;
+        engine.begin_beside(&stations, tested, SHORTENING[0])?;
         let budget = budget as usize;
         Ok(Shortening {
-            facilities,
+            stations,
             lines,
             found: None,
             tested,
@@ -90,7 +93,7 @@ impl Shortening {
         let lines = self.engine.cone.lines.len();
         if lines < self.lines {
             self.lines = lines;
-            self.facilities = self.engine.named(alloc)?;
+            self.stations = self.engine.named(alloc)?;
             self.found = Some(Disproof::of_cone(alloc, &self.engine)?);
         }
         Ok(())
@@ -99,14 +102,14 @@ impl Shortening {
     // Whether no policy is left, or the shortest disproof is short enough. Else the search begins by the next policy, from nothing.
     fn is_over(&mut self, alloc: Global) -> Result<bool, NoMemory> {
         self.policy = self.policy.saturating_add(1);
-        let short = LINES_LONG.min(self.budget);
+        let short = LINES_OF_LONG_LOG.min(self.budget);
         if self.policy >= SHORTENING.len() || self.lines <= short {
             return Ok(true);
         }
         let policy = SHORTENING[self.policy];
         self.engine = Engine::new(alloc, self.engine.grid.copy(alloc)?, policy)?;
         self.engine
-            .begin_beside(&self.facilities, self.tested, policy)?;
+            .begin_beside(&self.stations, self.tested, policy)?;
         self.left = conflicts_for(self.lines, self.budget);
         Ok(false)
     }
@@ -118,22 +121,22 @@ fn conflicts_for(lines: usize, budget: usize) -> usize {
     if lines > budget {
         lines
     } else {
-        lines / 5 * CONFLICTS_OF_FIVE
+        lines / LINES_OF_SHARE * CONFLICTS_OF_SHARE
     }
 }
 
-// What was learnt of a crowd, if most of these facilities are of it; else what knows nothing of the same book.
+// What was learnt of a crowd, if most of these stations are of it; else what knows nothing of the same book.
 fn engine_for(
     alloc: Global,
     grid: &Grid,
     crowd: Option<Engine>,
-    facilities: &[u32],
+    stations: &[u32],
     tested: u32,
 ) -> Result<Engine, NoMemory> {
     let Some(engine) = crowd else {
         return Engine::new(alloc, grid.copy(alloc)?, SHORTENING[0]);
     };
-    if engine.knows_most(facilities, tested, NEW_OF_CROWD) {
+    if engine.knows_most(stations, tested, CROWD_STATIONS_TO_ONE_NEW) {
         return Ok(engine);
     }
     Engine::new(alloc, engine.grid, SHORTENING[0])

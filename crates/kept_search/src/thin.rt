@@ -1,24 +1,27 @@
-//! Half of the lines that are little used are dropped now and then, and the rest moved together.
+//! Of the lines that are little used a part is dropped now and then, and the rest moved together.
 
 use crate::cells::{filled, write};
 use crate::clauses::{ClauseHead, KeptClauses};
 use crate::engine::Engine;
 use crate::hint::Hint;
 use crate::literal::Literal;
-use crate::policy::{GLUE_KEPT, LINES_BETWEEN, LINES_SPARE};
+use crate::policy::{
+    LINES_BETWEEN_THINNINGS, LINES_TO_ONE_DROPPED, LINES_TO_SPARE_BEFORE_SWEEP,
+    MOST_LEVELS_OF_KEPT_LINE,
+};
 use crate::trail::Value;
 use std::alloc::{AllocError as NoMemory, Global};
 use std::cmp::OrderedFloat;
 use std::mem::replace;
 
 impl Engine {
-    /// At level 0: where so many lines came since the last time, drops half of those of more than a few levels, the least used
-    /// first.
+    /// At level 0: where so many lines came since the last time, drops a part (`LINES_TO_ONE_DROPPED`) of those of more than
+    /// a few levels, the least used first.
     pub(crate) fn thin_out(&mut self, alloc: Global) -> Result<(), NoMemory> {
         if self.clauses.lines() <= self.room {
             return Ok(());
         }
-        let bound = self.middle_use(alloc)?;
+        let bound = self.bounding_use(alloc)?;
         let fresh = KeptClauses::new(alloc, self.trail.vars())?;
         let old = replace(&mut self.clauses, fresh);
         for head in old.heads() {
@@ -27,12 +30,12 @@ impl Engine {
             }
         }
         self.clauses.count_on_from(&old);
-        self.room = self.clauses.lines().saturating_add(LINES_BETWEEN);
+        self.room = self.clauses.lines().saturating_add(LINES_BETWEEN_THINNINGS);
         self.let_lines_go(alloc)
     }
 
-    // The use below which half of the lines are that may be dropped.
-    fn middle_use(&self, alloc: Global) -> Result<f64, NoMemory> {
+    // The use below which the part of the lines is that goes of those that may be dropped.
+    fn bounding_use(&self, alloc: Global) -> Result<f64, NoMemory> {
         let mut uses = Vec::new(alloc);
         for head in self.clauses.heads() {
             if may_drop(&self.clauses, *head) {
@@ -40,9 +43,9 @@ impl Engine {
             }
         }
         uses.sort_unstable_by_key(|used| OrderedFloat(*used));
-        let middle = uses.len() / 2;
-        if middle < uses.len() {
-            Ok(uses[middle])
+        let at = uses.len() / LINES_TO_ONE_DROPPED;
+        if at < uses.len() {
+            Ok(uses[at])
         } else {
             Ok(0.0)
         }
@@ -85,7 +88,7 @@ impl Engine {
 
     // Where many lines are held, lets go of those that no clause and no fact needs.
     fn let_lines_go(&mut self, alloc: Global) -> Result<(), NoMemory> {
-        if !self.lines.is_full(LINES_SPARE) {
+        if !self.lines.is_full(LINES_TO_SPARE_BEFORE_SWEEP) {
             return Ok(());
         }
         let mut needed = filled(alloc, self.lines.len(), false)?;
@@ -100,7 +103,9 @@ impl Engine {
 
 // Whether a clause is a line of more than two literals and of more than a few levels.
 fn may_drop(clauses: &KeptClauses, head: ClauseHead) -> bool {
-    matches!(head.name, Hint::Line(_)) && head.glue > GLUE_KEPT && clauses.size(head.at) > 2
+    matches!(head.name, Hint::Line(_))
+        && head.glue > MOST_LEVELS_OF_KEPT_LINE
+        && clauses.size(head.at) > 2
 }
 
 fn is_dropped(clauses: &KeptClauses, head: ClauseHead, bound: f64) -> bool {

@@ -1,14 +1,11 @@
 //! Which of two variables comes first that are equally active.
 
+use crate::policy::CHANCE_BELOW;
 use rand_core::utils::NextWord;
 use rand_pcg::Lcg64Xsh32;
 
-// What chance gives to a variable is below this. A preference or a conflict counts for 1.0 or more on the same scale, so that
-// chance decides where they leave a tie, and hardly anywhere else.
-const BELOW: f64 = 0.001;
-
 // Chance draws one of so many words.
-const WORDS: f64 = 4_294_967_296.0;
+const WORD_COUNT: f64 = 4_294_967_296.0;
 
 /// What breaks the ties of the order in which variables are decided. The same seed and stream break them in the same way.
 /// Nothing that the solver says rests on it.
@@ -35,7 +32,7 @@ impl Ties {
             Ties::ByPlace => 0.0,
             Ties::ByChance(words) => {
                 let word: u32 = words.next_word();
-                f64::from(word) / WORDS * BELOW
+                f64::from(word) / WORD_COUNT * CHANCE_BELOW
             }
         }
     }

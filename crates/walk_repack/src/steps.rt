@@ -1,5 +1,9 @@
 //! The whole walk: move after move, until no pair is violated, one is dead, the budget is spent or another query
 //! stands.
+//!
+//! `run` asks the poll now and then, and ends where it answers another number. Else it looks at a violated pair: where there
+//! is none, or that one is dead, it ends; where not, one station of the pair moves to another channel of its domain. Once
+//! as many moves are made as the budget has, it looks once more, without a move.
 
 ghost use Rattle.std.specs.Prelude.{ℕ, ◌≡◌, ◌≤◌, IfOk, length};
 ghost use Rattle.walk_repack.specs.Steps.{WalkEndIs, WalkStepIs};

@@ -1,4 +1,8 @@
 //! How many pairs each station would violate on each channel, for the walk's policy.
+//!
+//! `violated` goes along the pairs from a station, from the first one of its channel up to the last. Those whose other
+//! station stands on the pair's other channel are violated: it passes over as many of these as it is told to, and says where
+//! the next one is. Where they come to an end before, `violated_to` goes on in the same way along all pairs to the station.
 
 use crate::pick::Pick;
 use crate::places::Places;
