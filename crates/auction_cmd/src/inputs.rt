@@ -24,7 +24,7 @@ use scenario_json::scenario::read_scenario;
 use std::alloc::{AllocError, Global};
 
 /// The greatest length of an input file, in bytes.
-pub(crate) const FILE_LIMIT: u64 = 268_435_456;
+pub const FILE_LIMIT: u64 = 268_435_456;
 
 /// Why the inputs were not read.
 #[derive(Clone, Copy, Debug, PartialEq, Eq)]

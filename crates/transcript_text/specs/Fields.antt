@@ -10,6 +10,7 @@ use Rattle.lrat_text.specs.LogReading.{natural, field_of}
 use Rattle.lrat_text.specs.LogText.{greatest}
 use Rattle.transcript_text.specs.declared.error.TextErr.{TextErr}
 use Rattle.transcript_text.specs.declared.error.TextErr.TheVariants.{BadLine, Truncated}
+use Rattle.transcript_text.specs.declared.fields.TheConstants.{GREATEST_U32, MOST_COUNTED}
 use Rattle.pack_defs.specs.Steps.{◌>>=◌}
 
 -- the whole lines that are left of a text, and the number of the first of them
@@ -79,11 +80,11 @@ number_at most line = do
 
 -- the greatest round, facility or worker that a field may have
 abbrev pub greatest_u32 : ℕ
-greatest_u32 = 4294967295
+greatest_u32 = GREATEST_U32
 
 -- the most entries, lines or moves that a field may count
 abbrev pub most_counted : ℕ
-most_counted = 1000000
+most_counted = MOST_COUNTED
 
 abbrev pub count_at : FieldsLeft → Result (ℕ × FieldsLeft) TextErr
 count_at = number_at most_counted
