@@ -2,6 +2,7 @@
 
 ghost use Rattle.std.specs.Prelude.{◌≡◌, ◌≤◌, All, IfErr, IfOk, List, None, Ok, OnOk, Some, length};
 ghost use Rattle.outside_io.specs.Files.{StoredFile};
+ghost use Rattle.batch_list.specs.ListOf.{list_limit};
 ghost use Rattle.pack_defs.specs.Book.{stations_of};
 ghost use Rattle.pack_defs.specs.Scenario.{IsWithinLimits, facilities};
 ghost use Rattle.auction_core.specs.Setup.{IsOfAuction};
