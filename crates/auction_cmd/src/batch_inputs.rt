@@ -65,7 +65,7 @@ fn read_constraints<F: Folder>(
 fn list_from<F: Folder>(alloc: Global, folder: &mut F, name: &str) -> Result<Vec<BatchLine>, Stop>
     ensures told { (files : List StoredFile) → (F.told folder.old).files ≡ Some files →
         Agrees (λ v. v.items) (F.told folder.old).steady (list_named files name.now) result }
-    ensures few { IfOk result (λ v. length v.items ≤ 256) }
+    ensures few { IfOk result (λ v. length v.items ≤ list_limit) }
     ensures files { (F.told folder.new).files ≡ (F.told folder.old).files }
     ensures steady { (F.told folder.new).steady ≡ (F.told folder.old).steady }
     ensures counted { CountsFault (F.told folder.old).faults (F.told folder.new).faults result }
@@ -88,7 +88,7 @@ pub fn read_listed<F: Folder>(
 ) -> Result<Listed, Stop>
     ensures told { (files : List StoredFile) → (F.told folder.old).files ≡ Some files →
         Agrees listed_seen (F.told folder.old).steady (listing_of files (inputs_seen names.now)) result }
-    ensures few { IfOk result (λ l. length l.lines.items ≤ 256) }
+    ensures few { IfOk result (λ l. length l.lines.items ≤ list_limit) }
     ensures files { (F.told folder.new).files ≡ (F.told folder.old).files }
     ensures steady { (F.told folder.new).steady ≡ (F.told folder.old).steady }
     ensures counted { CountsFault (F.told folder.old).faults (F.told folder.new).faults result }
