@@ -2,6 +2,7 @@
 use Rattle.std.specs.Prelude.{ℕ, Bool, true, false, not, ◌≡◌, ◌<◌, ◌≤◌, get_or, ◌+◌, ◌==◌, nat_lt, nat_le, if◌then◌else◌, List, [], ◌∷◌, length, Option, Some, None, Result, Ok, Err}
 use Rattle.std.specs.Str.{all_ascii_digits, bytes_eq}
 use Rattle.pack_defs.specs.Lists.{is_empty, is_in}
+use Rattle.pack_defs.specs.declared.limits.TheConstants.{GREATEST_CHANNEL, LEAST_CHANNEL}
 use Rattle.pack_defs.specs.declared.scenario.Scenario.{Scenario}
 use Rattle.pack_defs.specs.Scenario.{facilities}
 use Rattle.lrat_text.specs.declared.field.Field.{Field}
@@ -98,8 +99,8 @@ station_at sc line = do
 -- a channel, 14 to 51
 unfoldable pub channel_at : FieldsLeft → Result (ℕ × FieldsLeft) TextErr
 channel_at line = do
-  c ← number_at 51 line
-  if nat_le 14 c.0 then Ok c else Err (BadLine line.number)
+  c ← number_at GREATEST_CHANNEL line
+  if nat_le LEAST_CHANNEL c.0 then Ok c else Err (BadLine line.number)
 
 -- a worker of the scenario
 unfoldable pub worker_at : Scenario → FieldsLeft → Result (ℕ × FieldsLeft) TextErr
