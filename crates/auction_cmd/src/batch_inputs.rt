@@ -80,6 +80,8 @@ fn list_from<F: Folder>(alloc: Global, folder: &mut F, name: &str) -> Result<Vec
 }
 
 /// What the constraint files and the list hold, read in this order. The list's name stands in the place of a scenario's.
+/// The error is the first of these files that can't be read or is refused, one that is too long among the latter, or want of
+/// memory.
 #[tactic(auto, unfolding(crate::specs::Batch::listing_of))]
 pub fn read_listed<F: Folder>(
     alloc: Global,

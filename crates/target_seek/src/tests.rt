@@ -30,8 +30,7 @@ struct OneStation {
 
 impl TopTest for OneStation {
     ghost use Rattle.std.specs.Prelude.{map};
-    ghost use Rattle.pack_defs.specs.declared.limits.TheConstants.{GREATEST_CHANNEL, LEAST_CHANNEL};
-ghost use Rattle.target_seek.specs.Examples.{one_station};
+    ghost use Rattle.target_seek.specs.Examples.{one_station};
 
     ghost base = { λ test. one_station test.channel };
 
