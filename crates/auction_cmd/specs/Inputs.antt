@@ -26,6 +26,7 @@ use Rattle.auction_cmd.specs.declared.refusal.Input.TheVariants.{Domains, Rows, 
 use Rattle.auction_cmd.specs.declared.refusal.Refusal.TheVariants.{TooLong, Row, Scenario as BadScenario, MissingDomain, Owners as BadOwners}
 use Rattle.auction_cmd.specs.declared.inputs.Inputs.{Inputs}
 use Rattle.auction_cmd.specs.declared.sources.Sources.{Sources}
+use Rattle.auction_cmd.specs.declared.inputs.TheConstants.{FILE_LIMIT}
 use Rattle.auction_cmd.specs.declared.inputs.Stop.{Stop}
 use Rattle.auction_cmd.specs.declared.inputs.Stop.TheVariants.{CannotRead, Refused, NoMemory}
 use Rattle.auction_cmd.specs.Words.{InputNames}
@@ -37,7 +38,7 @@ and_then (Err e) f = Err e
 
 -- the greatest length of an input file, in bytes
 abbrev pub file_limit : ℕ
-file_limit = 268435456
+file_limit = FILE_LIMIT
 
 -- the bytes of an input file, if it is there and no longer than the limit
 abbrev pub bytes_within : Input → Option (List ℕ) → Result (List ℕ) Stop

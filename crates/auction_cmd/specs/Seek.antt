@@ -2,6 +2,7 @@
 use Rattle.std.specs.Prelude.{◌≡◌, ◌≤◌, ◌<◌, ◌&&◌, ◌==◌, ◌++◌, ◌-◌, ℕ, All, Bool, true, false, List, map, Option, None, Ok, Result, IsFalse, MatchOption, codes, if◌then◌else◌}
 use Rattle.std.specs.List.{list_any}
 use Rattle.outside_io.specs.Files.{StoredFile}
+use Rattle.pack_defs.specs.declared.limits.TheConstants.{GREATEST_CHANNEL, LEAST_CHANNEL}
 use Rattle.pack_defs.specs.Scenario.{IsWithinLimits, facilities}
 use Rattle.scenario_json.specs.Joined.{first_missing}
 use Rattle.scenario_json.specs.StartOnly.{start_only}
@@ -64,8 +65,8 @@ ending_by Open = StartUndecided
 
 -- the record is of the auction up to a top channel from 14 to 51
 pub record IsTopRecord (base : SeekBase) (x : TopRecord) : Type 0 where
-  pub least : 14 ≤ x.top
-  pub most : x.top ≤ 51
+  pub least : LEAST_CHANNEL ≤ x.top
+  pub most : x.top ≤ GREATEST_CHANNEL
   pub auction : IsRecordBy (inputs_at base x.top) x.rec x.rec.ending
 
 -- what the records were asked about, and what they answer
@@ -108,17 +109,17 @@ Picks base all left top answer picked =
 
 -- the record of the auction up to one channel less: refuted, where the top is above 14, or of an open start test
 abbrev pub IsOneBelow : SeekBase → ℕ → Bool → Option Record → Type 0
-IsOneBelow base top false below = MatchOption below (top ≡ 14) (λ rec. (14 < top) × IsRefutedRecordOf (inputs_at base (top - 1)) rec)
-IsOneBelow base top true below = MatchOption below ⊥ (λ rec. (14 < top) × IsOpenRecordOf (inputs_at base (top - 1)) rec)
+IsOneBelow base top false below = MatchOption below (top ≡ LEAST_CHANNEL) (λ rec. (LEAST_CHANNEL < top) × IsRefutedRecordOf (inputs_at base (top - 1)) rec)
+IsOneBelow base top true below = MatchOption below ⊥ (λ rec. (LEAST_CHANNEL < top) × IsOpenRecordOf (inputs_at base (top - 1)) rec)
 
 -- The start set fits up to this top channel. Up to one channel less it doesn't, and then up to none from 14 on that is less; or
 -- whether it does was left open.
 pub record IsLeastTop (base : SeekBase) (x : LeastTop) : Type 0 where
-  pub least : 14 ≤ x.top
+  pub least : LEAST_CHANNEL ≤ x.top
   pub most : x.top ≤ base.scenario.top
   pub auction : IsRecordOf (inputs_at base x.top) x.rec
   pub lower : IsOneBelow base x.top x.is_open x.below
-  pub none_less : IsFalse x.is_open → (less : ℕ) → 14 ≤ less → less < x.top → IsFalse (fits_at base less)
+  pub none_less : IsFalse x.is_open → (less : ℕ) → LEAST_CHANNEL ≤ less → less < x.top → IsFalse (fits_at base less)
 
 -- The start set doesn't fit up to the scenario's own top channel; whether it does was left open; or a least one was found.
 abbrev pub IsFoundTop : SeekBase → FoundTop → Type 0

@@ -1,5 +1,6 @@
 -- What may be relied on of `seek`, a clause each.
 use Rattle.std.specs.Prelude.{◌≡◌, ◌≢◌, ◌⊎◌, ◌<◌, ◌≤◌, ℕ, Bool, false, true, List, [], ◌∷◌, length, Option, Some, None, Ok, IsFalse, IsTrue, MatchOption}
+use Rattle.pack_defs.specs.declared.limits.TheConstants.{LEAST_CHANNEL}
 use Rattle.pack_defs.specs.Lists.{is_in}
 use Rattle.pack_defs.specs.Packing.{IsPacking}
 use Rattle.pack_defs.specs.Prices.{start_set}
@@ -82,8 +83,8 @@ pub record SeekPromises (names : SeekNames) (before after : Outside) (status : �
       (of : IsTopOf names before found below) × (status ≡ top_status of.x.is_open)
       × Writes before.held after.held (top_text of.x.top of.x.is_open) (Ok tt)
   pub least : status ≡ DONE →
-      (of : IsTopOf names before found below) × ((less : ℕ) → 14 ≤ less → less < of.x.top → IsFalse (fits_at (base_of of.sources) less))
-      × MatchOption below (of.x.top ≡ 14) (λ rec. (14 < of.x.top) × IsTrue (shows_unfit rec.start))
+      (of : IsTopOf names before found below) × ((less : ℕ) → LEAST_CHANNEL ≤ less → less < of.x.top → IsFalse (fits_at (base_of of.sources) less))
+      × MatchOption below (of.x.top ≡ LEAST_CHANNEL) (λ rec. (LEAST_CHANNEL < of.x.top) × IsTrue (shows_unfit rec.start))
       × Writes before.held after.held (top_text of.x.top false) (Ok tt)
   pub starved : status ≡ NO_MEMORY → ((found ≡ None) × (below ≡ None)) ⊎ IsTopOf names before found below
   -- There CHANNELS holds the text of the channels, and every other file stands.
@@ -102,7 +103,7 @@ pub record SeekPromises (names : SeekNames) (before after : Outside) (status : �
   -- Where nobody starts on air that channel is 14, and nothing is left open.
   pub nobody : (files : List StoredFile) (sources : Sources) → before.files ≡ Some files → seekable_of files (seek_inputs names) ≡ Ok sources →
       start_set sources.scenario ≡ [] →
-      (IsOr DONE before status ⊎ (status ≡ UNWRITTEN)) × (status ≡ DONE → Writes before.held after.held (top_text 14 false) (Ok tt))
+      (IsOr DONE before status ⊎ (status ≡ UNWRITTEN)) × (status ≡ DONE → Writes before.held after.held (top_text LEAST_CHANNEL false) (Ok tt))
   -- Status 4 comes only where the store failed, of a folder that isn't steady, and the line names the file; or the channels are
   -- stored, and the sink was not sure of the top channel: some of the text was printed, from the first byte on.
   pub unwritten : status ≡ UNWRITTEN →

@@ -7,6 +7,7 @@ use Rattle.clap.specs.Simple.{on_top}
 use Rattle.clap.specs.Walk.{is_empty}
 use Rattle.clap.specs.ValueTests.{is_unsigned_in}
 use Rattle.clap.specs.declared.builder.value_parser.ValueParser.TheVariants.{Unsigned}
+use Rattle.scenario_make.specs.declared.limits.TheConstants.{MOST_MADE}
 use Rattle.auction_cmd.specs.declared.batch_words.BatchArgs.{BatchArgs}
 use Rattle.auction_cmd.specs.declared.make_words.MakeArgs.{MakeArgs}
 use Rattle.auction_cmd.specs.declared.proof_words.ExportArgs.{ExportArgs}
@@ -151,7 +152,7 @@ abbrev pub seed_limit : ℕ
 seed_limit = 18446744073709551615
 
 abbrev pub size_limit : ℕ
-size_limit = 4096
+size_limit = MOST_MADE
 
 abbrev pub step_limit : ℕ
 step_limit = 4294967295

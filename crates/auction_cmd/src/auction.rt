@@ -112,7 +112,7 @@ fn carry_out<F: Folder, K: Sink, G: Gate + Sync, W: Threads + Wait + Sync>(
 /// - `batch DOMAINS ROWS LIST` reads the constraint files and a list of at most 256 lines, each a scenario and a file for its
 ///   result, and the scenarios; carries all their auctions out, as many at a time as the machine has processors, as `run` does
 ///   each, by solvers that share what they answered; stores the results and writes a line for each scenario, with its auction's
-///   own status: 0, 1, 6 or 7, as those of `run`.
+///   own status: `DONE`, `LEFT_OPEN`, `START_UNFIT` or `START_OPEN` of `status`, as those of `run`.
 /// - `make SEED SIZE DOMAINS ROWS SCENARIO` makes the three files of an auction of SIZE stations from the number SEED, stores
 ///   them in this order, carries the auction out as `run` does and writes the summary. The same SEED and SIZE make the same
 ///   files.
@@ -139,6 +139,7 @@ fn carry_out<F: Folder, K: Sink, G: Gate + Sync, W: Threads + Wait + Sync>(
 ///
 /// ```
 /// let mut folder = MemoryFolder::new(files, Vec::new(alloc));
+/// // What is printed may have 9,999 bytes, and no write fails before.
 /// let mut printed = MemorySink::new(alloc, 9_999, Vec::new(alloc))?;
 /// let finish = auction_main(&rt, alloc, &words, &mut folder, &mut printed, &EmptyGate);
 /// assert_eq!(finish.status, status::DONE);

@@ -206,9 +206,10 @@ fn carry_all_out<G: Gate + Sync, W: Threads + Wait + Sync>(
 }
 
 /// Reads the constraint files, the list, and the scenario of each of its lines, and carries all their auctions out, as many at a
-/// time as the machine has processors: each as `run` does, by solvers that share what they answered. The results of those that were
-/// carried through are stored, in the list's order, and a line is printed for each scenario with its auction's own status: 0, 1, 6
-/// or 7, as those of `run`. Nothing is stored before all auctions are done.
+/// time as the machine has processors: each as `run` does, by solvers that share what they answered. The results of those that
+/// were carried through are stored, in the list's order, and a line is printed for each scenario with its auction's own status:
+/// `DONE`, `LEFT_OPEN`, `START_UNFIT` or `START_OPEN` of `status`, as those of `run`. Nothing is stored before all auctions are
+/// done.
 pub fn batch<F: Folder, K: Sink, G: Gate + Sync, W: Threads + Wait + Sync>(
     rt: &W,
     alloc: Global,

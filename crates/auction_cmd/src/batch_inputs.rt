@@ -2,6 +2,7 @@
 
 ghost use Rattle.std.specs.Prelude.{◌≡◌, ◌≤◌, All, IfErr, IfOk, List, None, Ok, OnOk, Some, length};
 ghost use Rattle.outside_io.specs.Files.{StoredFile};
+ghost use Rattle.batch_list.specs.ListOf.{list_limit};
 ghost use Rattle.pack_defs.specs.Book.{stations_of};
 ghost use Rattle.pack_defs.specs.Scenario.{IsWithinLimits, facilities};
 ghost use Rattle.auction_core.specs.Setup.{IsOfAuction};
@@ -64,7 +65,7 @@ fn read_constraints<F: Folder>(
 fn list_from<F: Folder>(alloc: Global, folder: &mut F, name: &str) -> Result<Vec<BatchLine>, Stop>
     ensures told { (files : List StoredFile) → (F.told folder.old).files ≡ Some files →
         Agrees (λ v. v.items) (F.told folder.old).steady (list_named files name.now) result }
-    ensures few { IfOk result (λ v. length v.items ≤ 256) }
+    ensures few { IfOk result (λ v. length v.items ≤ list_limit) }
     ensures files { (F.told folder.new).files ≡ (F.told folder.old).files }
     ensures steady { (F.told folder.new).steady ≡ (F.told folder.old).steady }
     ensures counted { CountsFault (F.told folder.old).faults (F.told folder.new).faults result }
@@ -79,6 +80,8 @@ fn list_from<F: Folder>(alloc: Global, folder: &mut F, name: &str) -> Result<Vec
 }
 
 /// What the constraint files and the list hold, read in this order. The list's name stands in the place of a scenario's.
+/// The error is the first of these files that can't be read or is refused, one that is too long among the latter, or want of
+/// memory.
 #[tactic(auto, unfolding(crate::specs::Batch::listing_of))]
 pub fn read_listed<F: Folder>(
     alloc: Global,
@@ -87,7 +90,7 @@ pub fn read_listed<F: Folder>(
 ) -> Result<Listed, Stop>
     ensures told { (files : List StoredFile) → (F.told folder.old).files ≡ Some files →
         Agrees listed_seen (F.told folder.old).steady (listing_of files (inputs_seen names.now)) result }
-    ensures few { IfOk result (λ l. length l.lines.items ≤ 256) }
+    ensures few { IfOk result (λ l. length l.lines.items ≤ list_limit) }
     ensures files { (F.told folder.new).files ≡ (F.told folder.old).files }
     ensures steady { (F.told folder.new).steady ≡ (F.told folder.old).steady }
     ensures counted { CountsFault (F.told folder.old).faults (F.told folder.new).faults result }

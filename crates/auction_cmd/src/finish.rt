@@ -54,16 +54,18 @@ impl Records {
 pub struct Finish {
     /// The exit status.
     pub status: u8,
-    /// The record of the auction, where it comes back: of `run` at the statuses 0, 1, 4, 6 and 7, and at 8 where memory ran
-    /// out at a store; of `verify` at 0, 1 and 4; of `make` at 0 and 1, and at 4 where the files are stored; of `import` at 0, 1
-    /// and 4, and at 8 where memory ran out at a store; of `seek` that of the start set alone up to the top channel that was found
-    /// at 0, 1 and 4, and at 8 where memory ran out at the store, and up to the scenario's own at 6 and 7.
+    /// The record of the auction, where it comes back, by the statuses of `status`: of `run` at `DONE`, `LEFT_OPEN`,
+    /// `UNWRITTEN`, `START_UNFIT` and `START_OPEN`, and at `NO_MEMORY` where memory ran out at a store; of `verify` at `DONE`,
+    /// `LEFT_OPEN` and `UNWRITTEN`; of `make` at `DONE` and `LEFT_OPEN`, and at `UNWRITTEN` where the files are stored; of
+    /// `import` at `DONE`, `LEFT_OPEN` and `UNWRITTEN`, and at `NO_MEMORY` where memory ran out at a store; of `seek` that of the
+    /// start set alone up to the top channel that was found at `DONE`, `LEFT_OPEN` and `UNWRITTEN`, and at `NO_MEMORY` where
+    /// memory ran out at the store, and up to the scenario's own at `START_UNFIT` and `START_OPEN`.
     pub result: Option<Record>,
     /// The record of the start set alone up to one channel less, of `seek` where `result` is that up to the top channel that was
     /// found and that channel is above 14.
     pub below: Option<Record>,
-    /// The records of the auctions of `batch`, one for each line of its list, in order: at the statuses 0, 1, 4 and 11, and at 8
-    /// where memory ran out at a store.
+    /// The records of the auctions of `batch`, one for each line of its list, in order: at `DONE`, `LEFT_OPEN`, `UNWRITTEN` and
+    /// `SOME_UNSTARTED`, and at `NO_MEMORY` where memory ran out at a store.
     pub batch: Records,
 }
 

@@ -24,7 +24,7 @@ use scenario_json::scenario::read_scenario;
 use std::alloc::{AllocError, Global};
 
 /// The greatest length of an input file, in bytes.
-pub(crate) const FILE_LIMIT: u64 = 268_435_456;
+pub const FILE_LIMIT: u64 = 268_435_456;
 
 /// Why the inputs were not read.
 #[derive(Clone, Copy, Debug, PartialEq, Eq)]
@@ -191,7 +191,9 @@ fn with_said<F: Folder>(
 }
 
 /// The inputs that these files of the folder hold: the domains, the rows and the scenario, read in this order, and the
-/// book that they make; and then, where an owners' file is named, what the owners say.
+/// book that they make; and then, where an owners' file is named, what the owners say. The error is the first of these files
+/// that can't be read or is refused, one that is too long among the latter; or, before the owners' file, the least station
+/// that has no domain row; or want of memory.
 #[tactic(auto, unfolding(crate::specs::Inputs::inputs_of))]
 pub fn read_inputs<F: Folder>(
     alloc: Global,

@@ -6,6 +6,7 @@ ghost use Rattle.pack_defs.specs.Prices.{start_set};
 ghost use Rattle.pack_defs.specs.Scenario.{IsWithinLimits, facilities};
 ghost use Rattle.auction_core.specs.Backed.{undecided_of};
 ghost use Rattle.auction_core.specs.Setup.{IsOfAuction};
+ghost use Rattle.scenario_make.specs.declared.limits.TheConstants.{MOST_MADE};
 ghost use Rattle.scenario_make.specs.Accepted.{AreAccepted};
 ghost use Rattle.auction_cmd.specs.Delivery.{AreAllStored, StopsAtOne};
 ghost use Rattle.auction_cmd.specs.Ends.{MakeEnds};
@@ -153,7 +154,7 @@ pub fn make<F: Folder, K: Sink, G: Gate + Sync, W: Threads + Wait + Sync>(
     gate: &G,
 ) -> Finish
     requires some { 1 ≤ files.now.size }
-    requires most { files.now.size ≤ 4096 }
+    requires most { files.now.size ≤ MOST_MADE }
     ensures ends { MakeEnds (make_seen files.now)
         (outside (F.told folder.old) (K.told out.old)) (outside (F.told folder.new) (K.told out.new)) result.status result.result }
     ensures no_other { result.below ≡ None }

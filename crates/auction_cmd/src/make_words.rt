@@ -8,10 +8,8 @@ ghost use Rattle.auction_cmd.specs.Words.{is_repeated_among, made_names, make_ap
 use crate::run_words::{InputArgs, input_args, required, times_in, value_of};
 use clap::builder::ValueParser;
 use clap::{Arg, ArgMatches, Command};
+use scenario_make::limits::MOST_MADE;
 use std::alloc::{AllocError, Global};
-
-/// The most stations that a made auction has.
-const SIZE_LIMIT: u32 = 4_096;
 
 /// The arguments of `make`, as they are given.
 #[derive(Clone, Copy, Debug, PartialEq, Eq)]
@@ -85,7 +83,7 @@ fn numbers_command<'a>(alloc: Global) -> Result<Command<'a>, AllocError>
             alloc,
             "SIZE",
             1,
-            u64::from(SIZE_LIMIT),
+            u64::from(MOST_MADE),
             "How many stations it has, 1 to 4096",
         ))
 }
@@ -134,7 +132,7 @@ pub(crate) fn make_args<'a>(matches: &ArgMatches<'a>) -> Option<MakeArgs<'a>>
     ensures { option_map make_seen result ≡ make_names (rows_of (found_of matches.now)) }
 {
     let seed = seed_in(value_of(matches, "SEED")?)?;
-    let size = count_in(value_of(matches, "SIZE")?, SIZE_LIMIT)?;
+    let size = count_in(value_of(matches, "SIZE")?, MOST_MADE)?;
     let outputs = input_args(matches)?;
     Some(MakeArgs {
         seed,

@@ -43,7 +43,7 @@ struct Texts {
     summary: Vec<u8>,
 }
 
-// The record of the auction of these inputs. Of the outside it calls the gate alone.
+/// The record of the auction of these inputs. Of the outside it calls the gate alone. The only error is want of memory.
 pub fn auction_of<G: Gate + Sync, W: Threads + Wait + Sync>(
     rt: &W,
     alloc: Global,

@@ -27,7 +27,8 @@ pub struct Sources {
     pub scenario: Scenario,
 }
 
-/// What the domains, the rows and the scenario hold, read in this order.
+/// What the domains, the rows and the scenario hold, read in this order. The error is the first of these files that can't be
+/// read or is refused, one that is too long among the latter, or want of memory.
 #[tactic(auto, unfolding(crate::specs::Inputs::sources_of))]
 pub fn read_sources<F: Folder>(
     alloc: Global,
@@ -51,7 +52,8 @@ pub fn read_sources<F: Folder>(
     })
 }
 
-/// The book of the scenario's stations up to its top channel, or the least of them that has no domain row.
+/// The book of the scenario's stations up to its top channel, or the least of them that has no domain row. The only other
+/// error is want of memory.
 pub fn book_of(alloc: Global, sources: &Sources) -> Result<Book, Stop>
     requires { IsWithinLimits sources.now.scenario }
     ensures book { IsBookOf sources.now result }

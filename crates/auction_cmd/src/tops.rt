@@ -3,6 +3,7 @@
 
 ghost use Rattle.std.specs.Prelude.{◌≡◌, ◌≢◌, ◌≤◌, ◌<◌, ◌++◌, ◌-◌, [], ◌∷◌, IfErr, IfOk, List, MatchOption, None, OnOk, false, length, true};
 ghost use Rattle.std.specs.List.{list_any};
+ghost use Rattle.pack_defs.specs.declared.limits.TheConstants.{GREATEST_CHANNEL, LEAST_CHANNEL};
 ghost use Rattle.auction_core.specs.Setup.{IsOfAuction};
 ghost use Rattle.target_seek.specs.Tops.{IsSought, IsTruth, SeekBase};
 ghost use Rattle.auction_cmd.specs.Records.{IsRecordBy};
@@ -12,6 +13,7 @@ use crate::inputs::Inputs;
 use crate::run::auction_of;
 use crate::sources::Sources;
 use auction_core::record::{Ending, Record};
+use pack_defs::limits::LEAST_CHANNEL;
 use scenario_json::join::join;
 use scenario_json::start_only::start_only;
 use solver_gate::gate::Gate;
@@ -24,7 +26,7 @@ use target_seek::seek::Sought;
 use target_seek::top_test::TopAnswer;
 
 /// The least top channel that is asked about.
-const FIRST: u8 = 14;
+const FIRST: u8 = LEAST_CHANNEL;
 
 /// The record of the auction of the start set alone up to a top channel.
 #[derive(Drop)]
@@ -98,8 +100,8 @@ impl TopRecords {
     /// The inputs of the auction of the start set alone up to this top channel. The only error is want of memory, since each
     /// station has a domain row.
     fn inputs_at(&self, alloc: Global, top: u8) -> Result<Inputs, NoMemory>
-        requires least { 14 ≤ top }
-        requires most { top ≤ 51 }
+        requires least { LEAST_CHANNEL ≤ top }
+        requires most { top ≤ GREATEST_CHANNEL }
         ensures inputs { IfOk result (λ i. i ≡ inputs_at self.now.base top) }
         ensures auction { IfOk result (λ i. IsOfAuction i.scenario i.book) }
     {
@@ -115,8 +117,8 @@ impl TopRecords {
         gate: &G,
         top: u8,
     ) -> Result<TopAnswer, NoMemory>
-        requires least { 14 ≤ top }
-        requires most { top ≤ 51 }
+        requires least { LEAST_CHANNEL ≤ top }
+        requires most { top ≤ GREATEST_CHANNEL }
         ensures base { self.new.base ≡ self.old.base }
         ensures asked { IfOk result (λ answer. asked_of self.new.kept ≡ asked_of self.old.kept ++ record { top = top; answer = answer } ∷ []) }
         ensures unasked { IfErr result (λ _. self.new ≡ self.old) }
@@ -149,8 +151,8 @@ impl TopRecords {
 // The inputs of the auction of the start set alone up to this top channel.
 fn inputs_up_to(alloc: Global, sources: &Sources, top: u8) -> Result<Inputs, NoMemory>
     requires seekable { IsSeekable (base_of sources.now) }
-    requires least { 14 ≤ top }
-    requires most { top ≤ 51 }
+    requires least { LEAST_CHANNEL ≤ top }
+    requires most { top ≤ GREATEST_CHANNEL }
     ensures inputs { IfOk result (λ i. i ≡ inputs_at (base_of sources.now) top) }
     ensures auction { IfOk result (λ i. IsOfAuction i.scenario i.book) }
 {
@@ -182,8 +184,8 @@ fn searched<G: Gate + Sync, W: Threads + Wait + Sync>(
 ) -> Result<Search, NoMemory>
     requires { IsSeekable (base_of sources) }
     ensures base { IfOk result (λ s. s.records.base ≡ base_of sources) }
-    ensures asked { IfOk result (λ s. IsSought 14 sources.scenario.top (asked_of s.records.kept) s.sought) }
-    ensures truth { IfOk result (λ s. IsTruth (base_of sources) 14 sources.scenario.top s.sought) }
+    ensures asked { IfOk result (λ s. IsSought LEAST_CHANNEL sources.scenario.top (asked_of s.records.kept) s.sought) }
+    ensures truth { IfOk result (λ s. IsTruth (base_of sources) LEAST_CHANNEL sources.scenario.top s.sought) }
     ensures asked_few { IfOk result (λ s. length (asked_of s.records.kept) ≤ 7) }
 {
     let last = sources.scenario.top;
@@ -275,7 +277,7 @@ fn picked(records: TopRecords, first: Told, second: Told) -> TwoRecords
 
 // The record of a top channel that was told so.
 fn the_one(records: TopRecords, top: u8, answer: TopAnswer) -> Record
-    requires least { 14 ≤ top }
+    requires least { LEAST_CHANNEL ≤ top }
     requires told { list_any (is_told top answer) records.kept ≡ true }
     ensures { IsRecordBy (inputs_at records.base top) result (ending_by answer) }
 {
@@ -290,7 +292,7 @@ fn the_one(records: TopRecords, top: u8, answer: TopAnswer) -> Record
 
 // What was found where the set fits up to this top channel, and this was told of one channel less.
 fn both(records: TopRecords, top: u8, below: TopAnswer) -> LeastTop
-    requires least { 14 < top }
+    requires least { LEAST_CHANNEL < top }
     requires told { list_any (is_told top TopAnswer.Fits) records.kept ≡ true }
     requires told_below { list_any (is_told (top - 1) below) records.kept ≡ true }
     ensures top { result.top ≡ top }
@@ -320,9 +322,9 @@ fn both(records: TopRecords, top: u8, below: TopAnswer) -> LeastTop
 
 // What was found where the set fits up to the first top channel.
 fn at_first(records: TopRecords) -> LeastTop
-    requires { list_any (is_told 14 TopAnswer.Fits) records.kept ≡ true }
-    ensures top { result.top ≡ 14 }
-    ensures rec { IsRecordBy (inputs_at records.base 14) result.rec Ending.Done }
+    requires { list_any (is_told LEAST_CHANNEL TopAnswer.Fits) records.kept ≡ true }
+    ensures top { result.top ≡ LEAST_CHANNEL }
+    ensures rec { IsRecordBy (inputs_at records.base LEAST_CHANNEL) result.rec Ending.Done }
     ensures below { result.below ≡ None }
     ensures is_open { result.is_open ≡ false }
 {
@@ -337,9 +339,9 @@ fn at_first(records: TopRecords) -> LeastTop
 // What was found, by what the search answers, with the records that show it.
 fn found_by(records: TopRecords, last: u8, sought: Sought) -> FoundTop
     requires last { last ≡ records.base.scenario.top }
-    requires least { 14 ≤ last }
-    requires sought { IsSought 14 last (asked_of records.kept) sought }
-    requires truth { IsTruth records.base 14 last sought }
+    requires least { LEAST_CHANNEL ≤ last }
+    requires sought { IsSought LEAST_CHANNEL last (asked_of records.kept) sought }
+    requires truth { IsTruth records.base LEAST_CHANNEL last sought }
     ensures { IsFoundTop records.base result }
 {
     match sought {

@@ -22,7 +22,7 @@ use outside_io::sink::Sink;
 use result_text::rows::result_csv;
 use std::alloc::{AllocError as NoMemory, Global};
 
-/// The text of the record's result.
+/// The text of the record's result. The only error is want of memory.
 pub fn result_text(alloc: Global, inputs: &Inputs, rec: &Record) -> Result<Vec<u8>, NoMemory>
     requires limits { IsWithinLimits inputs.now.scenario }
     requires of { IsRecordIn rec.now.order inputs.now rec.now }

@@ -6,6 +6,7 @@ use Rattle.std.specs.Str.{is_utf8}
 use Rattle.constraint_files.specs.Records.{line_records, lines_of}
 use Rattle.batch_list.specs.declared.error.ListErr.{ListErr}
 use Rattle.batch_list.specs.declared.error.ListErr.TheVariants.{BadLine, Empty}
+use Rattle.batch_list.specs.declared.read.TheConstants.{LIST_LIMIT}
 
 -- the names that a record gives, in bytes: of a scenario file, and of the file for its result
 pub record ListedNames : Type 0 where
@@ -14,7 +15,7 @@ pub record ListedNames : Type 0 where
 
 -- the most records that a list may have
 abbrev pub list_limit : ℕ
-list_limit = 256
+list_limit = LIST_LIMIT
 
 -- the names that the fields of a record give: it has two, and both are UTF-8
 abbrev pub listed_of : List (List ℕ) → Option ListedNames

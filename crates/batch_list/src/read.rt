@@ -12,7 +12,7 @@ use constraint_files::records::{fields, split_line};
 use std::alloc::Global;
 
 /// The most records that a list may have.
-const LIST_LIMIT: usize = 256;
+pub const LIST_LIMIT: usize = 256;
 
 /// Adds what a record says. After an error the list is lost.
 fn add_record(alloc: Global, list: &mut Vec<BatchLine>, row: &[Vec<u8>]) -> Result<(), ListAddErr>

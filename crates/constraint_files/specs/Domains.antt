@@ -5,7 +5,7 @@ use Rattle.std.specs.Option.{is_some, ok_or}
 use Rattle.std.specs.Str.{bytes_eq}
 use Rattle.pack_defs.specs.Lists.{is_in}
 use Rattle.pack_defs.specs.declared.domain.Domain.{Domain}
-use Rattle.pack_defs.specs.declared.limits.TheConstants.{MOST_DOMAIN_ROWS}
+use Rattle.pack_defs.specs.declared.limits.TheConstants.{LEAST_CHANNEL, MOST_DOMAIN_ROWS}
 use Rattle.constraint_files.specs.Numbers.{number, numbers, is_channel}
 use Rattle.constraint_files.specs.Pieces.{Fed, fed_on}
 use Rattle.constraint_files.specs.Records.{lines_of, after_lines}
@@ -16,7 +16,7 @@ use Rattle.constraint_files.specs.declared.error.RowWhy.TheVariants.{ShortRow, B
 
 -- the channels that a domain may keep: 14 to 51
 unfoldable pub channels_to_keep : List ℕ
-channels_to_keep = range_with_len 14 38
+channels_to_keep = range_with_len LEAST_CHANNEL 38
 
 -- the channels that a domain keeps of those that its row names, ascending, each once
 abbrev pub kept_channels : List ℕ → List ℕ

@@ -2,6 +2,7 @@
 use Rattle.std.specs.Prelude.{ℕ, Bool, not, ◌&&◌, nat_le, if◌then◌else◌, List, [], ◌∷◌, Option, Some, None}
 use Rattle.std.specs.Str.{all_ascii_digits}
 use Rattle.std.specs.Str.Parse.{digits_value}
+use Rattle.pack_defs.specs.declared.limits.TheConstants.{GREATEST_CHANNEL}
 use Rattle.pack_defs.specs.Lists.{is_empty}
 use Rattle.std.specs.Option.{option_and_then}
 
@@ -19,4 +20,4 @@ numbers (field ∷ fields) = option_and_then (λ n. option_and_then (λ ns. Some
 
 -- a channel that a file may name
 abbrev pub is_channel : ℕ → Bool
-is_channel c = nat_le 2 c && nat_le c 51
+is_channel c = nat_le 2 c && nat_le c GREATEST_CHANNEL

@@ -1,12 +1,13 @@
 -- What a folder answers for a file that is read in pieces, by what it tells.
 use Rattle.std.specs.Prelude.{◌≡◌, ◌≢◌, ◌<◌, ◌≤◌, ℕ, List, [], ◌++◌, length, take, drop, Option, Some, None, Result, Ok, Err, ⊤, MatchOption}
+use Rattle.outside_io.specs.declared.folder.TheConstants.{PIECE_SIZE}
 use Rattle.outside_io.specs.declared.folder.LoadErr.{LoadErr}
 use Rattle.outside_io.specs.declared.folder.LoadErr.TheVariants.{Failed, TooLong, NoMemory}
 use Rattle.outside_io.specs.Files.{StoredFile, bytes_of}
 
 -- a piece has at most so many bytes
 abbrev pub piece_size : ℕ
-piece_size = 65536
+piece_size = PIECE_SIZE
 
 -- What the beginning of a told file answers: all of its bytes are left, where they are within the limit, and too long only
 -- where they are not. A name that isn't there is never begun.

@@ -26,7 +26,7 @@ impl Model for MemoryFile {
 }
 
 impl MemoryFile {
-    /// A file with a copy of this name and of these bytes.
+    /// A file with a copy of this name and of these bytes. The only error is want of memory.
     pub fn new(alloc: Global, name: &str, bytes: &[u8]) -> Result<MemoryFile, NoMemory>
         ensures name { IfOk result (λ file. file.name ≡ name.now) }
         ensures bytes { IfOk result (λ file. file.bytes ≡ bytes.now) }

@@ -29,7 +29,7 @@ impl Model for MemorySink {
 
 impl MemorySink {
     /// A sink with room for so many bytes. Writes of at least one byte are counted from 1, and those whose numbers are in
-    /// `failing` fail and send nothing.
+    /// `failing` fail and send nothing. The only error is want of memory.
     pub fn new(alloc: Global, room: usize, failing: Vec<u64>) -> Result<MemorySink, NoMemory>
         ensures held { IfOk result (λ sink. sink.held ≡ []) }
         ensures room { IfOk result (λ sink. sink.room ≡ room) }

@@ -35,3 +35,11 @@ pub const MOST_PAIRS: usize = 4_000_000;
 
 /// The most rows of a file of domains. A file with more is refused.
 pub const MOST_DOMAIN_ROWS: usize = 65_536;
+
+/// The least channel that a station may have, and the least top channel of a scenario. A lesser one of a station is dropped, and
+/// a scenario with a lesser top channel is refused.
+pub const LEAST_CHANNEL: u8 = 14;
+
+/// The greatest channel that a station may have, and the greatest top channel of a scenario. A file that names a greater one is
+/// refused.
+pub const GREATEST_CHANNEL: u8 = 51;

@@ -13,7 +13,7 @@ use pack_defs::book::Book;
 use std::alloc::{AllocError as NoMemory, Global};
 use std::collections::BTreeSet;
 
-/// The stations that `s` reaches by pairs of the book among the stations on air, with `s`.
+/// The stations that `s` reaches by pairs of the book among the stations on air, with `s`. The only error is want of memory.
 pub fn reached<S: StationSet>(
     alloc: Global,
     book: &Book,

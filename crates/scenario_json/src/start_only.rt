@@ -1,6 +1,7 @@
 //! The scenario of the stations that start on air, and of no others.
 
 ghost use Rattle.std.specs.Prelude.{◌≡◌, ◌≤◌, IfOk, filter};
+ghost use Rattle.pack_defs.specs.declared.limits.TheConstants.{GREATEST_CHANNEL, LEAST_CHANNEL};
 ghost use Rattle.pack_defs.specs.Scenario.{IsWithinLimits};
 ghost use Rattle.scenario_json.specs.StartOnly.{declines_opening, start_only};
 
@@ -16,8 +17,8 @@ use std::alloc::{AllocError, Global};
 /// scenario. It takes one pass over the stations, and one over the owners' lines. The only error is want of memory.
 pub fn start_only(alloc: Global, sc: &Scenario, top: u8) -> Result<Scenario, AllocError>
     requires limits { IsWithinLimits sc.now }
-    requires least_top { 14 ≤ top }
-    requires top { top ≤ 51 }
+    requires least_top { LEAST_CHANNEL ≤ top }
+    requires top { top ≤ GREATEST_CHANNEL }
     ensures { IfOk result (λ only. only ≡ start_only sc.now top) }
 {
     let stations = starting(alloc, sc)?;

@@ -6,6 +6,7 @@ use Rattle.serde_json.specs.Written.{compact_text}
 use Rattle.pack_defs.specs.Lists.{is_empty}
 use Rattle.pack_defs.specs.declared.domain.Domain.{Domain}
 use Rattle.pack_defs.specs.declared.fall.Fall.TheVariants.{Listed}
+use Rattle.pack_defs.specs.declared.limits.TheConstants.{MOST_PROOF_LINES}
 use Rattle.pack_defs.specs.declared.scenario.Scenario.{Scenario}
 use Rattle.pack_defs.specs.declared.station.Station.{Station}
 use Rattle.pack_defs.specs.declared.worker.Kind.TheVariants.{Cdcl, Walk}
@@ -109,7 +110,7 @@ made_rows seed size = made_rows_from (generator_after (generator_of seed) (2 * s
 -- a learner, and a walk with the seed of the auction
 abbrev pub made_workers : ℕ → List Worker
 made_workers seed =
-    record { kind = Cdcl; budget = 100000; seed = 0 } ∷ record { kind = Walk; budget = 1000; seed = seed } ∷ []
+    record { kind = Cdcl; budget = MOST_PROOF_LINES; seed = 0 } ∷ record { kind = Walk; budget = 1000; seed = seed } ∷ []
 
 -- the scenario of these stations: the price falls from 100 to 0 in ten rounds
 unfoldable pub scenario_with : ℕ → List Station → Scenario

@@ -1,6 +1,7 @@
 //! The files of a made auction.
 
 ghost use Rattle.std.specs.Prelude.{◌≡◌, ◌≤◌, IfOk};
+ghost use Rattle.scenario_make.specs.declared.limits.TheConstants.{MOST_MADE};
 ghost use Rattle.scenario_make.specs.Accepted.{AreAccepted};
 ghost use Rattle.scenario_make.specs.MadeFiles.{AreMade, made_domains, made_workers, scenario_with};
 
@@ -29,7 +30,7 @@ pub struct Made {
 
 // The domain file.
 fn domain_file(alloc: Global, size: u32) -> Result<Vec<u8>, NoMemory>
-    requires { size ≤ 4096 }
+    requires { size ≤ MOST_MADE }
     ensures { IfOk result (λ v. v.items ≡ made_domains size) }
 {
     let mut text = Vec::new(alloc);
@@ -74,7 +75,7 @@ fn scenario_with(alloc: Global, seed: u64, stations: Vec<Station>) -> Result<Sce
 
 // The three files, the stations drawn first and the links behind them.
 fn draw_files(alloc: Global, seed: u64, size: u32) -> Result<Made, NoMemory>
-    requires { size ≤ 4096 }
+    requires { size ≤ MOST_MADE }
     ensures { IfOk result (λ made. AreMade seed size made.domains.items made.rows.items made.scenario.items) }
 {
     let domains = domain_file(alloc, size)?;
@@ -97,7 +98,7 @@ fn draw_files(alloc: Global, seed: u64, size: u32) -> Result<Made, NoMemory>
 /// start.
 pub fn make(alloc: Global, seed: u64, size: u32) -> Result<Made, NoMemory>
     requires some { 1 ≤ size }
-    requires most { size ≤ 4096 }
+    requires most { size ≤ MOST_MADE }
     ensures files { IfOk result (λ made. AreMade seed size made.domains.items made.rows.items made.scenario.items) }
     ensures accepted { IfOk result (λ made. AreAccepted made.domains.items made.rows.items made.scenario.items) }
 {

@@ -2,6 +2,7 @@
 
 ghost use Rattle.std.specs.Prelude.{◌≡◌, ◌≤◌, ◌<◌, ◌-◌, ◌%◌, ◌==◌, ◌&&◌, ◌++◌, nat_lt, if◌then◌else◌, IfOk, OnOk};
 ghost use Rattle.rand_pcg.specs.Pcg.{pcg32};
+ghost use Rattle.scenario_make.specs.declared.limits.TheConstants.{MOST_MADE};
 ghost use Rattle.scenario_make.specs.Draws.{generator_after};
 ghost use Rattle.scenario_make.specs.MadeFiles.{block_end, link_draws, made_adjacent_lines, made_link_lines, made_links, made_rows_at, made_rows_from};
 
@@ -17,7 +18,7 @@ const CHANNELS: [u32; 4] = [14, 15, 16, 17];
 fn block_end(size: u32, station: u32) -> u32
     requires some { 1 ≤ station }
     requires within { station ≤ size }
-    requires few { size ≤ 4096 }
+    requires few { size ≤ MOST_MADE }
     ensures value { result ≡ block_end size station }
     ensures least { station ≤ result }
     ensures most { result ≤ size }
@@ -93,7 +94,7 @@ fn push_rows_at(
     end: u32,
 ) -> Result<(), NoMemory>
     requires within { station ≤ end }
-    requires few { end ≤ 4096 }
+    requires few { end ≤ MOST_MADE }
     ensures written { OnOk result (text.new.items ≡ text.old.items ++ made_rows_at words.old station end) }
     ensures next { OnOk result (words.new ≡ generator_after words.old (link_draws station end)) }
 {
@@ -110,7 +111,7 @@ pub(crate) fn draw_rows(
     words: &mut Lcg64Xsh32,
     size: u32,
 ) -> Result<Vec<u8>, NoMemory>
-    requires { size ≤ 4096 }
+    requires { size ≤ MOST_MADE }
     ensures { IfOk result (λ v. v.items ≡ made_rows_from words.old size) }
 {
     let mut text = Vec::new(alloc);

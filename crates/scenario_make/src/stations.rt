@@ -2,6 +2,7 @@
 
 ghost use Rattle.std.specs.Prelude.{◌≡◌, ◌≤◌, ◌+◌, ◌*◌, ◌%◌, IfOk, OnOk, map};
 ghost use Rattle.rand_pcg.specs.Pcg.{pcg32};
+ghost use Rattle.scenario_make.specs.declared.limits.TheConstants.{MOST_MADE};
 ghost use Rattle.scenario_make.specs.Draws.{generator_after};
 ghost use Rattle.scenario_make.specs.MadeFiles.{made_facilities, made_station};
 
@@ -35,7 +36,7 @@ pub(crate) fn draw_stations(
     words: &mut Lcg64Xsh32,
     size: u32,
 ) -> Result<Vec<Station>, NoMemory>
-    requires { size ≤ 4096 }
+    requires { size ≤ MOST_MADE }
     ensures drawn { IfOk result (λ v. v.items ≡ map (made_station words.old) (made_facilities size)) }
     ensures next { OnOk result (words.new ≡ generator_after words.old (2 * size)) }
 {

@@ -1,5 +1,6 @@
 -- What a search for the least top keeps of what it asked and was told.
 use Rattle.std.specs.Prelude.{ℕ, ◌≡◌, ◌≤◌, ◌<◌, ◌+◌, ◌-◌, ◌^◌, List, [], ◌∷◌, ◌++◌, Some, None, Result, IfOk, length}
+use Rattle.pack_defs.specs.declared.limits.TheConstants.{GREATEST_CHANNEL, LEAST_CHANNEL}
 use Rattle.target_seek.specs.declared.search.Below.{Below}
 use Rattle.target_seek.specs.declared.search.Below.TheVariants as below
 use Rattle.target_seek.specs.declared.search.Left.{Left}
@@ -22,9 +23,9 @@ pub record IsUnasked (first last : ℕ) (asked : List AskedTop) (lowest highest 
   pub from_first : lowest ≡ first
   pub to_last : highest ≡ last
   pub nothing : asked ≡ []
-  pub least : 14 ≤ first
+  pub least : LEAST_CHANNEL ≤ first
   pub ordered : first ≤ last
-  pub most : last ≤ 51
+  pub most : last ≤ GREATEST_CHANNEL
 
 -- the tops that are left lie between the first and the last; the highest was told to fit, and what is said of the one below
 -- the lowest was told; of seven questions so many may still come, and by halving they are enough

@@ -1,6 +1,7 @@
 //! A search for the least top channel, by halving, which a caller drives.
 
 ghost use Rattle.std.specs.Prelude.{◌≡◌, ◌≤◌, ◌<◌, ◌+◌, ◌++◌, ◌∷◌, ℕ, [], IsSome, List, MatchOption, None, Some, length, ⊤};
+ghost use Rattle.pack_defs.specs.declared.limits.TheConstants.{GREATEST_CHANNEL, LEAST_CHANNEL};
 ghost use Rattle.target_seek.specs.Halving.{all_left, found_at, left_after, middle_of, next_at, next_of, stage_after, tops_left};
 ghost use Rattle.target_seek.specs.Searching.{IsSearching};
 ghost use Rattle.target_seek.specs.Tops.{AreTrue, AskedTop, IsSought, IsTruth, SeekBase};
@@ -20,9 +21,9 @@ pub struct TopSearch {
 impl TopSearch {
     /// A search from the first to the last of these tops, of which nothing was asked yet.
     pub fn new(first: u8, last: u8) -> TopSearch
-        requires least { 14 ≤ first }
+        requires least { LEAST_CHANNEL ≤ first }
         requires ordered { first ≤ last }
-        requires most { last ≤ 51 }
+        requires most { last ≤ GREATEST_CHANNEL }
         ensures { IsSearching first last [] result }
     {
         TopSearch {

@@ -1,6 +1,7 @@
 //! The search for the least top channel.
 
 ghost use Rattle.std.specs.Prelude.{◌≡◌, ◌≤◌, IfOk};
+ghost use Rattle.pack_defs.specs.declared.limits.TheConstants.{GREATEST_CHANNEL, LEAST_CHANNEL};
 ghost use Rattle.target_seek.specs.Searching.{HasSearched};
 ghost use Rattle.target_seek.specs.Tops.{IsTruth};
 
@@ -26,9 +27,9 @@ pub enum Sought {
 /// open counts as one at which the set doesn't fit. The only error is want of memory, which a test met; what was asked until
 /// then is the beginning of such a search, which can be begun again.
 pub fn seek_top<T: TopTest>(first: u8, last: u8, test: &mut T) -> Result<Sought, NoMemory>
-    requires least { 14 ≤ first }
+    requires least { LEAST_CHANNEL ≤ first }
     requires ordered { first ≤ last }
-    requires most { last ≤ 51 }
+    requires most { last ≤ GREATEST_CHANNEL }
     ensures base { T.base test.new ≡ T.base test.old }
     ensures asked { HasSearched first last (T.asked test.old) (T.asked test.new) result }
     ensures truth { IfOk result (IsTruth (T.base test.old) first last) }

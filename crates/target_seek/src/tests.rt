@@ -1,6 +1,7 @@
 //! Tests of the search, where one station may use one channel alone.
 
 ghost use Rattle.std.specs.Prelude.{◌≤◌};
+ghost use Rattle.pack_defs.specs.declared.limits.TheConstants.{GREATEST_CHANNEL, LEAST_CHANNEL};
 ghost use Rattle.target_seek.specs.Examples.{one_station};
 ghost use Rattle.target_seek.specs.Tops.{IsTrueAt};
 
@@ -78,9 +79,9 @@ fn found(
     first: u8,
     last: u8,
 ) -> Result<(Sought, Vec<u8>), NoMemory>
-    requires least { 14 ≤ first }
+    requires least { LEAST_CHANNEL ≤ first }
     requires ordered { first ≤ last }
-    requires most { last ≤ 51 }
+    requires most { last ≤ GREATEST_CHANNEL }
 {
     let mut test = test;
     let sought = seek_top(first, last, &mut test)?;

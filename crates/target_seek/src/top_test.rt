@@ -1,6 +1,7 @@
 //! What is asked of a top channel.
 
 ghost use Rattle.std.specs.Prelude.{◌≡◌, ◌≤◌, ◌++◌, ◌∷◌, [], IfErr, IfOk};
+ghost use Rattle.pack_defs.specs.declared.limits.TheConstants.{GREATEST_CHANNEL, LEAST_CHANNEL};
 ghost use Rattle.target_seek.specs.Tops.{IsTrueAt};
 
 use std::alloc::AllocError as NoMemory;
@@ -30,8 +31,8 @@ pub trait TopTest {
     /// Whether the start set fits up to this top channel. `Fits` and `Unfit` are true. After an error, which is want of memory,
     /// it can be asked again.
     fn ask(&mut self, top: u8) -> Result<TopAnswer, NoMemory>
-        requires least { 14 ≤ top }
-        requires most { top ≤ 51 }
+        requires least { LEAST_CHANNEL ≤ top }
+        requires most { top ≤ GREATEST_CHANNEL }
         ensures base { base self.new ≡ base self.old }
         ensures truth { IfOk result (IsTrueAt (base self.old) top) }
         ensures asked { IfOk result (λ answer. asked self.new ≡ asked self.old ++ record { top = top; answer = answer } ∷ []) }

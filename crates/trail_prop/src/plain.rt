@@ -68,7 +68,7 @@ fn cut_above(assigned: &mut TrueLiterals, level: u32)
 }
 
 impl PlainTrail {
-    /// No entry yet.
+    /// No entry yet. The only error is want of memory.
     pub fn new(alloc: Global, clauses: ClauseList) -> Result<PlainTrail, NoMemory>
         requires { ClausesWithin clauses.vars clauses.list }
         ensures { IfOk result (λ t. t ≡ record { clauses = clauses; entries = [] }) }
@@ -143,7 +143,7 @@ impl PlainTrail {
         }
     }
 
-    /// Puts a clause after the last.
+    /// Puts a clause after the last. The only error is want of memory, and it changes nothing.
     pub fn add(&mut self, clause: &[Lit]) -> Result<(), NoMemory>
         requires { LitsWithin self.old.clauses.vars clause.now }
         ensures added { OnOk result (self.new ≡ record { clauses = record { vars = self.old.clauses.vars; list = self.old.clauses.list ++ clause.now ∷ [] }; entries = self.old.entries }) }

@@ -2,6 +2,7 @@
 use Rattle.std.specs.Prelude.{ℕ, Bool, true, false, not, ◌≡◌, ◌<◌, ◌≤◌, get_or, ◌+◌, ◌==◌, nat_lt, nat_le, if◌then◌else◌, List, [], ◌∷◌, length, Option, Some, None, Result, Ok, Err}
 use Rattle.std.specs.Str.{all_ascii_digits, bytes_eq}
 use Rattle.pack_defs.specs.Lists.{is_empty, is_in}
+use Rattle.pack_defs.specs.declared.limits.TheConstants.{GREATEST_CHANNEL, LEAST_CHANNEL}
 use Rattle.pack_defs.specs.declared.scenario.Scenario.{Scenario}
 use Rattle.pack_defs.specs.Scenario.{facilities}
 use Rattle.lrat_text.specs.declared.field.Field.{Field}
@@ -10,6 +11,7 @@ use Rattle.lrat_text.specs.LogReading.{natural, field_of}
 use Rattle.lrat_text.specs.LogText.{greatest}
 use Rattle.transcript_text.specs.declared.error.TextErr.{TextErr}
 use Rattle.transcript_text.specs.declared.error.TextErr.TheVariants.{BadLine, Truncated}
+use Rattle.transcript_text.specs.declared.fields.TheConstants.{GREATEST_U32, MOST_COUNTED}
 use Rattle.pack_defs.specs.Steps.{◌>>=◌}
 
 -- the whole lines that are left of a text, and the number of the first of them
@@ -79,11 +81,11 @@ number_at most line = do
 
 -- the greatest round, facility or worker that a field may have
 abbrev pub greatest_u32 : ℕ
-greatest_u32 = 4294967295
+greatest_u32 = GREATEST_U32
 
 -- the most entries, lines or moves that a field may count
 abbrev pub most_counted : ℕ
-most_counted = 1000000
+most_counted = MOST_COUNTED
 
 abbrev pub count_at : FieldsLeft → Result (ℕ × FieldsLeft) TextErr
 count_at = number_at most_counted
@@ -97,8 +99,8 @@ station_at sc line = do
 -- a channel, 14 to 51
 unfoldable pub channel_at : FieldsLeft → Result (ℕ × FieldsLeft) TextErr
 channel_at line = do
-  c ← number_at 51 line
-  if nat_le 14 c.0 then Ok c else Err (BadLine line.number)
+  c ← number_at GREATEST_CHANNEL line
+  if nat_le LEAST_CHANNEL c.0 then Ok c else Err (BadLine line.number)
 
 -- a worker of the scenario
 unfoldable pub worker_at : Scenario → FieldsLeft → Result (ℕ × FieldsLeft) TextErr

@@ -2,6 +2,7 @@
 -- name.
 use Rattle.std.specs.Prelude.{ℕ, ◌+◌, ◌<◌, ◌≤◌, ◌^◌, ◌≡◌, true, List, [], ◌∷◌, length, Option, Some, None}
 use Rattle.std.specs.List.{AllByRecursion}
+use Rattle.pack_defs.specs.declared.limits.TheConstants.{GREATEST_CHANNEL, LEAST_CHANNEL}
 use Rattle.pack_defs.specs.declared.scenario.Scenario.{Scenario}
 use Rattle.pack_defs.specs.Scenario.{facilities}
 use Rattle.pack_defs.specs.Book.{BookView}
@@ -24,7 +25,7 @@ abbrev pub IsStation : Scenario → ℕ → Type 0
 IsStation sc s = (is_in (facilities sc) s ≡ true) × (s ≤ greatest_u32)
 
 abbrev pub IsChannel : ℕ → Type 0
-IsChannel c = (14 ≤ c) × (c ≤ 51)
+IsChannel c = (LEAST_CHANNEL ≤ c) × (c ≤ GREATEST_CHANNEL)
 
 -- a worker of the scenario
 abbrev pub IsWorker : Scenario → ℕ → Type 0

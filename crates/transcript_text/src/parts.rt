@@ -153,7 +153,7 @@ fn push_refuted(
 
 // The number of a log's first line over this many clauses; 0 where it has no line.
 fn first_number(clauses: u64, log: &Log) -> u64
-    requires { clauses + 1000001 ≤ 2 ^ 63 }
+    requires { clauses + (most_counted + 1) ≤ 2 ^ 63 }
     ensures first { result ≡ first_number clauses log.now.lines }
     ensures few { result ≤ clauses + 1 }
 {
@@ -172,7 +172,7 @@ fn push_outside(
     log: &Log,
 ) -> Result<(), NoMemory>
     requires lines { length log.now.lines ≤ most_counted }
-    requires few { clauses + 1000001 ≤ 2 ^ 63 }
+    requires few { clauses + (most_counted + 1) ≤ 2 ^ 63 }
     ensures { OnOk result (text.new.items ≡ text.old.items ++ outside_text test.0 test.1 log.now.lines (first_number clauses log.now.lines ∷ [])) }
 {
     let round = u64::from(test.0);
@@ -185,7 +185,7 @@ fn push_outside(
 
 // The number of the first line of a receipt's log over this many clauses; 0 where it has no line.
 fn first_of(clauses: u64, receipt: &Receipt) -> u64
-    requires { clauses + 1000001 ≤ 2 ^ 63 }
+    requires { clauses + (most_counted + 1) ≤ 2 ^ 63 }
     ensures first { result ≡ first_of clauses receipt.now }
     ensures few { result ≤ clauses + 1 }
 {
@@ -198,7 +198,7 @@ fn first_of(clauses: u64, receipt: &Receipt) -> u64
 // Adds receipts of the workers in order, over the clauses of their test's set.
 fn push_receipts(text: &mut Vec<u8>, clauses: u64, receipts: &[Receipt]) -> Result<(), NoMemory>
     requires lines { All (λ x. lines_in x ≤ most_counted) receipts.now }
-    requires few { clauses + 1000001 ≤ 2 ^ 63 }
+    requires few { clauses + (most_counted + 1) ≤ 2 ^ 63 }
     ensures { OnOk result (text.new.items ≡ text.old.items ++ receipts_text 0 receipts.now (map (first_of clauses) receipts.now)) }
 {
     for (i, receipt) in receipts.iter().enumerate() {
@@ -217,7 +217,7 @@ pub(crate) fn push_step(
     step: &Step,
 ) -> Result<(), NoMemory>
     requires writable { IsShownWritable step.now.shown }
-    requires few { clauses + 1000001 ≤ 2 ^ 63 }
+    requires few { clauses + (most_counted + 1) ≤ 2 ^ 63 }
     ensures { OnOk result (text.new.items ≡ text.old.items ++ shown_text book.now step.now.round step.now.station step.now.shown (firsts_of clauses step.now.shown)) }
 {
     let round = u64::from(step.round);

@@ -10,6 +10,7 @@ ghost use Rattle.auction_core.specs.Backed.{IsBacked};
 ghost use Rattle.auction_core.specs.Clock.{AreStandings};
 ghost use Rattle.auction_core.specs.State.{tested_set};
 ghost use Rattle.auction_core.specs.LogNumbers.{clauses_in, firsts_of};
+ghost use Rattle.transcript_text.specs.Fields.{most_counted};
 ghost use Rattle.transcript_text.specs.Spelling.{transcript_text};
 
 use crate::parts::{push_end, push_start, push_step, push_version};
@@ -35,7 +36,7 @@ fn test_clauses(
     requires known { IsTrue (is_in (facilities sc.now) station) }
     requires stations { length clock.now.standings ≡ length sc.now.stations }
     ensures count { IfOk result (λ n. (st : ClockState) → AreStandings sc.now st clock.now.standings → n ≡ clauses_in book.now (tested_set sc.now book.now st station)) }
-    ensures few { IfOk result (λ n. n + 1000001 ≤ 2 ^ 63) }
+    ensures few { IfOk result (λ n. n + (most_counted + 1) ≤ 2 ^ 63) }
 {
     let set = test_set(alloc, sc, book, clock, station)?;
     Ok(clause_count(book, &set))
@@ -54,7 +55,7 @@ fn log_clauses(
     requires known { IsTrue (is_in (facilities sc.now) step.now.station) }
     requires stations { length clock.now.standings ≡ length sc.now.stations }
     ensures count { IfOk result (λ n. (st : ClockState) → AreStandings sc.now st clock.now.standings → firsts_of n step.now.shown ≡ firsts_of (clauses_in book.now (tested_set sc.now book.now st step.now.station)) step.now.shown) }
-    ensures few { IfOk result (λ n. n + 1000001 ≤ 2 ^ 63) }
+    ensures few { IfOk result (λ n. n + (most_counted + 1) ≤ 2 ^ 63) }
 {
     match &step.shown {
         Shown::Outside(_) | Shown::Undecided(_) => {
