@@ -1,7 +1,7 @@
 //! How a board is raised, looked at and closed.
 
 ghost use Rattle.std.specs.Prelude.{◌≡◌, ◌≤◌, IfErr, IfOk, length, map};
-ghost use Rattle.turn_lock.specs.Passes.{IsIdle, IsLegal, known_of, mine_of, seen_of, standing};
+ghost use Rattle.turn_lock.specs.Passes.{IsLegal, IsPassIdle, known_of, mine_of, seen_of, standing};
 ghost use Rattle.turn_lock.specs.Turns.{AllOf, IsWhole, StartsWith, each_new};
 ghost use Rattle.answer_board.specs.Boards.{AreAllOn, IsPassOn, beginning_of, raised};
 ghost use Rattle.answer_board.specs.Entries.{numbered};
@@ -27,7 +27,7 @@ impl Board {
         requires some { 1 ≤ passes }
         ensures raised { IfOk result (λ r. raised r.0 ≡ auction) }
         ensures all { IfOk result (λ r. AreAllOn r.0 (map standing r.1.items)) }
-        ensures idle { IfOk result (λ r. AllOf IsIdle r.1.items) }
+        ensures idle { IfOk result (λ r. AllOf IsPassIdle r.1.items) }
         ensures new { IfOk result (λ r. map known_of r.1.items ≡ each_new (numbered auction.history) passes) }
         ensures back { IfErr result (λ e. e.1 ≡ auction) }
     {
@@ -62,9 +62,9 @@ impl Board {
     /// What stands in the auction. It waits for its turn. The only error is want of memory.
     pub fn look<R: Wait>(&self, rt: &R, alloc: Global, pass: &mut Pass) -> Result<Look, NoMemory>
         requires own { IsPassOn self.now pass.old }
-        requires idle { IsIdle pass.old }
+        requires idle { IsPassIdle pass.old }
         ensures own { IsPassOn self.now pass.new }
-        ensures idle { IsIdle pass.new }
+        ensures idle { IsPassIdle pass.new }
         ensures standing { standing pass.new ≡ standing pass.old }
         ensures seen { StartsWith (seen_of pass.new) (seen_of pass.old) }
         ensures mine { mine_of pass.new ≡ mine_of pass.old }
@@ -82,9 +82,9 @@ impl Board {
     /// The number of the standing query; once the auction has ended, one past the last. It waits for its turn.
     pub fn current<R: Wait>(&self, rt: &R, pass: &mut Pass) -> u64
         requires own { IsPassOn self.now pass.old }
-        requires idle { IsIdle pass.old }
+        requires idle { IsPassIdle pass.old }
         ensures own { IsPassOn self.now pass.new }
-        ensures idle { IsIdle pass.new }
+        ensures idle { IsPassIdle pass.new }
         ensures standing { standing pass.new ≡ standing pass.old }
         ensures seen { StartsWith (seen_of pass.new) (seen_of pass.old) }
         ensures mine { mine_of pass.new ≡ mine_of pass.old }
@@ -105,7 +105,7 @@ impl Board {
     /// doesn't wait.
     pub fn close(self, passes: Vec<Pass>) -> Auction
         requires all { AreAllOn self (map standing passes.items) }
-        requires idle { AllOf IsIdle passes.items }
+        requires idle { AllOf IsPassIdle passes.items }
         ensures beginning { beginning_of result ≡ beginning_of (raised self) }
         ensures order { result.state.order ≡ (raised self).state.order }
         ensures history { IsWhole (length passes.items) (numbered (raised self).history) (numbered result.history) (map known_of passes.items) }
