@@ -5,7 +5,7 @@ use Rattle.auction_core.specs.Clockwork.{ClockworkView}
 use Rattle.auction_core.specs.Replay.{EntryView}
 use Rattle.turn_lock.specs.declared.chronicle.Chronicle.{Ghosts}
 use Rattle.turn_lock.specs.declared.lock.Pass.{Pass}
-use Rattle.turn_lock.specs.Passes.{AreAllOf, IsIdle, IsLegal, IsPassOf, PassStanding, made_over, seen_of, standing}
+use Rattle.turn_lock.specs.Passes.{AreAllOf, IsPassIdle, IsLegal, IsPassOf, PassStanding, made_over, seen_of, standing}
 use Rattle.turn_lock.specs.Turns.{StartsWith}
 use Rattle.answer_board.specs.declared.board.Board.{Board}
 use Rattle.answer_board.specs.declared.kept.Kept.{Kept}
@@ -32,13 +32,13 @@ IsPassOn board pass = IsPassOf kept_base kept_entries board.lock pass
 -- a pass to this board, outside a turn: so it may be given to any call
 pub record IsIdleOn {G : Ghosts Kept ClockworkView EntryView} (board : Board) (pass : Pass Kept ClockworkView EntryView G) : Type 0 where
   pub own : IsPassOn board pass
-  pub idle : IsIdle pass
+  pub idle : IsPassIdle pass
 
 -- What a call leaves of a pass: the same pass, outside a turn, which has seen what it had seen, and knows rightly which entries
 -- are its own.
 pub record GoesOnIdle {G : Ghosts Kept ClockworkView EntryView} (board : Board) (old new : Pass Kept ClockworkView EntryView G) : Type 0 where
   pub own : IsPassOn board new
-  pub idle : IsIdle new
+  pub idle : IsPassIdle new
   pub stands : standing new ≡ standing old
   pub seen : StartsWith (seen_of new) (seen_of old)
   pub legal : IsLegal new

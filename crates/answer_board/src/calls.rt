@@ -1,7 +1,7 @@
 //! How a board is raised, looked at and closed.
 
 ghost use Rattle.std.specs.Prelude.{◌≡◌, ◌≤◌, IfErr, IfOk, length, map};
-ghost use Rattle.turn_lock.specs.Passes.{IsIdle, known_of, mine_of, seen_of, standing};
+ghost use Rattle.turn_lock.specs.Passes.{IsPassIdle, known_of, mine_of, seen_of, standing};
 ghost use Rattle.turn_lock.specs.Turns.{AllOf, IsWhole, each_new};
 ghost use Rattle.answer_board.specs.Boards.{AreAllOn, GoesOnIdle, IsIdleOn, beginning_of, raised};
 ghost use Rattle.answer_board.specs.Entries.{numbered};
@@ -27,7 +27,7 @@ impl Board {
         requires some { 1 ≤ passes }
         ensures raised { IfOk result (λ r. raised r.0 ≡ auction) }
         ensures all { IfOk result (λ r. AreAllOn r.0 (map standing r.1.items)) }
-        ensures idle { IfOk result (λ r. AllOf IsIdle r.1.items) }
+        ensures idle { IfOk result (λ r. AllOf IsPassIdle r.1.items) }
         ensures new { IfOk result (λ r. map known_of r.1.items ≡ each_new (numbered auction.history) passes) }
         ensures back { IfErr result (λ e. e.1 ≡ auction) }
     {
@@ -95,7 +95,7 @@ impl Board {
     /// doesn't wait.
     pub fn close(self, passes: Vec<Pass>) -> Auction
         requires all { AreAllOn self (map standing passes.items) }
-        requires idle { AllOf IsIdle passes.items }
+        requires idle { AllOf IsPassIdle passes.items }
         ensures beginning { beginning_of result ≡ beginning_of (raised self) }
         ensures order { result.state.order ≡ (raised self).state.order }
         ensures history { IsWhole (length passes.items) (numbered (raised self).history) (numbered result.history) (map known_of passes.items) }

@@ -2,7 +2,7 @@
 
 ghost use Rattle.std.specs.Prelude.{◌≡◌, IfErr, IfOk, Some, slice_get, true};
 ghost use Rattle.cert_types.specs.Query.{IsQuery};
-ghost use Rattle.turn_lock.specs.Passes.{IsLegal, known_of, mine_of, number_of, seen_of};
+ghost use Rattle.turn_lock.specs.Passes.{IsLegal, known_of, mine_of, pass_number, seen_of};
 ghost use Rattle.answer_board.specs.Boards.{GoesOnIdle, IsIdleOn, raised};
 ghost use Rattle.answer_board.specs.Posts.{HasMetOn, HasStood, IsPosted, StandsOn, is_faultless};
 
@@ -33,7 +33,7 @@ impl Board {
     ) -> Result<Reply, Unposted>
         requires idle { IsIdleOn self.now pass.old }
         ensures idle { GoesOnIdle self.now pass.old pass.new }
-        ensures posted { IfOk result (IsPosted (raised self.now) (record { worker = number_of pass.old; number = number; answer = answer }) (known_of pass.old) (known_of pass.new)) }
+        ensures posted { IfOk result (IsPosted (raised self.now) (record { worker = pass_number pass.old; number = number; answer = answer }) (known_of pass.old) (known_of pass.new)) }
         ensures back { IfErr result (λ unposted. unposted.answer ≡ answer) }
         ensures mine { IfErr result (λ unposted. mine_of pass.new ≡ mine_of pass.old) }
     {
@@ -60,11 +60,11 @@ impl Board {
     ) -> Result<Reply, Unposted>
         requires idle { IsIdleOn self.now pass.old }
         requires book { certified.book ≡ (raised self.now).book }
-        requires worker { slice_get (raised self.now).scenario.workers (number_of pass.old) ≡ Some certified.worker }
+        requires worker { slice_get (raised self.now).scenario.workers (pass_number pass.old) ≡ Some certified.worker }
         requires stood { HasStood (raised self.now) (seen_of pass.old) certified.task }
         requires number { number ≡ certified.task.number }
         ensures idle { GoesOnIdle self.now pass.old pass.new }
-        ensures posted { IfOk result (IsPosted (raised self.now) (record { worker = number_of pass.old; number = number; answer = certified.answer }) (known_of pass.old) (known_of pass.new)) }
+        ensures posted { IfOk result (IsPosted (raised self.now) (record { worker = pass_number pass.old; number = number; answer = certified.answer }) (known_of pass.old) (known_of pass.new)) }
         ensures faultless { IfOk result (λ reply. is_faultless reply ≡ true) }
         ensures back { IfErr result (λ unposted. unposted.answer ≡ certified.answer) }
         ensures mine { IfErr result (λ unposted. mine_of pass.new ≡ mine_of pass.old) }
@@ -89,9 +89,9 @@ impl Board {
         answer: Answer,
     ) -> Result<Reply, Unposted>
         requires idle { IsIdleOn self.now pass.old }
-        requires stands { StandsOn (raised self.now) (seen_of pass.old) (record { worker = number_of pass.old; number = number; said = Said.Bad place }) answer }
+        requires stands { StandsOn (raised self.now) (seen_of pass.old) (record { worker = pass_number pass.old; number = number; said = Said.Bad place }) answer }
         ensures idle { GoesOnIdle self.now pass.old pass.new }
-        ensures posted { IfOk result (IsPosted (raised self.now) (record { worker = number_of pass.old; number = number; answer = answer }) (known_of pass.old) (known_of pass.new)) }
+        ensures posted { IfOk result (IsPosted (raised self.now) (record { worker = pass_number pass.old; number = number; answer = answer }) (known_of pass.old) (known_of pass.new)) }
         ensures back { IfErr result (λ unposted. unposted.answer ≡ answer) }
         ensures mine { IfErr result (λ unposted. mine_of pass.new ≡ mine_of pass.old) }
     {
@@ -115,10 +115,10 @@ impl Board {
         requires idle { IsIdleOn self.now pass.old }
         requires legal { IsLegal pass.old }
         requires query { IsQuery (raised self.now).book task.now }
-        requires worker { slice_get (raised self.now).scenario.workers (number_of pass.old) ≡ Some worker.now }
+        requires worker { slice_get (raised self.now).scenario.workers (pass_number pass.old) ≡ Some worker.now }
         requires stood { HasStood (raised self.now) (seen_of pass.old) task.now }
         ensures idle { GoesOnIdle self.now pass.old pass.new }
-        ensures posted { IfOk result (IsPosted (raised self.now) (record { worker = number_of pass.old; number = task.now.number; answer = answer }) (known_of pass.old) (known_of pass.new)) }
+        ensures posted { IfOk result (IsPosted (raised self.now) (record { worker = pass_number pass.old; number = task.now.number; answer = answer }) (known_of pass.old) (known_of pass.new)) }
         ensures back { IfErr result (λ unposted. unposted.answer ≡ answer) }
         ensures mine { IfErr result (λ unposted. mine_of pass.new ≡ mine_of pass.old) }
     {
@@ -145,7 +145,7 @@ impl Board {
     ) -> Result<Met, NoMemory>
         requires idle { IsIdleOn self.now pass.old }
         ensures idle { GoesOnIdle self.now pass.old pass.new }
-        ensures met { IfOk result (HasMetOn (raised self.now) (number_of pass.old) number (known_of pass.old) (known_of pass.new)) }
+        ensures met { IfOk result (HasMetOn (raised self.now) (pass_number pass.old) number (known_of pass.old) (known_of pass.new)) }
         ensures mine { IfErr result (λ fault. mine_of pass.new ≡ mine_of pass.old) }
     {
         let worker = pass.number();
@@ -180,9 +180,9 @@ impl Board {
         answer: &Snapshot<Answer>,
     ) -> Result<Reply, Said>
         requires idle { IsIdleOn self.now pass.old }
-        requires stands { StandsOn (raised self.now) (seen_of pass.old) (record { worker = number_of pass.old; number = number; said = said }) answer.now.value }
+        requires stands { StandsOn (raised self.now) (seen_of pass.old) (record { worker = pass_number pass.old; number = number; said = said }) answer.now.value }
         ensures idle { GoesOnIdle self.now pass.old pass.new }
-        ensures posted { IfOk result (IsPosted (raised self.now) (record { worker = number_of pass.old; number = number; answer = answer.now.value }) (known_of pass.old) (known_of pass.new)) }
+        ensures posted { IfOk result (IsPosted (raised self.now) (record { worker = pass_number pass.old; number = number; answer = answer.now.value }) (known_of pass.old) (known_of pass.new)) }
         ensures back { IfErr result (λ back. back ≡ said) }
         ensures mine { IfErr result (λ back. mine_of pass.new ≡ mine_of pass.old) }
     {

@@ -10,7 +10,7 @@ use Rattle.auction_core.proofs.Finds.{find_cases}
 use Rattle.pack_defs.proofs.Members.{Contains-here, Contains-there, list_any-from}
 use Rattle.auction_cmd.specs.Words.{ImportNames, MakeNames, ResumeNames, RunNames, imported_names, is_repeated_among, is_repeated_in, made_names, run_names_given, output_names, owners_given, repeated_import, repeated_made, repeated_output, repeated_resume, resumed_names}
 use Rattle.auction_cmd.specs.Ends.{output_texts, pair_of_texts}
-use Rattle.auction_cmd.specs.Made.{texts_under}
+use Rattle.auction_cmd.specs.Made.{input_texts_under}
 use Rattle.auction_cmd.proofs.DeliveryLemmas.{AreApart}
 use Rattle.transcript_text.proofs.FieldReads.{same-bytes}
 
@@ -66,7 +66,7 @@ twice-among given xs ys zs a b whole same =
     lt-ltb 1 (count_by (bytes_eq a) given)
     (subst (λ names. 1 < count_by (bytes_eq a) names) whole (two-pass (bytes_eq a) xs ys zs a b (same-bytes a) ((bytes_eq-Decides a b).1 same)))
 
-pub own-made : (names : MakeNames) (domain_file row_file scenario_file : List ℕ) → repeated_made names ≡ None → AreApart (texts_under names.outputs domain_file row_file scenario_file)
+pub own-made : (names : MakeNames) (domain_file row_file scenario_file : List ℕ) → repeated_made names ≡ None → AreApart (input_texts_under names.outputs domain_file row_file scenario_file)
 unfolding repeated_made
 own-made names domain_file row_file scenario_file once =
     let given = made_names names in

@@ -30,14 +30,14 @@ abbrev pub made_inputs : ℕ → ℕ → Result Inputs Stop
 made_inputs seed size = inputs_in (made_domains size) (made_rows seed size) (made_scenario_text seed size)
 
 -- three texts under these names, in the order in which they are stored
-abbrev pub texts_under : InputNames → List ℕ → List ℕ → List ℕ → List NamedText
-texts_under names domain_file row_file scenario_file =
+abbrev pub input_texts_under : InputNames → List ℕ → List ℕ → List ℕ → List NamedText
+input_texts_under names domain_file row_file scenario_file =
     named names.domains domain_file ∷ named names.rows row_file ∷ named names.scenario scenario_file ∷ []
 
 -- what `make` stores: the made files of its seed and its size
 abbrev pub made_texts : MakeNames → List NamedText
 made_texts names =
-    texts_under names.outputs (made_domains names.size) (made_rows names.seed names.size) (made_scenario_text names.seed names.size)
+    input_texts_under names.outputs (made_domains names.size) (made_rows names.seed names.size) (made_scenario_text names.seed names.size)
 
 -- The record is that of the auction of what was read, in which nobody starts on air, carried through; and the summary is its
 -- own.

@@ -31,7 +31,7 @@ use outside_io::folder::Folder;
 use outside_io::sink::Sink;
 use result_text::counts::summary;
 use std::alloc::{AllocError as NoMemory, Global};
-use transcript_text::again::is_held;
+use transcript_text::again::keeps_ascending_fits;
 use transcript_text::write::write_transcript;
 
 // The texts of a record of which a step was settled.
@@ -151,7 +151,7 @@ pub fn import<F: Folder, K: Sink>(
     let Ok(texts) = texts_of(alloc, &inputs, &settled) else {
         return starve(out);
     };
-    is_held(&settled);
+    keeps_ascending_fits(&settled);
     let done = done_status(&settled);
     let status = deliver(folder, out, files, &texts, done);
     Finish::with_record(status, settled)

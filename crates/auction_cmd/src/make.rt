@@ -11,7 +11,7 @@ ghost use Rattle.scenario_make.specs.Accepted.{AreAccepted};
 ghost use Rattle.auction_cmd.specs.Delivery.{AreAllStored, StopsAtOne};
 ghost use Rattle.auction_cmd.specs.Ends.{MakeEnds};
 ghost use Rattle.auction_cmd.specs.Faults.{AreFaultsCounted};
-ghost use Rattle.auction_cmd.specs.Made.{HasRun, inputs_in, texts_under};
+ghost use Rattle.auction_cmd.specs.Made.{HasRun, input_texts_under, inputs_in};
 ghost use Rattle.auction_cmd.specs.Outside.{outside};
 ghost use Rattle.auction_cmd.specs.Records.{IsRecordOf, summary_of};
 ghost use Rattle.auction_cmd.specs.Words.{inputs_seen, make_seen};
@@ -121,13 +121,13 @@ fn store_files<F: Folder, K: Sink>(
     names: &InputArgs<'_>,
     made: &Made,
 ) -> Result<(), u8>
-    ensures stored { OnOk result (AreAllStored (texts_under (inputs_seen names.now) made.now.domains.items made.now.rows.items made.now.scenario.items)
+    ensures stored { OnOk result (AreAllStored (input_texts_under (inputs_seen names.now) made.now.domains.items made.now.rows.items made.now.scenario.items)
         (outside (F.told folder.old) (K.told out.old)) (outside (F.told folder.new) (K.told out.new))) }
     ensures uncounted { OnOk result ((F.told folder.new).faults ≡ (F.told folder.old).faults) }
     ensures unsaid { OnOk result ((K.told out.new).faults ≡ (K.told out.old).faults) }
     ensures counted { IfErr result (AreFaultsCounted
         (outside (F.told folder.old) (K.told out.old)) (outside (F.told folder.new) (K.told out.new))) }
-    ensures stopped { IfErr result (StopsAtOne (texts_under (inputs_seen names.now) made.now.domains.items made.now.rows.items made.now.scenario.items)
+    ensures stopped { IfErr result (StopsAtOne (input_texts_under (inputs_seen names.now) made.now.domains.items made.now.rows.items made.now.scenario.items)
         (outside (F.told folder.old) (K.told out.old)) (outside (F.told folder.new) (K.told out.new))) }
 {
     if let Err(status) = store(folder, out, names.domains, &made.domains) {

@@ -30,7 +30,7 @@ use solver_gate::gate::Gate;
 use std::alloc::{AllocError as NoMemory, Global};
 use std::sync::Wait;
 use std::thread::Threads;
-use transcript_text::again::is_named;
+use transcript_text::again::keeps_named_numbers;
 use transcript_text::beginning::read_prefix;
 
 // The inputs, and the auction that stands behind the beginning of a transcript of it.
@@ -93,7 +93,7 @@ fn resumable<F: Folder, K: Sink>(
         Ok(text) => text,
         Err(why) => return Err(Finish::without_record(say_unloaded(out, files.prefix, why))),
     };
-    is_named(&inputs.scenario, &inputs.book);
+    keeps_named_numbers(&inputs.scenario, &inputs.book);
     match begun(alloc, &inputs, &text) {
         Ok(auction) => Ok(BegunAuction { inputs, auction }),
         Err(why) => Err(Finish::without_record(say_denied(out, files.prefix, why))),

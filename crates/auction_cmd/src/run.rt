@@ -31,7 +31,7 @@ use solver_gate::gate::Gate;
 use std::alloc::{AllocError as NoMemory, Global};
 use std::sync::Wait;
 use std::thread::Threads;
-use transcript_text::again::{is_held, is_named};
+use transcript_text::again::{keeps_ascending_fits, keeps_named_numbers};
 use transcript_text::write::write_transcript;
 
 // The texts of a finished auction.
@@ -193,8 +193,8 @@ pub fn conclude<F: Folder, K: Sink>(
     let Ok(texts) = texts_of(alloc, inputs, &rec) else {
         return starve(out);
     };
-    is_named(&inputs.scenario, &inputs.book);
-    is_held(&rec);
+    keeps_named_numbers(&inputs.scenario, &inputs.book);
+    keeps_ascending_fits(&rec);
     let done = done_status(&rec);
     let status = deliver(folder, out, names, &texts, done);
     Finish::with_record(status, rec)

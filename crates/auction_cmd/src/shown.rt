@@ -27,7 +27,7 @@ use std::alloc::Global;
 use transcript_check::VerifyErr;
 use transcript_check::verify::verify as check_transcript;
 use transcript_text::TextErr;
-use transcript_text::again::is_named;
+use transcript_text::again::keeps_named_numbers;
 use transcript_text::reader::TranscriptReader;
 
 /// The inputs, and the record that a transcript of their auction shows.
@@ -194,7 +194,7 @@ pub fn shown_by<F: Folder, K: Sink>(
         Ok(read) => read,
         Err(why) => return Err(Finish::without_record(say_unloaded(out, files.transcript, why))),
     };
-    is_named(&inputs.scenario, &inputs.book);
+    keeps_named_numbers(&inputs.scenario, &inputs.book);
     match record_of(alloc, &inputs, read) {
         Ok(record) => Ok(ShownAuction { inputs, record }),
         Err(why) => Err(Finish::without_record(say_denied(out, files.transcript, why))),

@@ -131,7 +131,7 @@ impl TopRecords {
     }
 
     /// Each record is of the auction of the start set alone up to its top channel.
-    fn are_records(&self)
+    fn keeps_records(&self)
         ensures { AreTopRecords self.now.base self.now.kept }
     {
         let _kept = &self.kept;
@@ -195,7 +195,7 @@ fn searched<G: Gate + Sync, W: Threads + Wait + Sync>(
         let answer = records.ask(rt, alloc, gate, top)?;
         search = search.told(answer);
     }
-    records.are_records();
+    records.keeps_records();
     let sought = search.found();
     Ok(Search { sought, records })
 }

@@ -1,6 +1,6 @@
 //! The cache.
 
-ghost use Rattle.std.specs.Prelude.{◌≡◌, ◌≤◌, [], IfOk, IfSome, OnErr, OnOk, length};
+ghost use Rattle.std.specs.Prelude.{◌≡◌, ◌≤◌, [], IfOk, IfSome, OnErr, OnOk};
 ghost use Rattle.lru.specs.LruCache.{IsValid as IsOrdered, lru_cache, promoted};
 ghost use Rattle.pack_defs.specs.ChannelMap.{overlaid};
 ghost use Rattle.cert_types.specs.Certificate.{IsTaskOf};
@@ -57,16 +57,6 @@ impl Cache {
         })
     }
 
-    /// It keeps at most as many maps, and as many refutations, as there is room for. The call is made for this promise alone, and
-    /// does nothing.
-    pub fn keeps_to_its_room(&self)
-        ensures maps { length self.now.maps ≤ self.now.room }
-        ensures refutations { length self.now.refutations ≤ self.now.room }
-    {
-        are_ordered(&self.maps);
-        are_ordered(&self.refutations);
-    }
-
     /// Keeps what answers a task under a top channel and the task's set: of a fit the channel map that it leaves, and of a
     /// refutation a copy. It stands first of its kind, in the place of what was kept under the same key; where there are more
     /// than there is room for, the one that was used least recently goes. A spent budget is not kept.
@@ -104,7 +94,7 @@ impl Cache {
     {
         let key = Key::of(alloc, top, task.set.as_slice())?;
         let map = task.last.overlay(alloc, delta)?;
-        are_ordered(&self.maps);
+        keeps_keys_and_room(&self.maps);
         match self.maps.put(key, map) {
             Ok(_) => Ok(()),
             Err(_) => Err(NoMemory),
@@ -124,7 +114,7 @@ impl Cache {
     {
         let key = Key::of(alloc, top, task.set.as_slice())?;
         let kept = KeptRefutation::of(alloc, refutation)?;
-        are_ordered(&self.refutations);
+        keeps_keys_and_room(&self.refutations);
         match self.refutations.put(key, kept) {
             Ok(_) => Ok(()),
             Err(_) => Err(NoMemory),
@@ -153,8 +143,8 @@ impl Cache {
         ensures moved { OnOk result (self.new ≡ after_cached_answer self.old top book.now task.now worker.now) }
         ensures kept { OnErr result (self.new ≡ self.old) }
     {
-        are_ordered(&self.maps);
-        are_ordered(&self.refutations);
+        keeps_keys_and_room(&self.maps);
+        keeps_keys_and_room(&self.refutations);
         let asked = SignedSet::of(alloc, task.set.as_slice())?;
         if let Some(found) = first_fit(alloc, &self.maps, top, book, task, worker, &asked)? {
             bring_to_front(&mut self.maps, &found.key);
@@ -195,8 +185,8 @@ impl Cache {
         ensures moved { OnOk result (self.new ≡ after_suggested self.old top task.now worker.now) }
         ensures kept { OnErr result (self.new ≡ self.old) }
     {
-        are_ordered(&self.maps);
-        are_ordered(&self.refutations);
+        keeps_keys_and_room(&self.maps);
+        keeps_keys_and_room(&self.refutations);
         let asked = SignedSet::of(alloc, task.set.as_slice())?;
         if let Some(found) = first_changes(alloc, &self.maps, top, task, &asked)? {
             bring_to_front(&mut self.maps, &found.key);
@@ -218,9 +208,10 @@ impl Cache {
 }
 
 // The entries are of different keys, and no more than there is room for.
-fn are_ordered<V>(entries: &LruCache<Key, V>)
+fn keeps_keys_and_room<V>(entries: &LruCache<Key, V>)
     ensures { IsOrdered same_key entries.now }
 {
+    // What the call's own contract promises of any cache.
     let _count = entries.len();
 }
 

@@ -9,7 +9,7 @@ use Rattle.pack_defs.specs.declared.worker.Worker.{Worker}
 use Rattle.auction_core.specs.Clockwork.{ClockworkView}
 use Rattle.auction_core.specs.Replay.{EntryView}
 use Rattle.turn_lock.specs.declared.chronicle.PassKnowledge.{PassKnowledge}
-use Rattle.turn_lock.specs.Passes.{IsIdle, StandsAt, known_of, number_of, standing}
+use Rattle.turn_lock.specs.Passes.{IsPassIdle, PassStandsAt, known_of, pass_number, standing}
 use Rattle.turn_lock.specs.Turns.{AllOf, each_new, known}
 use Rattle.answer_board.specs.contracts.kept.KeptChronicle.TheImpl.{ghosts}
 use Rattle.answer_board.specs.declared.board.Board.{Board}
@@ -80,28 +80,28 @@ turned-list f n xs ys e h = spliced n xs ys (drop (length ys) xs) e (sym (length
 module _ {R : Type 0} (w : R → Worker) (board : Board) where
   -- the passes of a new board, each with the racer of its worker
   pub runners-of : (start : List (ℕ × EntryView)) (n : ℕ) (workers : List Worker) (xs : List (Runner R))
-      → AreAllOn board (map standing (map (λ r. r.pass) xs)) → AllOf IsIdle (map (λ r. r.pass) xs) → map known_of (map (λ r. r.pass) xs) ≡ each_new start n → map w (map (λ r. r.racer) xs) ≡ workers → (raised board).scenario.workers ≡ workers
+      → AreAllOn board (map standing (map (λ r. r.pass) xs)) → AllOf IsPassIdle (map (λ r. r.pass) xs) → map known_of (map (λ r. r.pass) xs) ≡ each_new start n → map w (map (λ r. r.racer) xs) ≡ workers → (raised board).scenario.workers ≡ workers
       → All (λ r. IsRunner board r.pass (w r.racer)) xs
   runners-of start n workers xs all idle new racers of k d lt =
       let r : Runner R = get_or xs k d in
       let own : AllOf (λ (x : Runner R). IsPassOn board x.pass) xs = all-from xs all.own in
-      let rest : AllOf (λ (x : Runner R). IsIdle x.pass) xs = idle-from xs idle in
+      let rest : AllOf (λ (x : Runner R). IsPassIdle x.pass) xs = idle-from xs idle in
       let knowns : map (λ (x : Runner R). known_of x.pass) xs ≡ each_new start n = sym (map_again (λ (x : Runner R). x.pass) known_of xs) ∙ new in
       let many : length xs ≡ n = sym (length_map (λ (x : Runner R). known_of x.pass) xs) ∙ (ap length knowns ∙ long-new start n) in
-      let number : number_of r.pass ≡ k = ap (λ (x : PassKnowledge EntryView). x.number) (sym (get-map (λ (x : Runner R). known_of x.pass) xs k d)) ∙ (ap (λ l. (get_or l k (known_of d.pass)).number) knowns ∙ new-at start n k (known_of d.pass) (omega arith)) in
+      let number : pass_number r.pass ≡ k = ap (λ (x : PassKnowledge EntryView). x.number) (sym (get-map (λ (x : Runner R). known_of x.pass) xs k d)) ∙ (ap (λ l. (get_or l k (known_of d.pass)).number) knowns ∙ new-at start n k (known_of d.pass) (omega arith)) in
       let mine : map (λ (x : Runner R). w x.racer) xs ≡ (raised board).scenario.workers = sym (map_again (λ (x : Runner R). x.racer) w xs) ∙ (racers ∙ sym of) in
       let at : slice_get (map (λ (x : Runner R). w x.racer) xs) k ≡ Some (w r.racer) = slice_get-get_or (map (λ (x : Runner R). w x.racer) xs) k (w d.racer) (let long = length_map (λ (x : Runner R). w x.racer) xs in omega arith) ∙ ap (λ x. Some x) (get-map (λ (x : Runner R). w x.racer) xs k d) in
       record {
         own = all_at (λ (x : Runner R). IsPassOn board x.pass) xs k d own lt;
-        idle = all_at (λ (x : Runner R). IsIdle x.pass) xs k d rest lt;
+        idle = all_at (λ (x : Runner R). IsPassIdle x.pass) xs k d rest lt;
         of = ap (slice_get (raised board).scenario.workers) number ∙ (ap (λ l. slice_get l k) (sym mine) ∙ at);
       }
     where
-      all-from : (ys : List (Runner R)) → AllOf (StandsAt kept_base kept_entries board.lock) (map standing (map (λ r. r.pass) ys)) → AllOf (λ (x : Runner R). IsPassOn board x.pass) ys
+      all-from : (ys : List (Runner R)) → AllOf (PassStandsAt kept_base kept_entries board.lock) (map standing (map (λ r. r.pass) ys)) → AllOf (λ (x : Runner R). IsPassOn board x.pass) ys
       all-from [] h = tt
       all-from (y ∷ ys) h = (h.0, all-from ys h.1)
 
-      idle-from : (ys : List (Runner R)) → AllOf IsIdle (map (λ r. r.pass) ys) → AllOf (λ (x : Runner R). IsIdle x.pass) ys
+      idle-from : (ys : List (Runner R)) → AllOf IsPassIdle (map (λ r. r.pass) ys) → AllOf (λ (x : Runner R). IsPassIdle x.pass) ys
       idle-from [] h = tt
       idle-from (y ∷ ys) h = (h.0, idle-from ys h.1)
 
@@ -121,7 +121,7 @@ module _ {R : Type 0} (w : R → Worker) (board : Board) where
   raced-workers (x ∷ xs) [] h = absurd h
   raced-workers (x ∷ xs) (y ∷ ys) h = let e = h.0.worker in let f = raced-workers xs ys h.1 in λ i. e i ∷ f i
 
-  pub raced-idle : (xs ys : List (Runner R)) → AllZip (HasRaced w board) xs ys → AllOf IsIdle (map (λ r. r.pass) ys)
+  pub raced-idle : (xs ys : List (Runner R)) → AllZip (HasRaced w board) xs ys → AllOf IsPassIdle (map (λ r. r.pass) ys)
   raced-idle [] [] h = tt
   raced-idle [] (y ∷ ys) h = absurd h
   raced-idle (x ∷ xs) [] h = absurd h
@@ -159,13 +159,13 @@ BoardPass = Pass Kept ClockworkView EntryView ghosts
 module _ {R : Type 0} (w : R → Worker) (board : Board) where
   -- the workers of a new board, before the wave
   pub before : (n : ℕ) (ps : List BoardPass) (rs : List R) (xs : List (Runner R))
-      → AreAllOn board (map standing ps) → AllOf IsIdle ps → map known_of ps ≡ each_new (numbered (raised board).history) n → map w rs ≡ (raised board).scenario.workers
+      → AreAllOn board (map standing ps) → AllOf IsPassIdle ps → map known_of ps ≡ each_new (numbered (raised board).history) n → map w rs ≡ (raised board).scenario.workers
       → map (λ (r : Runner R). r.pass) xs ≡ ps → map (λ (r : Runner R). r.racer) xs ≡ rs
       → All (λ r. IsRunner board r.pass (w r.racer)) xs
   before n ps rs xs all idle new racers passes solvers =
       runners-of w board (numbered (raised board).history) n (raised board).scenario.workers xs
       (subst (λ (l : List BoardPass). AreAllOn board (map standing l)) (sym passes) all)
-      (subst (λ (l : List BoardPass). AllOf IsIdle l) (sym passes) idle)
+      (subst (λ (l : List BoardPass). AllOf IsPassIdle l) (sym passes) idle)
       (subst (λ (l : List BoardPass). map known_of l ≡ each_new (numbered (raised board).history) n) (sym passes) new)
       (ap (map w) solvers ∙ racers)
       refl
@@ -195,8 +195,8 @@ module _ {R : Type 0} (w : R → Worker) (board : Board) where
       ∙ ap (λ (l : List BoardPass). map standing l) passes) in
       subst (λ ss. AreAllOn board ss) (sym e) all
 
-  pub after-idle : (ls : List BoardPass) (xs ys : List (Runner R)) → AllZip (HasRaced w board) xs ys → ls ≡ map (λ (r : Runner R). r.pass) ys → AllOf IsIdle ls
-  after-idle ls xs ys raced left = subst (λ (l : List BoardPass). AllOf IsIdle l) (sym left) (raced-idle w board xs ys raced)
+  pub after-idle : (ls : List BoardPass) (xs ys : List (Runner R)) → AllZip (HasRaced w board) xs ys → ls ≡ map (λ (r : Runner R). r.pass) ys → AllOf IsPassIdle ls
+  after-idle ls xs ys raced left = subst (λ (l : List BoardPass). AllOf IsPassIdle l) (sym left) (raced-idle w board xs ys raced)
 
   pub after-workers : (rs ls : List R) (xs ys : List (Runner R)) → map (λ (r : Runner R). r.racer) xs ≡ rs → AllZip (HasRaced w board) xs ys → ls ≡ map (λ (r : Runner R). r.racer) ys → map w ls ≡ map w rs
   after-workers rs ls xs ys solvers raced left =

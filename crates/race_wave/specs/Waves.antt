@@ -14,7 +14,7 @@ use Rattle.auction_core.specs.State.{CoreState, has_ended}
 use Rattle.auction_core.specs.Take.{is_noted}
 use Rattle.turn_lock.specs.declared.chronicle.Chronicle.{Ghosts}
 use Rattle.turn_lock.specs.declared.lock.Pass.{Pass}
-use Rattle.turn_lock.specs.Passes.{IsIdle, IsLegal, mine_of, number_of, seen_of, standing}
+use Rattle.turn_lock.specs.Passes.{IsLegal, IsPassIdle, mine_of, pass_number, seen_of, standing}
 use Rattle.turn_lock.specs.Turns.{AllOf, StartsWith}
 use Rattle.answer_board.specs.declared.board.Board.{Board}
 use Rattle.answer_board.specs.declared.kept.Kept.{Kept}
@@ -50,13 +50,13 @@ pub record HasPosted (old new : List (ℕ × EntryView)) : Type 0 where
 module _ {G : Ghosts Kept ClockworkView EntryView} where
   -- what the worker has seen leaves nothing for it to do
   abbrev pub SeesNothingLeft : Board → Pass Kept ClockworkView EntryView G → Type 0
-  SeesNothingLeft board pass = Sees (raised board) (seen_of pass) (HasNothingLeft (number_of pass))
+  SeesNothingLeft board pass = Sees (raised board) (seen_of pass) (HasNothingLeft (pass_number pass))
 
   -- a pass to the board, outside a turn, and the worker that its number is of
   pub record IsRunner (board : Board) (pass : Pass Kept ClockworkView EntryView G) (worker : Worker) : Type 0 where
     pub own : IsPassOn board pass
-    pub idle : IsIdle pass
-    pub of : slice_get (raised board).scenario.workers (number_of pass) ≡ Some worker
+    pub idle : IsPassIdle pass
+    pub of : slice_get (raised board).scenario.workers (pass_number pass) ≡ Some worker
 
   -- the same pass, which has seen what it had seen, and has posted no answer at fault
   pub record IsSamePass (old new : Pass Kept ClockworkView EntryView G) : Type 0 where

@@ -1,7 +1,7 @@
 //! The workers of a wave, put together of passes and racers.
 
 ghost use Rattle.std.specs.Prelude.{◌≡◌, ◌≤◌, All, [], length, map, vec_capacity};
-ghost use Rattle.turn_lock.specs.Passes.{IsIdle, known_of, standing};
+ghost use Rattle.turn_lock.specs.Passes.{IsPassIdle, known_of, standing};
 ghost use Rattle.turn_lock.specs.Turns.{AllOf, each_new};
 ghost use Rattle.answer_board.specs.Boards.{AreAllOn, raised};
 ghost use Rattle.answer_board.specs.Entries.{numbered};
@@ -41,7 +41,7 @@ pub fn mustered<R: Racer + Drop>(
     runners: Vec<Runner<R>>,
 ) -> Vec<Runner<R>>
     requires all { AreAllOn board.now (map standing passes.items) }
-    requires idle { AllOf IsIdle passes.items }
+    requires idle { AllOf IsPassIdle passes.items }
     requires new { map known_of passes.items ≡ each_new (numbered (raised board.now).history) (length racers.items) }
     requires racers { map R.worker racers.items ≡ (raised board.now).scenario.workers }
     requires empty { runners.items ≡ [] }

@@ -7,7 +7,7 @@ ghost use Rattle.auction_core.specs.Backed.{IsBacked};
 ghost use Rattle.auction_core.specs.Postings.{GoesOnIn};
 ghost use Rattle.auction_core.specs.Setup.{IsOfAuction};
 ghost use Rattle.auction_core.specs.State.{opening};
-ghost use Rattle.turn_lock.specs.Passes.{IsIdle, known_of, standing};
+ghost use Rattle.turn_lock.specs.Passes.{IsPassIdle, known_of, standing};
 ghost use Rattle.turn_lock.specs.Turns.{AllOf, StartsWith, each_new};
 ghost use Rattle.answer_board.specs.Boards.{AreAllOn, beginning_of, raised};
 ghost use Rattle.answer_board.specs.Entries.{numbered};
@@ -72,12 +72,12 @@ fn waved<R: Racer + Send + Drop, G: Gate + Sync, W: Threads + Wait + Sync>(
 ) -> AfterWave<R>
     requires book { book.now ≡ (raised board.now).book }
     requires all { AreAllOn board.now (map standing passes.items) }
-    requires idle { AllOf IsIdle passes.items }
+    requires idle { AllOf IsPassIdle passes.items }
     requires new { map known_of passes.items ≡ each_new (numbered (raised board.now).history) (length racers.items) }
     requires racers { map R.worker racers.items ≡ (raised board.now).scenario.workers }
     requires room { IsRoomFor (length racers.items) room }
     ensures all { AreAllOn board.now (map standing result.passes.items) }
-    ensures idle { AllOf IsIdle result.passes.items }
+    ensures idle { AllOf IsPassIdle result.passes.items }
     ensures racers { map R.worker result.racers.items ≡ map R.worker racers.items }
 {
     let Room {

@@ -1,7 +1,7 @@
 //! The poll of a worker on a board.
 
 ghost use Rattle.std.specs.Prelude.{◌≡◌, Some, option_map};
-ghost use Rattle.turn_lock.specs.Passes.{IsIdle, seen_of};
+ghost use Rattle.turn_lock.specs.Passes.{IsPassIdle, seen_of};
 ghost use Rattle.answer_board.specs.Boards.{IsPassOn, raised};
 ghost use Rattle.answer_board.specs.Posts.{left_by};
 
@@ -18,6 +18,6 @@ pub struct BoardPoll<'a, R: Wait> {
     /// The latest answer.
     pub(crate) last: u64,
     ghost own: { IsPassOn board.now pass.now },
-    ghost idle: { IsIdle pass.now },
+    ghost idle: { IsPassIdle pass.now },
     ghost told: { option_map (λ state. state.number) (left_by (raised board.now) (seen_of pass.now)) ≡ Some last },
 }

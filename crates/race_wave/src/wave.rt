@@ -4,7 +4,7 @@ ghost use Rattle.std.specs.Prelude.{◌≡◌, ◌≢◌, [], All, IfErr, IfOk, 
 ghost use Rattle.std.specs.List.{AllZip, list_all};
 ghost use Rattle.std.specs.Thread.{IsSync};
 ghost use Rattle.cert_types.specs.Query.{IsQuery};
-ghost use Rattle.turn_lock.specs.Passes.{IsIdle, IsLegal, mine_of, number_of, seen_of};
+ghost use Rattle.turn_lock.specs.Passes.{IsLegal, IsPassIdle, mine_of, pass_number, seen_of};
 ghost use Rattle.answer_board.specs.Boards.{IsPassOn, raised};
 ghost use Rattle.answer_board.specs.Posts.{HasStood};
 ghost use Rattle.cert_types.specs.Valid.{IsValid};
@@ -192,10 +192,10 @@ fn tries<R: Racer, G: Gate, W: Wait>(
 
 // The answer of the pass's worker, let through without a look: it is valid, as its racer's contract says.
 fn of_worker(board: &Board, book: &Book, pass: &Pass, task: &Task, answer: Answer) -> Certified
-    requires valid { (worker : Worker) × (slice_get (raised board.now).scenario.workers (number_of pass.now) ≡ Some worker) × IsValid book.now task.now worker answer }
+    requires valid { (worker : Worker) × (slice_get (raised board.now).scenario.workers (pass_number pass.now) ≡ Some worker) × IsValid book.now task.now worker answer }
     ensures book { result.book ≡ book.now }
     ensures task { result.task ≡ task.now }
-    ensures worker { slice_get (raised board.now).scenario.workers (number_of pass.now) ≡ Some result.worker }
+    ensures worker { slice_get (raised board.now).scenario.workers (pass_number pass.now) ≡ Some result.worker }
 {
     let worker = &board.workers()[pass.number() as usize];
     Certified::of_valid(book, task, worker, answer)
@@ -215,9 +215,9 @@ fn attempted<R: Racer, W: Wait>(
     requires number { IsNumberAfter board.now (seen_of pass.old) task.now.number }
     requires legal { IsLegal pass.old }
     requires own { IsPassOn board.now pass.old }
-    requires idle { IsIdle pass.old }
+    requires idle { IsPassIdle pass.old }
     ensures own { IsPassOn board.now pass.new }
-    ensures idle { IsIdle pass.new }
+    ensures idle { IsPassIdle pass.new }
     ensures same { IsSamePass pass.old pass.new }
     ensures legal { IsLegal pass.new }
     ensures mine { mine_of pass.new ≡ mine_of pass.old }
@@ -243,13 +243,13 @@ fn posts<G: Gate, W: Wait>(
     certified: Certified,
 ) -> Result<Onward, NoMemory>
     requires own { IsPassOn board.now pass.old }
-    requires idle { IsIdle pass.old }
+    requires idle { IsPassIdle pass.old }
     requires book { certified.book ≡ (raised board.now).book }
-    requires worker { slice_get (raised board.now).scenario.workers (number_of pass.old) ≡ Some certified.worker }
+    requires worker { slice_get (raised board.now).scenario.workers (pass_number pass.old) ≡ Some certified.worker }
     requires stood { HasStood (raised board.now) (seen_of pass.old) certified.task }
     requires number { number ≡ certified.task.number }
     ensures own { IsPassOn board.now pass.new }
-    ensures idle { IsIdle pass.new }
+    ensures idle { IsPassIdle pass.new }
     ensures same { IsSamePass pass.old pass.new }
     ensures legal { IsLegal pass.new }
     ensures done { IfOk result (λ onward. onward ≡ Onward.Rests → SeesNothingLeft board.now pass.new) }

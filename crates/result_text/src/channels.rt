@@ -10,10 +10,10 @@ use itoa::Buffer;
 use std::alloc::{AllocError as NoMemory, Global};
 
 // The row of a station and its channel, by a writer between two rows.
-fn write_entry(wtr: &mut Writer<Vec<u8>>, facility: u32, channel: u8) -> Result<(), NoMemory>
-    requires { IsBetweenRows wtr.old }
-    ensures idle { OnOk result (IsBetweenRows wtr.new) }
-    ensures text { OnOk result (text_held wtr.new ≡ text_held wtr.old ++ channel_line (facility, channel)) }
+fn write_entry(writer: &mut Writer<Vec<u8>>, facility: u32, channel: u8) -> Result<(), NoMemory>
+    requires { IsBetweenRows writer.old }
+    ensures idle { OnOk result (IsBetweenRows writer.new) }
+    ensures text { OnOk result (text_held writer.new ≡ text_held writer.old ++ channel_line (facility, channel)) }
 {
     let mut first = Buffer::new();
     let mut second = Buffer::new();
@@ -21,20 +21,20 @@ fn write_entry(wtr: &mut Writer<Vec<u8>>, facility: u32, channel: u8) -> Result<
         first.format(facility).as_bytes(),
         second.format(channel).as_bytes(),
     ];
-    if wtr.write_fields(&fields).is_err() {
+    if writer.write_fields(&fields).is_err() {
         return Err(NoMemory);
     }
     Ok(())
 }
 
 // The header, by a writer between two rows.
-fn write_header(wtr: &mut Writer<Vec<u8>>) -> Result<(), NoMemory>
-    requires { IsBetweenRows wtr.old }
-    ensures idle { OnOk result (IsBetweenRows wtr.new) }
-    ensures text { OnOk result (text_held wtr.new ≡ text_held wtr.old ++ channels_header) }
+fn write_header(writer: &mut Writer<Vec<u8>>) -> Result<(), NoMemory>
+    requires { IsBetweenRows writer.old }
+    ensures idle { OnOk result (IsBetweenRows writer.new) }
+    ensures text { OnOk result (text_held writer.new ≡ text_held writer.old ++ channels_header) }
 {
     let names: [&[u8]; 2] = [b"facility", b"channel"];
-    if wtr.write_fields(&names).is_err() {
+    if writer.write_fields(&names).is_err() {
         return Err(NoMemory);
     }
     Ok(())
@@ -46,12 +46,12 @@ fn write_header(wtr: &mut Writer<Vec<u8>>) -> Result<(), NoMemory>
 pub fn channels_csv(alloc: Global, rec: &Record) -> Result<Vec<u8>, NoMemory>
     ensures { IfOk result (λ v. v.items ≡ channels_text rec.now.map) }
 {
-    let mut wtr = WriterBuilder::new().from_writer(Vec::new(alloc));
-    write_header(&mut wtr)?;
+    let mut writer = WriterBuilder::new().from_writer(Vec::new(alloc));
+    write_header(&mut writer)?;
     for entry in rec.map.entries() {
-        write_entry(&mut wtr, entry.0, entry.1)?;
+        write_entry(&mut writer, entry.0, entry.1)?;
     }
-    match wtr.into_inner() {
+    match writer.into_inner() {
         Ok(text) => Ok(text),
         Err(_) => Err(NoMemory),
     }

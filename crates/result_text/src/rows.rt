@@ -17,17 +17,17 @@ use std::alloc::{AllocError as NoMemory, Global};
 
 // One row of four fields, of which the second needs no quotes, by a writer between two rows.
 fn write_row(
-    wtr: &mut Writer<Vec<u8>>,
+    writer: &mut Writer<Vec<u8>>,
     facility: u32,
     word: &str,
     round: u32,
     price: u64,
 ) -> Result<(), NoMemory>
-    requires idle { IsBetweenRows wtr.old }
+    requires idle { IsBetweenRows writer.old }
     requires plain { IsFalse (needs_quotes default_writer word.now) }
-    ensures idle { OnOk result (IsBetweenRows wtr.new) }
+    ensures idle { OnOk result (IsBetweenRows writer.new) }
     ensures text { OnOk result
-        (text_held wtr.new ≡ text_held wtr.old ++ row_fields facility word.now round price) }
+        (text_held writer.new ≡ text_held writer.old ++ row_fields facility word.now round price) }
 {
     let mut first = Buffer::new();
     let mut third = Buffer::new();
@@ -38,7 +38,7 @@ fn write_row(
         third.format(round).as_bytes(),
         fourth.format(price).as_bytes(),
     ];
-    if wtr.write_fields(&fields).is_err() {
+    if writer.write_fields(&fields).is_err() {
         return Err(NoMemory);
     }
     Ok(())
@@ -54,36 +54,36 @@ fn price_in(clock: &Clock, facility: u32) -> u64
 // The row of a station that stands so, and whether it is undecided, and at which price, in cents, where it is frozen, by a
 // writer between two rows; an active one has none.
 fn write_standing(
-    wtr: &mut Writer<Vec<u8>>,
+    writer: &mut Writer<Vec<u8>>,
     facility: u32,
     standing: Standing,
     undecided: bool,
     price: u64,
 ) -> Result<(), NoMemory>
-    requires { IsBetweenRows wtr.old }
-    ensures idle { OnOk result (IsBetweenRows wtr.new) }
+    requires { IsBetweenRows writer.old }
+    ensures idle { OnOk result (IsBetweenRows writer.new) }
     ensures text { OnOk result
-        (text_held wtr.new ≡ text_held wtr.old ++ standing_line facility standing undecided price) }
+        (text_held writer.new ≡ text_held writer.old ++ standing_line facility standing undecided price) }
 {
     match standing {
         Standing::Active => Ok(()),
-        Standing::OnAir { round: 0 } => write_row(wtr, facility, "start", 0, 0),
-        Standing::OnAir { round } => write_row(wtr, facility, "exit", round, 0),
+        Standing::OnAir { round: 0 } => write_row(writer, facility, "start", 0, 0),
+        Standing::OnAir { round } => write_row(writer, facility, "exit", round, 0),
         Standing::Frozen { round } if undecided => {
-            write_row(wtr, facility, "undecided", round, price)
+            write_row(writer, facility, "undecided", round, price)
         }
-        Standing::Frozen { round } => write_row(wtr, facility, "frozen", round, price),
+        Standing::Frozen { round } => write_row(writer, facility, "frozen", round, price),
     }
 }
 
 // The header, by a writer between two rows.
-fn write_header(wtr: &mut Writer<Vec<u8>>) -> Result<(), NoMemory>
-    requires { IsBetweenRows wtr.old }
-    ensures idle { OnOk result (IsBetweenRows wtr.new) }
-    ensures text { OnOk result (text_held wtr.new ≡ text_held wtr.old ++ header_line) }
+fn write_header(writer: &mut Writer<Vec<u8>>) -> Result<(), NoMemory>
+    requires { IsBetweenRows writer.old }
+    ensures idle { OnOk result (IsBetweenRows writer.new) }
+    ensures text { OnOk result (text_held writer.new ≡ text_held writer.old ++ header_line) }
 {
     let names: [&[u8]; 4] = [b"facility", b"outcome", b"round", b"price"];
-    if wtr.write_fields(&names).is_err() {
+    if writer.write_fields(&names).is_err() {
         return Err(NoMemory);
     }
     Ok(())
@@ -101,20 +101,20 @@ fn standings_csv(
     ensures { IfOk result (λ v. v.items ≡
         header_line ++ standing_lines clock.now.paid (map (λ x. x.id) stations.now) clock.now.standings undecided.now) }
 {
-    let mut wtr = WriterBuilder::new().from_writer(Vec::new(alloc));
-    write_header(&mut wtr)?;
+    let mut writer = WriterBuilder::new().from_writer(Vec::new(alloc));
+    write_header(&mut writer)?;
     'rows: for i in 0..stations.len() {
         let facility = stations[i].id;
         let price = price_in(clock, facility);
         write_standing(
-            &mut wtr,
+            &mut writer,
             facility,
             clock.standings()[i],
             undecided[i],
             price,
         )?;
     }
-    match wtr.into_inner() {
+    match writer.into_inner() {
         Ok(text) => Ok(text),
         Err(_) => Err(NoMemory),
     }

@@ -30,22 +30,22 @@ pub fn write_scenario(alloc: Global, sc: &Scenario) -> Result<Vec<u8>, NoMemory>
     ensures text { IfOk result (λ v. v.items ≡ compact_text (data_for sc.now)) }
     ensures reads_back { IfOk result (λ v. IsWithinLimits sc.now → sc.now.owners ≡ None → scenario_of v.items ≡ Ok sc.now) }
 {
-    have_file_numbers(sc.stations.as_slice());
+    keeps_file_numbers(sc.stations.as_slice());
     let value = scenario_value(alloc, sc)?;
     value.to_vec(alloc)
 }
 
 // Each number of a station is one of a file, since it has 32 bits.
-fn have_file_numbers(stations: &[Station])
+fn keeps_file_numbers(stations: &[Station])
     ensures { All IsFileNumber stations.now }
 {
     for station in stations {
-        is_file_number(station.id);
+        keeps_file_number(station.id);
     }
 }
 
 // A number of 32 bits is one of a file.
-fn is_file_number(id: u32)
+fn keeps_file_number(id: u32)
     ensures { id ≤ 4294967295 }
 {}
 

@@ -11,22 +11,22 @@ use pack_defs::book::Book;
 use pack_defs::scenario::Scenario;
 use pack_defs::station::Station;
 
-// A station's number is one of 32 bits.
-fn is_short(id: u32)
+// A station's number is one of 32 bits. The call is made for this promise alone, and does nothing.
+fn keeps_short_number(id: u32)
     ensures { id ≤ greatest_u32 }
 {}
 
-// So is each of these.
-fn are_short(stations: &[Station])
+// So is each of these. The call is made for this promise alone, and does nothing.
+fn keeps_short_numbers(stations: &[Station])
     ensures { All (λ x. x.id ≤ greatest_u32) stations.now }
 {
     for station in stations {
-        is_short(station.id);
+        keeps_short_number(station.id);
     }
 }
 
-// The entries of a fit ascend.
-fn fit_ascends(shown: &Shown)
+// The entries of a fit ascend. The call is made for this promise alone, and does nothing.
+fn keeps_ascending_fit(shown: &Shown)
     ensures { IsFitAscending shown.now }
 {
     match shown {
@@ -39,18 +39,20 @@ fn fit_ascends(shown: &Shown)
     }
 }
 
-/// The entries of each fit of this record ascend. It passes over the steps once, and takes no memory.
-pub fn is_held(rec: &Record)
+/// The entries of each fit of this record ascend. The call is made for this promise alone, and does nothing. It passes over the
+/// steps once, and takes no memory.
+pub fn keeps_ascending_fits(rec: &Record)
     ensures { IsHeld rec.now }
 {
-    fit_ascends(&rec.start);
+    keeps_ascending_fit(&rec.start);
     for step in rec.steps.as_slice() {
-        fit_ascends(&step.shown);
+        keeps_ascending_fit(&step.shown);
     }
 }
 
-// The book is in order, and has no more pairs than a list can hold.
-fn is_kept(book: &Book)
+// The book is in order, and has no more pairs than a list can hold. The call is made for this promise alone, and does
+// nothing.
+fn keeps_order_and_memory(book: &Book)
     ensures order { IsInOrder book.now }
     ensures pairs { length book.now.pairs < 2 ^ 62 }
 {
@@ -58,11 +60,11 @@ fn is_kept(book: &Book)
     book.keeps_to_memory();
 }
 
-/// The numbers of this scenario and this book are such as a transcript names, where the channels are those of a file. It
-/// passes over the stations once, and takes no memory.
-pub fn is_named(sc: &Scenario, book: &Book)
+/// The numbers of this scenario and this book are such as a transcript names, where the channels are those of a file. The
+/// call is made for this promise alone, and does nothing. It passes over the stations once, and takes no memory.
+pub fn keeps_named_numbers(sc: &Scenario, book: &Book)
     ensures { HasFileChannels book.now → IsNamed sc.now book.now }
 {
-    are_short(sc.stations.as_slice());
-    is_kept(book);
+    keeps_short_numbers(sc.stations.as_slice());
+    keeps_order_and_memory(book);
 }

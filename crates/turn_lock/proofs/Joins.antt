@@ -8,7 +8,7 @@ use Rattle.atomic_table.specs.Table.{State, Final, Joins, Seen, Splits}
 use Rattle.atomic_table.proofs.Lists.{at_longer, set_else}
 use Rattle.turn_lock.specs.declared.chronicle.PassKnowledge.{PassKnowledge}
 use Rattle.turn_lock.specs.declared.chronicle.View.{View}
-use Rattle.turn_lock.specs.Turns.{AllOf, FitsKnown, IsKnownAs, IsWhole, Kept, Knows, Moment, by, copy_of, either_of, joined, nobody, one_if, one_more}
+use Rattle.turn_lock.specs.Turns.{AllOf, FitsKnown, IsKnownAs, IsWhole, Knows, Moment, RuleKept, by, copy_of, either_of, joined_view, nobody, one_if, one_pass_more}
 use Rattle.turn_lock.proofs.Lists.{all_map, all_more, at_more, by_none, each_set, none_is, numbered, some_is, waiting_more, waiting_set}
 use Rattle.turn_lock.proofs.Views.{Fit, apart, elsewhere, living, put_at, put_else, put_here, still, still_else, turning}
 use Rattle.turn_lock.proofs.Weighs.{weighs_once}
@@ -31,16 +31,16 @@ module _ {T B E : Type 0} (base_of : T → B) (entries : T → List (ℕ × E)) 
   At = Moment base start
 
   abbrev Rule : State (Option T) V → Type 0
-  Rule = Kept base start base_of entries
+  Rule = RuleKept base start base_of entries
 
   -- a pass is made
-  pub splits : (id : ℕ) (v : V) (b : B) (n : ℕ) → v.base ≡ Some b → v.made ≡ Some n → v.ticket ≡ None → v.turn ≡ false → n < 2 ^ 32 → Splits Rule id v (one_more v) (copy_of v)
+  pub splits : (id : ℕ) (v : V) (b : B) (n : ℕ) → v.base ≡ Some b → v.made ≡ Some n → v.ticket ≡ None → v.turn ≡ false → n < 2 ^ 32 → Splits Rule id v (one_pass_more v) (copy_of v)
   splits id v b n based makes no_ticket out room s r at =
       let m = r.at in
       let mine = living m id v (r.fits id v at) b based in
       let is : n ≡ m.made = (mine.made n makes).0 in
       let keeps_it : m.keeper ≡ id = (mine.made n makes).1 in
-      let left : V = one_more v in
+      let left : V = one_pass_more v in
       let right : V = copy_of v in
       let place : ℕ = length s.views in
       let m' : At = record m { made = m.made + 1; holder = put_at m.made place m.holder } in
@@ -99,10 +99,10 @@ module _ {T B E : Type 0} (base_of : T → B) (entries : T → List (ℕ × E)) 
   either_is (Some k) b n e = inl e
 
   -- one pass is joined into another, and is spent
-  pub joins : (id : ℕ) (v : V) (other : ℕ) (w : V) (a b : B) → v.base ≡ Some a → w.base ≡ Some b → v.ticket ≡ None → w.ticket ≡ None → v.turn ≡ false → w.turn ≡ false → Joins Rule id v other w (joined v w) nobody
+  pub joins : (id : ℕ) (v : V) (other : ℕ) (w : V) (a b : B) → v.base ≡ Some a → w.base ≡ Some b → v.ticket ≡ None → w.ticket ≡ None → v.turn ≡ false → w.turn ≡ false → Joins Rule id v other w (joined_view v w) nobody
   joins id v other w a b based w_based no_ticket w_none out w_out s r at apart_from there =
       let m = r.at in
-      let both : V = joined v w in
+      let both : V = joined_view v w in
       let w_at : get_elem? s.views other ≡ some w = sym (set_else s.views id other both apart_from) ∙ there in
       let lv = living m id v (r.fits id v at) a based in
       let lw = living m other w (r.fits other w w_at) b w_based in

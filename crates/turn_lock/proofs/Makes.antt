@@ -8,7 +8,7 @@ use Rattle.turn_lock.specs.declared.lock.Pass.{Pass}
 use Rattle.turn_lock.specs.declared.lock.TurnLock.{TurnLock}
 use Rattle.turn_lock.specs.declared.chronicle.View.{View}
 use Rattle.atomic_table.specs.Table.{Me}
-use Rattle.turn_lock.specs.Passes.{AreAllOf, IsIdle, PassStanding, StandsAt, known_of, made_over, standing}
+use Rattle.turn_lock.specs.Passes.{AreAllOf, IsPassIdle, PassStanding, PassStandsAt, known_of, made_over, standing}
 use Rattle.turn_lock.specs.Turns.{AllOf, FirstMade, IsSeatIdle, Knows, each_new, known, made_of, newcomer, newcomers}
 use Rattle.turn_lock.proofs.Lists.{all_more, length_map, length_more, map_more, numbered}
 
@@ -103,7 +103,7 @@ module _ (T : Type 0) {B E : Type 0} (base : B) (start : List (ℕ × E)) where
 module _ {T B E : Type 0} {G : Ghosts T B E} (base_of : T → B) (entries : T → List (ℕ × E)) where
   -- what is known of the passes of a new lock
   pub makes : (lock : TurnLock T B E) (ps : List (Pass T B E G)) (n : ℕ) (value : T) → 0 < n → made_over lock ≡ value → AllOf (λ p. p.seat.table_id ≡ lock.table.shared.table_id) ps → map seat_of ps ≡ made_of (base_of value) (entries value) n
-      → AreAllOf base_of entries lock (map standing ps) × AllOf IsIdle ps × (map known_of ps ≡ each_new (entries value) n)
+      → AreAllOf base_of entries lock (map standing ps) × AllOf IsPassIdle ps × (map known_of ps ≡ each_new (entries value) n)
   makes lock ps n value some over own made =
       let base = base_of value in
       let start = entries value in
@@ -111,7 +111,7 @@ module _ {T B E : Type 0} {G : Ghosts T B E} (base_of : T → B) (entries : T �
       let known_as : map known_of ps ≡ each_new start n = sym (map_again seat_of own_of ps) ∙ (ap (map own_of) made ∙ made_known T base start n) in
       let many : length ps ≡ n = sym (length_map seat_of ps) ∙ (ap length made ∙ made_length T base start n) in (
         record {
-          own = all_to standing (StandsAt base_of entries lock) ps (all_two (λ p t i. record { table = t; base = i.base_is ∙ ap (λ v. Some (base_of v)) (sym over); start = i.start_is ∙ ap entries (sym over) }) ps own new);
+          own = all_to standing (PassStandsAt base_of entries lock) ps (all_two (λ p t i. record { table = t; base = i.base_is ∙ ap (λ v. Some (base_of v)) (sym over); start = i.start_is ∙ ap entries (sym over) }) ps own new);
           alone = all_to standing (λ s. s.joined ≡ []) ps (all_two (λ p t i. i.alone) ps own new);
           first = subst (λ (k : ℕ). FirstMade k (map (λ (s : PassStanding B E). s.made) (map standing ps))) (sym (length_map standing ps ∙ many))
               (subst (FirstMade n) (sym (map_again standing (λ (s : PassStanding B E). s.made) ps ∙ (sym (map_again seat_of made_by ps) ∙ ap (map made_by) made))) (made_first T base start n some));

@@ -3,7 +3,7 @@ use Rattle.std.proofs.Common.{◌≡◌, ◌∙◌, ◌<◌, ℕ, zero, suc, Lis
 use Rattle.turn_lock.specs.declared.chronicle.Chronicle.{Ghosts}
 use Rattle.turn_lock.specs.declared.lock.Pass.{Pass}
 use Rattle.turn_lock.specs.declared.lock.TurnLock.{TurnLock}
-use Rattle.turn_lock.specs.Passes.{AreAllOf, IsPassOf, StandsAt, standing}
+use Rattle.turn_lock.specs.Passes.{AreAllOf, IsPassOf, PassStandsAt, standing}
 use Rattle.turn_lock.specs.Turns.{AllOf}
 use Rattle.turn_lock.proofs.Makes.{all_from}
 
@@ -38,7 +38,7 @@ map_each f (x ∷ xs) (y ∷ ys) len each = ap (λ z. z ∷ map f ys) (each 0 x 
 
 module _ {T B E : Type 0} {G : Ghosts T B E} (base_of : T → B) (entries : T → List (ℕ × E)) (lock : TurnLock T B E) where
   pub own_at : (ps : List (Pass T B E G)) (i : ℕ) (d : Pass T B E G) → AreAllOf base_of entries lock (map standing ps) → i < length ps → IsPassOf base_of entries lock (get_or ps i d)
-  own_at ps i d h lt = all_at (λ p. IsPassOf base_of entries lock p) ps i d (all_from standing (StandsAt base_of entries lock) ps h.own) lt
+  own_at ps i d h lt = all_at (λ p. IsPassOf base_of entries lock p) ps i d (all_from standing (PassStandsAt base_of entries lock) ps h.own) lt
 
   pub set_all : (ps : List (Pass T B E G)) (i : ℕ) (y d : Pass T B E G) → standing y ≡ standing (get_or ps i d) → AreAllOf base_of entries lock (map standing ps) → AreAllOf base_of entries lock (map standing (slice_set ps i y))
   set_all ps i y d same h = subst (λ ss. AreAllOf base_of entries lock ss) (sym (map_set standing ps i y d same)) h

@@ -11,7 +11,7 @@ use Rattle.atomic_table.specs.Table.{State, Me, step, keeps, takes, gives, openi
 use Rattle.atomic_table.proofs.Lists.{set_again, set_here, set_else, one_turn}
 use Rattle.turn_lock.specs.declared.chronicle.PassKnowledge.{PassKnowledge}
 use Rattle.turn_lock.specs.declared.chronicle.View.{View}
-use Rattle.turn_lock.specs.Turns.{FitsKnown, Kept, Moment, StartsWith, counted, drawn, founder, known, left, looked, one_if}
+use Rattle.turn_lock.specs.Turns.{FitsKnown, Moment, RuleKept, StartsWith, counted, drawn, founder, known, left, looked, one_if}
 use Rattle.turn_lock.proofs.Lists.{all_map, all_more, by_more, by_other, each_set, inside, mod_more, none_is, one_slot, some_is, waiting_le, waiting_set}
 use Rattle.turn_lock.proofs.Views.{Fit, apart, elsewhere, living, one_view, put_at, put_else, put_here, still, still_else, turning}
 
@@ -26,7 +26,7 @@ module _ {T B E : Type 0} (base_of : T → B) (entries : T → List (ℕ × E)) 
   At = Moment base start
 
   abbrev Rule : State (Option T) V → Type 0
-  Rule = Kept base start base_of entries
+  Rule = RuleKept base start base_of entries
 
   -- one view at most has the turn
   alone : (s : State (Option T) V) (r : Rule s) (i j : ℕ) (v w : V) → get_elem? s.views i ≡ some v → v.turn ≡ true → get_elem? s.views j ≡ some w → w.turn ≡ true → i ≡ j

@@ -1,4 +1,4 @@
--- The rule of a lock that serves in the order of tickets (`Kept`), and what each of its steps tells a pass.
+-- The rule of a lock that serves in the order of tickets (`RuleKept`), and what each of its steps tells a pass.
 --
 -- Word 0 is the next ticket and word 1 the ticket that is served, both modulo 2 ^ 64. Word 2 is the length of the history that the value stands for.
 -- Each number from the ticket served up to, and without, the next ticket is the ticket of exactly one view, and only the view with the ticket
@@ -71,8 +71,8 @@ module _ {B E : Type 0} where
   founder base start = record { ticket = None; turn = false; made = Some 1; base = Some base; start = start; own = known 0 start []; joined = [] }
 
   -- what the one that makes passes keeps, and what the new pass knows
-  abbrev pub one_more : View B E → View B E
-  one_more v = record v { made = option_map (λ n. suc n) v.made }
+  abbrev pub one_pass_more : View B E → View B E
+  one_pass_more v = record v { made = option_map (λ n. suc n) v.made }
 
   abbrev pub copy_of : View B E → View B E
   copy_of v = record { ticket = None; turn = false; made = None; base = v.base; start = v.start; own = known (unwrap_or v.made 0) v.own.seen []; joined = [] }
@@ -90,8 +90,8 @@ module _ {B E : Type 0} where
   made_of base start (suc n) = (record (founder base start) { made = Some (suc n) }, []) ∷ newcomers base start n
 
   -- two passes as one, which is the first
-  abbrev pub joined : View B E → View B E → View B E
-  joined v w = record v { made = either_of v.made w.made; joined = v.joined ++ w.own ∷ w.joined }
+  abbrev pub joined_view : View B E → View B E → View B E
+  joined_view v w = record v { made = either_of v.made w.made; joined = v.joined ++ w.own ∷ w.joined }
 
   -- how many views wait or have the turn
   abbrev pub waiting_in : List (View B E) → ℕ
@@ -134,7 +134,7 @@ module _ {B E : Type 0} where
       pub others : AllOf (λ k. FitsKnown m.made m.tail m.holder seat k × (k.number ≢ v.own.number)) v.joined
 
     -- the rule. A view is a pass's, or what a pass that was joined into another has left behind
-    pub record Kept {T : Type 0} (base_of : T → B) (entries : T → List (ℕ × E)) (s : State (Option T) (View B E)) : Type 0 where
+    pub record RuleKept {T : Type 0} (base_of : T → B) (entries : T → List (ℕ × E)) (s : State (Option T) (View B E)) : Type 0 where
       pub at : Moment
       pub words : s.words ≡ at.issued % 2 ^ 64 ∷ at.served % 2 ^ 64 ∷ length (start ++ at.tail) ∷ []
       pub crowd : length s.views ≡ at.made

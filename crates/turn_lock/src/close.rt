@@ -1,8 +1,8 @@
 //! How a lock ends: all its passes are joined into one, which then knows that nobody has the turn.
 
 ghost use Rattle.std.specs.Prelude.{◌≡◌, ◌<◌, ◌∷◌, [], IsSome, length, map, unwrap_or, ℕ};
-ghost use Rattle.turn_lock.specs.Passes.{AreAllOf, IsIdle, IsPassOf, known_of, made_over, standing};
-ghost use Rattle.turn_lock.specs.Turns.{AllOf, IsWhole, Knows, joined};
+ghost use Rattle.turn_lock.specs.Passes.{AreAllOf, IsPassIdle, IsPassOf, known_of, made_over, standing};
+ghost use Rattle.turn_lock.specs.Turns.{AllOf, IsWhole, Knows, joined_view};
 
 use crate::chronicle::Chronicle;
 use crate::lock::{Pass, TurnLock};
@@ -15,7 +15,7 @@ impl<T: Chronicle> TurnLock<T> {
     /// Every pass must be there, idle, and the first one in front, as `make` gave them; the others may stand in any order.
     pub fn close(self, passes: Vec<Pass<T>>) -> T
         requires all { AreAllOf T.base T.entries self (map standing passes.items) }
-        requires idle { AllOf IsIdle passes.items }
+        requires idle { AllOf IsPassIdle passes.items }
         ensures base { T.base result ≡ T.base (made_over self) }
         ensures whole { IsWhole (length passes.items) (T.entries (made_over self)) (T.entries result) (map known_of passes.items) }
     {
@@ -32,9 +32,9 @@ impl<T: Chronicle> TurnLock<T> {
     // Joins the other pass into this one, which then knows both.
     fn absorb(&self, pass: &mut Pass<T>, other: Pass<T>)
         requires own { IsPassOf T.base T.entries self.now pass.old × IsPassOf T.base T.entries self.now other }
-        requires idle { IsIdle pass.old × IsIdle other }
+        requires idle { IsPassIdle pass.old × IsPassIdle other }
         ensures own { IsPassOf T.base T.entries self.now pass.new }
-        ensures both { pass.new.seat.me ≡ (joined pass.old.seat.me.0 other.seat.me.0, []) }
+        ensures both { pass.new.seat.me ≡ (joined_view pass.old.seat.me.0 other.seat.me.0, []) }
     {
         let Pass {
             seat,
@@ -47,7 +47,7 @@ impl<T: Chronicle> TurnLock<T> {
     // The value, once all passes were joined into this one.
     fn close_by(self, pass: Pass<T>) -> T
         requires own { IsPassOf T.base T.entries self pass }
-        requires idle { IsIdle pass }
+        requires idle { IsPassIdle pass }
         requires makes { IsSome pass.seat.me.0.made }
         requires many { length (pass.seat.me.0.own ∷ pass.seat.me.0.joined) ≡ unwrap_or pass.seat.me.0.made 0 }
         requires all { (p : ℕ) → p < unwrap_or pass.seat.me.0.made 0 → Knows p (map (λ k. k.number) (pass.seat.me.0.own ∷ pass.seat.me.0.joined)) }

@@ -1,8 +1,8 @@
 //! How a lock is made, with all the passes that it will ever have.
 
 ghost use Rattle.std.specs.Prelude.{◌≡◌, ◌<◌, ◌∷◌, [], IfErr, IfOk, Some, map};
-ghost use Rattle.turn_lock.specs.Passes.{AreAllOf, IsIdle, IsPassOf, known_of, made_over, standing};
-ghost use Rattle.turn_lock.specs.Turns.{AllOf, copy_of, each_new, founder, one_more};
+ghost use Rattle.turn_lock.specs.Passes.{AreAllOf, IsPassIdle, IsPassOf, known_of, made_over, standing};
+ghost use Rattle.turn_lock.specs.Turns.{AllOf, copy_of, each_new, founder, one_pass_more};
 
 use crate::chronicle::Chronicle;
 use crate::lock::{Pass, TurnLock};
@@ -39,7 +39,7 @@ impl<T: Chronicle> TurnLock<T> {
         requires some { 0 < n }
         ensures key { IfOk result (λ r. made_over r.0 ≡ value) }
         ensures all { IfOk result (λ r. AreAllOf T.base T.entries r.0 (map standing r.1.items)) }
-        ensures idle { IfOk result (λ r. AllOf IsIdle r.1.items) }
+        ensures idle { IfOk result (λ r. AllOf IsPassIdle r.1.items) }
         ensures new { IfOk result (λ r. map known_of r.1.items ≡ each_new (T.entries value) n) }
         ensures back { IfErr result (λ e. e.1 ≡ value) }
     {
@@ -90,10 +90,10 @@ impl<T: Chronicle> TurnLock<T> {
     // A new pass, of the next number. The first pass counts those that were made.
     fn another(&self, pass: &mut Pass<T>, number: u32) -> Pass<T>
         requires own { IsPassOf T.base T.entries self.now pass.old }
-        requires idle { IsIdle pass.old }
+        requires idle { IsPassIdle pass.old }
         requires makes { pass.old.seat.me.0.made ≡ Some number }
         ensures own { (pass.new.seat.table_id ≡ self.now.table.shared.table_id) × (result.seat.table_id ≡ self.now.table.shared.table_id) }
-        ensures pass { pass.new.seat.me ≡ (one_more pass.old.seat.me.0, []) }
+        ensures pass { pass.new.seat.me ≡ (one_pass_more pass.old.seat.me.0, []) }
         ensures new { result.seat.me ≡ (copy_of pass.old.seat.me.0, []) }
     {
         let seat = self.table.shared.split_seat::<Part>(&mut pass.seat);

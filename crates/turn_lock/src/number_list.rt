@@ -2,7 +2,7 @@
 
 ghost use Rattle.std.specs.Prelude.{◌≡◌, ◌++◌, ◌∷◌, [], MatchBool, Some, ⊤};
 ghost use Rattle.turn_lock.specs.NumberLists.{history_in, title_of};
-ghost use Rattle.turn_lock.specs.Passes.{IsIdle, IsLegal, IsPassOf, mine_of, number_of, seen_of, standing};
+ghost use Rattle.turn_lock.specs.Passes.{IsLegal, IsPassIdle, IsPassOf, mine_of, pass_number, seen_of, standing};
 ghost use Rattle.turn_lock.specs.Turns.{StartsWith, last};
 
 use crate::chronicle::Chronicle;
@@ -39,14 +39,14 @@ pub fn append<R: Wait>(
     number: u32,
 ) -> bool
     requires own { IsPassOf title_of history_in lock.now pass.old }
-    requires idle { IsIdle pass.old }
+    requires idle { IsPassIdle pass.old }
     ensures own { IsPassOf title_of history_in lock.now pass.new }
-    ensures idle { IsIdle pass.new }
+    ensures idle { IsPassIdle pass.new }
     ensures standing { standing pass.new ≡ standing pass.old }
     ensures legal { IsLegal pass.new }
     ensures seen { StartsWith (seen_of pass.new) (seen_of pass.old) }
-    ensures last { MatchBool result (last (seen_of pass.new) ≡ Some (number_of pass.old, number)) ⊤ }
-    ensures mine { MatchBool result (mine_of pass.new ≡ mine_of pass.old ++ (number_of pass.old, number) ∷ []) (mine_of pass.new ≡ mine_of pass.old) }
+    ensures last { MatchBool result (last (seen_of pass.new) ≡ Some (pass_number pass.old, number)) ⊤ }
+    ensures mine { MatchBool result (mine_of pass.new ≡ mine_of pass.old ++ (pass_number pass.old, number) ∷ []) (mine_of pass.new ≡ mine_of pass.old) }
 {
     let mut turn = lock.enter(rt, pass);
     if turn.value.numbers.reserve(1).is_err() {

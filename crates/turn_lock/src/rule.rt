@@ -2,7 +2,7 @@
 //! value of these types is made; `make`, `turns` and `close` name them at their steps.
 
 ghost use Rattle.std.specs.Prelude.{ℕ, Option, None};
-ghost use Rattle.turn_lock.specs.Turns.{Kept, copy_of, counted, drawn, founder, joined, left, looked, nobody, one_more};
+ghost use Rattle.turn_lock.specs.Turns.{RuleKept, copy_of, counted, drawn, founder, joined_view, left, looked, nobody, one_pass_more};
 
 use crate::chronicle::{Chronicle, View};
 use atomic_table::{Join, Play, Split, TableRule};
@@ -15,7 +15,7 @@ pub struct InTurn<T> {
 }
 
 impl<T: Chronicle> TableRule<Option<T>, View<T::Base, T::Entry>, Snapshot<T>> for InTurn<T> {
-    ghost holds = { λ key. Kept (T.base key.value) (T.entries key.value) T.base T.entries };
+    ghost holds = { λ key. RuleKept (T.base key.value) (T.entries key.value) T.base T.entries };
 
     ghost first = { λ key. founder (T.base key.value) (T.entries key.value) };
 }
@@ -63,7 +63,7 @@ impl<T: Chronicle> Play<Option<T>, View<T::Base, T::Entry>> for Leave {
 pub struct Part;
 
 impl<B, E> Split<View<B, E>> for Part {
-    ghost left = { one_more };
+    ghost left = { one_pass_more };
 
     ghost right = { copy_of };
 }
@@ -72,7 +72,7 @@ impl<B, E> Split<View<B, E>> for Part {
 pub struct Both;
 
 impl<B, E> Join<View<B, E>> for Both {
-    ghost both = { joined };
+    ghost both = { joined_view };
 
     ghost spent = { nobody };
 }

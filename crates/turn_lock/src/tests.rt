@@ -2,7 +2,7 @@
 
 ghost use Rattle.std.specs.Prelude.{◌≡◌, ◌<◌, length, map};
 ghost use Rattle.turn_lock.specs.NumberLists.{history_in, title_of};
-ghost use Rattle.turn_lock.specs.Passes.{AreAllOf, IsIdle, IsPassOf, standing};
+ghost use Rattle.turn_lock.specs.Passes.{AreAllOf, IsPassIdle, IsPassOf, standing};
 ghost use Rattle.turn_lock.specs.Turns.{AllOf};
 
 use crate::lock::{Pass, TurnLock};
@@ -55,8 +55,8 @@ fn add_all<R: Wait>(
     to: u32,
 )
     requires own { IsPassOf title_of history_in lock.now pass.old }
-    requires idle { IsIdle pass.old }
-    ensures idle { IsIdle pass.new }
+    requires idle { IsPassIdle pass.old }
+    ensures idle { IsPassIdle pass.new }
     ensures standing { standing pass.new ≡ standing pass.old }
 {
     for number in from..to {
@@ -72,13 +72,13 @@ fn all_count<R: Threads + Wait + Sync>(
     each: u32,
 )
     requires all { AreAllOf title_of history_in lock.now (map standing passes.old) }
-    requires idle { AllOf IsIdle passes.old }
+    requires idle { AllOf IsPassIdle passes.old }
     ensures all { AreAllOf title_of history_in lock.now (map standing passes.new) }
-    ensures idle { AllOf IsIdle passes.new }
+    ensures idle { AllOf IsPassIdle passes.new }
 {
     let part = |_: usize, pass: &mut Pass<NumberList>|
-        requires { IsPassOf title_of history_in lock.now pass.now × IsIdle pass.now }
-        ensures { IsIdle pass.exit.now × (standing pass.exit.now ≡ standing pass.entry.now) }
+        requires { IsPassOf title_of history_in lock.now pass.now × IsPassIdle pass.now }
+        ensures { IsPassIdle pass.exit.now × (standing pass.exit.now ≡ standing pass.entry.now) }
     { add_all(rt, lock, pass, 0, each) };
     thread::for_each_mut(rt, passes, 4, &part);
 }
@@ -118,9 +118,9 @@ fn add_in_turn<R: Wait>(
     turns: &[(u64, u32)],
 )
     requires all { AreAllOf title_of history_in lock.now (map standing passes.old) }
-    requires idle { AllOf IsIdle passes.old }
+    requires idle { AllOf IsPassIdle passes.old }
     ensures all { AreAllOf title_of history_in lock.now (map standing passes.new) }
-    ensures idle { AllOf IsIdle passes.new }
+    ensures idle { AllOf IsPassIdle passes.new }
 {
     for (by, number) in turns {
         let by = *by as usize;
@@ -175,9 +175,9 @@ fn add_there<R: Wait>(
     number: u32,
 ) -> Pass<NumberList>
     requires own { IsPassOf title_of history_in lock.now pass }
-    requires idle { IsIdle pass }
+    requires idle { IsPassIdle pass }
     ensures own { IsPassOf title_of history_in lock.now result }
-    ensures idle { IsIdle result }
+    ensures idle { IsPassIdle result }
     ensures standing { standing result ≡ standing pass }
 {
     append(rt, lock, &mut pass, number);

@@ -2,7 +2,7 @@
 //! in hand (`commit`, any number of times), and gives the value back (`leave`).
 
 ghost use Rattle.std.specs.Prelude.{◌≡◌, ◌+◌, ◌<◌, ◌^◌, ◌++◌, ◌∷◌, [], Some, length, ℕ};
-ghost use Rattle.turn_lock.specs.Passes.{HasTurn, IsIdle, IsLegal, IsPassOf, known_of, made_over, mine_of, number_of, seen_of, standing};
+ghost use Rattle.turn_lock.specs.Passes.{HasTurn, IsLegal, IsPassIdle, IsPassOf, known_of, made_over, mine_of, pass_number, seen_of, standing};
 ghost use Rattle.turn_lock.specs.Turns.{StartsWith};
 
 use crate::chronicle::Chronicle;
@@ -15,7 +15,7 @@ use std::thread;
 impl<T: Chronicle> Pass<T> {
     /// The number of the pass: its place, from 0, in the list that `make` gave. Its entries have this number.
     pub fn number(&self) -> u32
-        ensures { result ≡ number_of self.now }
+        ensures { result ≡ pass_number self.now }
     {
         self.number
     }
@@ -29,7 +29,7 @@ impl<T: Chronicle> TurnLock<T> {
     /// pass never leaves, nor where two threads each wait for the other's turn at another lock.
     pub fn enter<R: Wait>(&self, rt: &R, pass: &mut Pass<T>) -> Turn<T>
         requires own { IsPassOf T.base T.entries self.now pass.old }
-        requires idle { IsIdle pass.old }
+        requires idle { IsPassIdle pass.old }
         ensures own { IsPassOf T.base T.entries self.now pass.new }
         ensures turn { HasTurn pass.new }
         ensures value { T.entries result.value ≡ seen_of pass.new }
@@ -56,7 +56,7 @@ impl<T: Chronicle> TurnLock<T> {
     fn count_up<W: AddsEntry<T::Entry>>(&self, pass: &mut Pass<T>, turn: &Turn<T>)
         requires own { IsPassOf T.base T.entries self.now pass.old }
         requires turn { HasTurn pass.old }
-        requires said { (e : ℕ × T.Entry) × (W.said ≡ Some e) × (e.0 ≡ number_of pass.old) }
+        requires said { (e : ℕ × T.Entry) × (W.said ≡ Some e) × (e.0 ≡ pass_number pass.old) }
         requires few { length (seen_of pass.old) + 1 < 2 ^ 64 }
         ensures own { IsPassOf T.base T.entries self.now pass.new }
         ensures turn { HasTurn pass.new }
@@ -78,7 +78,7 @@ impl<T: Chronicle> TurnLock<T> {
     pub fn commit(&self, pass: &mut Pass<T>, turn: &mut Turn<T>)
         requires own { IsPassOf T.base T.entries self.now pass.old }
         requires turn { HasTurn pass.old }
-        requires entry { (e : ℕ × T.Entry) × (T.entries turn.old.value ≡ seen_of pass.old ++ e ∷ []) × (e.0 ≡ number_of pass.old) }
+        requires entry { (e : ℕ × T.Entry) × (T.entries turn.old.value ≡ seen_of pass.old ++ e ∷ []) × (e.0 ≡ pass_number pass.old) }
         requires base { T.base turn.old.value ≡ T.base (made_over self.now) }
         requires few { length (seen_of pass.old) + 1 < 2 ^ 64 }
         ensures own { IsPassOf T.base T.entries self.now pass.new }
@@ -103,7 +103,7 @@ impl<T: Chronicle> TurnLock<T> {
         requires value { T.entries turn.value ≡ seen_of pass.old }
         requires base { T.base turn.value ≡ T.base (made_over self.now) }
         ensures own { IsPassOf T.base T.entries self.now pass.new }
-        ensures idle { IsIdle pass.new }
+        ensures idle { IsPassIdle pass.new }
         ensures known { known_of pass.new ≡ known_of pass.old }
         ensures standing { standing pass.new ≡ standing pass.old }
     {

@@ -1,7 +1,7 @@
 //! Tests of postings on a board, from one thread and from several.
 
 ghost use Rattle.std.specs.Prelude.{◌≡◌, map};
-ghost use Rattle.turn_lock.specs.Passes.{IsIdle, standing};
+ghost use Rattle.turn_lock.specs.Passes.{IsPassIdle, standing};
 ghost use Rattle.turn_lock.specs.Turns.{AllOf};
 ghost use Rattle.answer_board.specs.Boards.{AreAllOn, IsPassOn};
 
@@ -108,9 +108,9 @@ fn told<R: Wait>(
     given: Given,
 ) -> Result<Reply, NoMemory>
     requires own { IsPassOn board.now pass.old }
-    requires idle { IsIdle pass.old }
+    requires idle { IsPassIdle pass.old }
     ensures own { IsPassOn board.now pass.new }
-    ensures idle { IsIdle pass.new }
+    ensures idle { IsPassIdle pass.new }
     ensures standing { standing pass.new ≡ standing pass.old }
 {
     let answer = answer(alloc, given)?;
@@ -123,9 +123,9 @@ fn told<R: Wait>(
 // Whether a posting is told its reply, and leaves the query that is to stand.
 fn is_told<R: Wait>(rt: &R, alloc: Global, board: &Board, pass: &mut Pass, case: Case) -> bool
     requires own { IsPassOn board.now pass.old }
-    requires idle { IsIdle pass.old }
+    requires idle { IsPassIdle pass.old }
     ensures own { IsPassOn board.now pass.new }
-    ensures idle { IsIdle pass.new }
+    ensures idle { IsPassIdle pass.new }
     ensures standing { standing pass.new ≡ standing pass.old }
 {
     let (number, given, reply, after) = case;
@@ -144,9 +144,9 @@ fn are_told<R: Wait>(
     cases: &[(usize, Case)],
 ) -> bool
     requires all { AreAllOn board.now (map standing passes.old) }
-    requires idle { AllOf IsIdle passes.old }
+    requires idle { AllOf IsPassIdle passes.old }
     ensures all { AreAllOn board.now (map standing passes.new) }
-    ensures idle { AllOf IsIdle passes.new }
+    ensures idle { AllOf IsPassIdle passes.new }
 {
     let mut all = true;
     for (by, case) in cases {
@@ -230,8 +230,8 @@ fn post_own<R: Wait>(
     counts: &Counts,
 )
     requires own { IsPassOn board.now pass.old }
-    requires idle { IsIdle pass.old }
-    ensures idle { IsIdle pass.new }
+    requires idle { IsPassIdle pass.old }
+    ensures idle { IsPassIdle pass.new }
     ensures standing { standing pass.new ≡ standing pass.old }
 {
     let mut settled = false;
@@ -263,13 +263,13 @@ fn all_post<W: Threads + Wait + Sync>(
     counts: &Counts,
 )
     requires all { AreAllOn board.now (map standing passes.old) }
-    requires idle { AllOf IsIdle passes.old }
+    requires idle { AllOf IsPassIdle passes.old }
     ensures all { AreAllOn board.now (map standing passes.new) }
-    ensures idle { AllOf IsIdle passes.new }
+    ensures idle { AllOf IsPassIdle passes.new }
 {
     let part = |place: usize, pass: &mut Pass|
-        requires { IsPassOn board.now pass.now × IsIdle pass.now }
-        ensures { IsIdle pass.exit.now × (standing pass.exit.now ≡ standing pass.entry.now) }
+        requires { IsPassOn board.now pass.now × IsPassIdle pass.now }
+        ensures { IsPassIdle pass.exit.now × (standing pass.exit.now ≡ standing pass.entry.now) }
     { post_own(rt, alloc, board, place, pass, counts) };
     thread::for_each_mut(rt, passes, 3, &part);
 }

@@ -33,7 +33,7 @@ pub returns-clause-ends : goal.returns-clause-ends
 returns-clause-ends g c =
     let settled = c.in-Ok-settled_by.ensures in
     settled-since (import_seen c.args.files.now) _ _ _ _ _ _ c.in-Ok.shown.inputs c.in-Ok.shown.record c.in-Ok-file_bytes.log.items c.in-Ok-settled_by.settled c.in-Ok.ensures.shown (sym c.in_default.ensures)
-    c.in-Ok.ensures.same c.in-Ok-file_bytes.ensures.read (rw c.deref.ensures.value at settled.0) settled.1 c.is_held.ensures c.with_record.ensures.kept
+    c.in-Ok.ensures.same c.in-Ok-file_bytes.ensures.read (rw c.deref.ensures.value at settled.0) settled.1 c.keeps_ascending_fits.ensures c.with_record.ensures.kept
     (record { files = c.in-Ok-file_bytes.ensures.files; faults = c.in-Ok-file_bytes.ensures.counted; steady = c.in-Ok-file_bytes.ensures.steady; held = refl; cuts = refl; sure = refl })
     (rw c.with_record.ensures.status
     (rw (c.in-Ok-texts_of.ensures.result, c.in-Ok-texts_of.ensures.transcript, c.in-Ok-texts_of.ensures.summary, c.done_status-done.ensures) at c.deliver-status.ensures.delivers))

@@ -17,7 +17,7 @@ returns-in-Ok-begun-clause-resumable g c =
     let (kept, sound, behind) = rw c.deref.ensures.value at c.in-Ok-begun.ensures in
     record {
       accepted = c.in-Ok.ensures.told;
-      named = c.is_named.ensures;
+      named = c.keeps_named_numbers.ensures;
       text = c.in-Ok-file_bytes.text.items;
       held = λ files at. c.in-Ok-file_bytes.ensures.read files (c.in-Ok.ensures.files ∙ at);
       kept = kept;
@@ -28,6 +28,6 @@ returns-in-Ok-begun-clause-resumable g c =
 pub returns-in-Err-begun-clause-ends : goal.returns-in-Err-begun-clause-ends
 returns-in-Err-begun-clause-ends g c =
     rw c.without_record-in-Err-begun.ensures.status
-    (not-begun (resume_seen c.args.files.now) _ _ _ _ c.in-Ok.inputs c.in-Ok-file_bytes.text.items c.in-Err-begun.why c.in-Ok.ensures.told c.is_named.ensures
+    (not-begun (resume_seen c.args.files.now) _ _ _ _ c.in-Ok.inputs c.in-Ok-file_bytes.text.items c.in-Err-begun.why c.in-Ok.ensures.told c.keeps_named_numbers.ensures
     (λ files at. c.in-Ok-file_bytes.ensures.read files (c.in-Ok.ensures.files ∙ at))
     (subst (λ t. IsResumption c.in-Ok.inputs (begun c.in-Ok.inputs t) (Err c.in-Err-begun.why)) c.deref.ensures.value c.in-Err-begun.ensures) c.say_denied.ensures c.without_record-in-Err-begun.ensures.none (c.in-Ok-file_bytes.ensures.files ∙ c.in-Ok.ensures.files))

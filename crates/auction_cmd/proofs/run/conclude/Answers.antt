@@ -26,6 +26,6 @@ returns-clause-ends g c =
     let inputs = c.args.inputs.now in
     let rec = c.args.rec in
     let of : IsRecordIn rec.order inputs rec = subst (IsEndedRecordIn rec.order inputs rec) c.in-Done.is c.requires.of in
-    inr (Delivered of c.is_named.ensures c.is_held.ensures c.with_record-2.ensures.kept
+    inr (Delivered of c.keeps_named_numbers.ensures c.keeps_ascending_fits.ensures c.with_record-2.ensures.kept
     (rw c.with_record-2.ensures.status
     (rw (c.in-Ok.ensures.result, c.in-Ok.ensures.channels, c.in-Ok.ensures.transcript, c.in-Ok.ensures.summary, c.done_status-done.ensures) at c.deliver-status.ensures.delivers)))

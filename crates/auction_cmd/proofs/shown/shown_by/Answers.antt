@@ -16,7 +16,7 @@ returns-in-Ok-record_of-clause-shown g c =
     let (sound, own) = c.in-Ok-record_of.ensures text read in
     record {
       accepted = c.in-Ok.ensures.told;
-      named = c.is_named.ensures;
+      named = c.keeps_named_numbers.ensures;
       text = text;
       held = λ files at. is files (c.in-Ok.ensures.files ∙ at);
       sound = sound;
@@ -27,6 +27,6 @@ pub returns-in-Err-record_of-clause-ends : goal.returns-in-Err-record_of-clause-
 returns-in-Err-record_of-clause-ends g c =
     let (text, read, is) = c.in-Ok-read_text.ensures.read in
     rw c.without_record-in-Err-record_of.ensures.status
-    (denied-ends (verify_seen c.args.files.now) _ _ _ _ c.in-Ok.inputs text c.in-Err-record_of.why c.in-Ok.ensures.told c.is_named.ensures
+    (denied-ends (verify_seen c.args.files.now) _ _ _ _ c.in-Ok.inputs text c.in-Err-record_of.why c.in-Ok.ensures.told c.keeps_named_numbers.ensures
     (λ files at. is files (c.in-Ok.ensures.files ∙ at))
     (c.in-Err-record_of.ensures text read) c.say_denied.ensures c.without_record-in-Err-record_of.ensures.none (c.in-Ok-read_text.ensures.files ∙ c.in-Ok.ensures.files))

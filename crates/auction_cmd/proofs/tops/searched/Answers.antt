@@ -24,7 +24,7 @@ pub returns-clause-truth : goal.returns-clause-truth
 returns-clause-truth g c =
     let asked = asked_of c.loop-top.records.kept in
     c.found-sought.ensures.truth (base_of c.args.sources) 14 c.args.sources.scenario.top asked c.loop-top.invariant.1
-    (subst (λ (base : SeekBase). AreTrue base asked) c.loop-top.invariant.0 (records-true c.loop-top.records.base c.loop-top.records.kept c.are_records.ensures))
+    (subst (λ (base : SeekBase). AreTrue base asked) c.loop-top.invariant.0 (records-true c.loop-top.records.base c.loop-top.records.kept c.keeps_records.ensures))
 
 pub returns-clause-asked_few : goal.returns-clause-asked_few
 returns-clause-asked_few g c =

@@ -6,6 +6,6 @@ use Rattle.result_text.proofs.channels.channels_csv.Given as goal
 
 abbrev pub invariant-loop-entry : goal.invariant-loop-entry
 invariant-loop-entry l = record {
-  idle : IsBetweenRows l.wtr;
-  text : text_held l.wtr ≡ channels_header ++ flat_map channel_line (take l.entry-index l.rec.map);
+  idle : IsBetweenRows l.writer;
+  text : text_held l.writer ≡ channels_header ++ flat_map channel_line (take l.entry-index l.rec.map);
 }

@@ -4,6 +4,6 @@ use Rattle.result_text.proofs.rows.standings_csv.Given as goal
 
 abbrev pub invariant-rows : goal.invariant-rows
 invariant-rows l = record {
-  idle : IsBetweenRows l.wtr;
-  text : text_held l.wtr ≡ header_line ++ standing_lines l.clock.paid (take l.i (map (λ x. x.id) l.stations)) (take l.i l.clock.standings) (take l.i l.undecided);
+  idle : IsBetweenRows l.writer;
+  text : text_held l.writer ≡ header_line ++ standing_lines l.clock.paid (take l.i (map (λ x. x.id) l.stations)) (take l.i l.clock.standings) (take l.i l.undecided);
 }

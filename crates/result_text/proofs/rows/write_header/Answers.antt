@@ -12,6 +12,6 @@ unfolding fields_text is_blank header_line
 returns-clause-text c =
     let idle = c.requires in
     let good : is_err c.write_fields.result ≡ false = search rules in
-    let plain : c.args.wtr.now.cfg.style ≢ style.NonNumeric = rw idle.setup (λ e. cc e) in
+    let plain : c.args.writer.now.cfg.style ≢ style.NonNumeric = rw idle.setup (λ e. cc e) in
     let h = on-ok c.write_fields.result good c.write_fields.ensures.bytes idle.fields idle.wrote plain in
-    h ∙ ap (λ t. text_held c.args.wtr.now ++ t) (rw idle.setup refl)
+    h ∙ ap (λ t. text_held c.args.writer.now ++ t) (rw idle.setup refl)

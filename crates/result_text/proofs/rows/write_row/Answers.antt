@@ -11,9 +11,9 @@ pub returns-clause-text : goal.returns-clause-text
 returns-clause-text c =
     let idle = c.requires.idle in
     let good : is_err c.write_fields.result ≡ false = search rules in
-    let plain : c.args.wtr.now.cfg.style ≢ style.NonNumeric = rw idle.setup (λ e. cc e) in
+    let plain : c.args.writer.now.cfg.style ≢ style.NonNumeric = rw idle.setup (λ e. cc e) in
     let h = on-ok c.write_fields.result good c.write_fields.ensures.bytes idle.fields idle.wrote plain in
     let facility : c.as_bytes.result.now ≡ decimal c.args.facility = c.as_bytes.ensures.value ∙ c.format.ensures.text in
     let round : c.as_bytes-3.result.now ≡ decimal c.args.round = c.as_bytes-3.ensures.value ∙ c.format-2.ensures.text in
     let price : c.as_bytes-4.result.now ≡ decimal c.args.price = c.as_bytes-4.ensures.value ∙ c.format-3.ensures.text in
-    h ∙ ap (λ t. text_held c.args.wtr.now ++ t) (rw (idle.setup, facility, c.as_bytes-2.ensures.value, round, price) (row-plain c.args.facility c.args.round c.args.price c.args.word.now (search rules) (search rules) (search rules) c.requires.plain))
+    h ∙ ap (λ t. text_held c.args.writer.now ++ t) (rw (idle.setup, facility, c.as_bytes-2.ensures.value, round, price) (row-plain c.args.facility c.args.round c.args.price c.args.word.now (search rules) (search rules) (search rules) c.requires.plain))

@@ -19,7 +19,7 @@ pub returns-clause-reads_back : goal.returns-clause-reads_back
 returns-clause-reads_back c =
     let same : view c.in_ok-value.value ≡ data_for c.args.sc.now = c.in_ok-value.ensures in
     let shallow : depth (view c.in_ok-value.value) ≤ max_depth = subst (λ d. depth d ≤ max_depth) (sym same) (data-shallow c.args.sc.now) in
-    let numbers : All IsFileNumber c.args.sc.now.stations = subst (All IsFileNumber) c.as_slice.ensures c.have_file_numbers.ensures in
+    let numbers : All IsFileNumber c.args.sc.now.stations = subst (All IsFileNumber) c.as_slice.ensures c.keeps_file_numbers.ensures in
     ok-both c.to_vec.result c.to_vec.ensures.utf8 c.to_vec.ensures.reads_back
     (λ v utf8 read limits by_value.
     text-reads c.args.sc.now v.items limits numbers by_value

@@ -1,6 +1,6 @@
 use Rattle.std.proofs.Common.{arith}
 use Rattle.turn_lock.specs.NumberLists.{history_in, title_of}
-use Rattle.turn_lock.specs.Passes.{IsIdle}
+use Rattle.turn_lock.specs.Passes.{IsPassIdle}
 use Rattle.turn_lock.proofs.PassLists.{all_set, own_at, set_all}
 use Rattle.turn_lock.proofs.tests.add_in_turn.Goals as goal
 
@@ -10,5 +10,5 @@ append-requires-clause-own g c = own_at title_of history_in c.args.lock.now c.lo
 pub loop-by-preserved : goal.loop-by-preserved
 loop-by-preserved g c = (
   set_all title_of history_in c.args.lock.now c.loop-by.passes _ c.append.new.pass _ c.append.ensures.standing c.loop-by.invariant.0,
-  all_set (λ p. IsIdle p) c.loop-by.passes _ c.append.new.pass c.loop-by.invariant.1 c.append.ensures.idle,
+  all_set (λ p. IsPassIdle p) c.loop-by.passes _ c.append.new.pass c.loop-by.invariant.1 c.append.ensures.idle,
 )

@@ -2,7 +2,7 @@ use Rattle.std.proofs.Common.{◌≡◌, ◌∙◌, Some, refl, sym, subst}
 use Rattle.cert_types.specs.Certificate.{Tells}
 use Rattle.cert_types.specs.Valid.{answer_fault}
 use Rattle.auction_core.specs.declared.posting.Said.TheVariants.{Bad}
-use Rattle.turn_lock.specs.Passes.{number_of, seen_of}
+use Rattle.turn_lock.specs.Passes.{pass_number, seen_of}
 use Rattle.answer_board.specs.Boards.{raised}
 use Rattle.answer_board.specs.Posts.{StandsOn}
 use Rattle.answer_board.proofs.StandLemmas.{bad-on}
@@ -13,6 +13,6 @@ post_rejected-requires-clause-stands g c =
     let task = c.args.task.now in
     let place = c.in-Rejected.place in
     let fault : answer_fault c.deref.result.now task c.args.worker.now c.args.answer ≡ Some place = subst (λ why. Tells why (answer_fault c.deref.result.now task c.args.worker.now c.args.answer)) c.in-Rejected.is c.in-Err.ensures.why in
-    subst (StandsOn (raised c.args.self.now) (seen_of c.args.pass.now) (record { worker = number_of c.args.pass.now; number = task.number; said = Bad place })) (sym c.in-Err.ensures.back)
-    (bad-on (raised c.args.self.now) (seen_of c.args.pass.now) (number_of c.args.pass.now) task.number task c.args.worker.now place c.args.answer c.requires.stood refl c.requires.worker
+    subst (StandsOn (raised c.args.self.now) (seen_of c.args.pass.now) (record { worker = pass_number c.args.pass.now; number = task.number; said = Bad place })) (sym c.in-Err.ensures.back)
+    (bad-on (raised c.args.self.now) (seen_of c.args.pass.now) (pass_number c.args.pass.now) task.number task c.args.worker.now place c.args.answer c.requires.stood refl c.requires.worker
     (subst (λ b. answer_fault b task c.args.worker.now c.args.answer ≡ Some place) (c.deref.ensures ∙ c.args.self.now.book_is) fault))

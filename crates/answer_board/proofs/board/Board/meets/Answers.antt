@@ -6,7 +6,7 @@ use Rattle.auction_core.specs.Replay.{EntryView, entry_of}
 use Rattle.auction_core.specs.Clockwork.{ClockworkView}
 use Rattle.auction_core.specs.State.{task_of}
 use Rattle.auction_core.specs.Take.{PostingView}
-use Rattle.turn_lock.specs.Passes.{known_of, number_of, seen_of}
+use Rattle.turn_lock.specs.Passes.{known_of, pass_number, seen_of}
 use Rattle.answer_board.specs.Boards.{beginning_of, raised}
 use Rattle.answer_board.specs.Entries.{numbered}
 use Rattle.answer_board.specs.Posts.{HasMet, IsPosted, IsTaken}
@@ -91,6 +91,6 @@ returns-in-Ok-Asked-clause-met g c =
         stands = subst (λ (s : ClockworkView). task_of s.scenario s.book value.state ≡ Some c.in-Ok-Asked.task) base asked.stands;
       };
       query = subst (λ (s : ClockworkView). IsQuery s.book c.in-Ok-Asked.task) base asked.query;
-      worker = subst (λ (s : ClockworkView). slice_get s.scenario.workers (number_of c.args.pass.now) ≡ Some c.in-Ok-Asked.worker) base (subst (λ w. slice_get value.scenario.workers w ≡ Some c.in-Ok-Asked.worker) c.number-worker.ensures asked.worker);
+      worker = subst (λ (s : ClockworkView). slice_get s.scenario.workers (pass_number c.args.pass.now) ≡ Some c.in-Ok-Asked.worker) base (subst (λ w. slice_get value.scenario.workers w ≡ Some c.in-Ok-Asked.worker) c.number-worker.ensures asked.worker);
       number = asked.number;
     }

@@ -7,4 +7,4 @@ use Rattle.batch_cache.proofs.cache.Cache.put_map.Goals as goal
 pub returns-in-Ok-clause-put : goal.returns-in-Ok-clause-put
 returns-in-Ok-clause-put c =
     map-put c.args.self.now c.self.inside.maps c.put.new.self c.self.inside.refutations _ _ c.self.view_is
-    (put-cache c.self.inside.maps c.put.new.self c.in_ok-key.key (key_of c.args.top c.args.task.now) c.in_ok-map.map _ c.are_ordered.ensures c.in-Ok.ensures.entries (c.in_ok-key.ensures ∙ ap (λ (set : List ℕ). record { top = c.args.top; set = set }) c.as_slice.ensures) c.in_ok-map.ensures)
+    (put-cache c.self.inside.maps c.put.new.self c.in_ok-key.key (key_of c.args.top c.args.task.now) c.in_ok-map.map _ c.keeps_keys_and_room.ensures c.in-Ok.ensures.entries (c.in_ok-key.ensures ∙ ap (λ (set : List ℕ). record { top = c.args.top; set = set }) c.as_slice.ensures) c.in_ok-map.ensures)

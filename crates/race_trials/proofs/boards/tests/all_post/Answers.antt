@@ -3,7 +3,7 @@ use denote.Exit.{no}
 use denote.Param.Send.{IsSync, arg_send, arg_sync, param_sync, param_send, sendable}
 use Rattle.std.proofs.Common.{◌∙◌, ap, rules, subst, sym}
 use Rattle.std.proofs.Crossing.{crosses, sync}
-use Rattle.turn_lock.specs.Passes.{IsIdle, standing}
+use Rattle.turn_lock.specs.Passes.{IsPassIdle, standing}
 use Rattle.turn_lock.proofs.PassLists.{all_at, all_each, each_all, own_at}
 use Rattle.answer_board.specs.Boards.{IsPassOn, kept_base, kept_entries}
 use Rattle.answer_board.proofs.Crosses.{board-sync, captured-sync, pass-send}
@@ -23,7 +23,7 @@ for_each_mut-requires-sync-F g c κs within =
 pub for_each_mut-requires-clause-accepts : goal.for_each_mut-requires-clause-accepts
 for_each_mut-requires-clause-accepts g c κs within = λ i p lt is. (
   subst (λ q. IsPassOn c.args.board.now q) (sym is) (own_at kept_base kept_entries c.args.board.now.lock c.args.passes.now i p.now c.requires.all lt),
-  subst (λ q. IsIdle q) (sym is) (all_at (λ q. IsIdle q) c.args.passes.now i p.now c.requires.idle lt),
+  subst (λ q. IsPassIdle q) (sym is) (all_at (λ q. IsPassIdle q) c.args.passes.now i p.now c.requires.idle lt),
 )
 
 pub returns-clause-all : goal.returns-clause-all
@@ -34,6 +34,6 @@ returns-clause-all g c =
 
 pub returns-clause-idle : goal.returns-clause-idle
 returns-clause-idle g c =
-    all_each (λ q. IsIdle q) c.args.passes.now c.for_each_mut.new.s (search rules) (λ i d lt.
+    all_each (λ q. IsPassIdle q) c.args.passes.now c.for_each_mut.new.s (search rules) (λ i d lt.
     let k = (c.for_each_mut.ensures i d lt).1 in
-    subst (λ q. IsIdle q) k.left k.call.0)
+    subst (λ q. IsPassIdle q) k.left k.call.0)

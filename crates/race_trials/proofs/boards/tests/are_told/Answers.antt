@@ -1,5 +1,5 @@
 use Rattle.std.proofs.Common.{arith}
-use Rattle.turn_lock.specs.Passes.{IsIdle}
+use Rattle.turn_lock.specs.Passes.{IsPassIdle}
 use Rattle.turn_lock.proofs.PassLists.{all_set}
 use Rattle.answer_board.proofs.PassLemmas.{own-at, set-all}
 use Rattle.race_trials.proofs.boards.tests.are_told.Goals as goal
@@ -10,5 +10,5 @@ is_told-told-requires-clause-own g c = own-at c.args.board.now c.loop-by.passes 
 pub loop-by-preserved : goal.loop-by-preserved
 loop-by-preserved g c = (
   set-all c.args.board.now c.loop-by.passes _ c.is_told-told.new.pass _ c.is_told-told.ensures.standing c.loop-by.invariant.0,
-  all_set (λ p. IsIdle p) c.loop-by.passes _ c.is_told-told.new.pass c.loop-by.invariant.1 c.is_told-told.ensures.idle,
+  all_set (λ p. IsPassIdle p) c.loop-by.passes _ c.is_told-told.new.pass c.loop-by.invariant.1 c.is_told-told.ensures.idle,
 )

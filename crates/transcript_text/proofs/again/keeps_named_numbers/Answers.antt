@@ -1,0 +1,10 @@
+-- What is gathered is what the law on records asks, where the channels are those of a file.
+use Rattle.transcript_text.proofs.again.keeps_named_numbers.Goals as goal
+
+pub returns : goal.returns
+returns c = λ channels. record {
+  numbers = rw (← c.as_slice.ensures) c.keeps_short_numbers.ensures;
+  in_order = c.keeps_order_and_memory.ensures.order;
+  channels = channels;
+  pairs = c.keeps_order_and_memory.ensures.pairs;
+}
