@@ -1,6 +1,6 @@
 //! The cache.
 
-ghost use Rattle.std.specs.Prelude.{◌≡◌, ◌≤◌, [], IfOk, IfSome, OnErr, OnOk};
+ghost use Rattle.std.specs.Prelude.{◌≡◌, ◌≤◌, [], IfOk, IfSome, OnErr, OnOk, length};
 ghost use Rattle.lru.specs.LruCache.{IsValid as IsOrdered, lru_cache, promoted};
 ghost use Rattle.pack_defs.specs.ChannelMap.{overlaid};
 ghost use Rattle.cert_types.specs.Certificate.{IsTaskOf};
@@ -55,6 +55,16 @@ impl Cache {
             maps: LruCache::sparse(alloc, cap)?,
             refutations: LruCache::sparse(alloc, cap)?,
         })
+    }
+
+    /// It keeps at most as many maps, and as many refutations, as there is room for. The call is made for this promise alone, and
+    /// does nothing.
+    pub fn keeps_to_its_room(&self)
+        ensures maps { length self.now.maps ≤ self.now.room }
+        ensures refutations { length self.now.refutations ≤ self.now.room }
+    {
+        keeps_keys_and_room(&self.maps);
+        keeps_keys_and_room(&self.refutations);
     }
 
     /// Keeps what answers a task under a top channel and the task's set: of a fit the channel map that it leaves, and of a
