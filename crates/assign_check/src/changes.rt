@@ -69,36 +69,3 @@ fn stands(last: &ChannelMap, changes: &ChannelMap, station: u32, c: u8) -> bool
         None => last.has(station, c),
     }
 }
-
-#[cfg(test)]
-mod tests {
-    use super::*;
-    use crate::samples::three_stations;
-    use std::test::Fail;
-
-    #[test]
-    fn pairs_of_the_changed_stations_are_looked_at(rt: HostRuntime) -> Result<(), Fail> {
-        let alloc = rt.alloc();
-        let book = three_stations(alloc)?;
-        let last = ChannelMap::of(alloc, &[(1, 14), (2, 15)])?;
-        let cases: [(&[(u32, u8)], bool); 7] = [
-            (&[], false),
-            // A pair from the changed station, one to it, and one of two changed stations.
-            (&[(1, 15)], true),
-            (&[(2, 14)], true),
-            (&[(1, 16), (3, 14)], false),
-            (&[(1, 16), (3, 15)], true),
-            (&[(2, 16), (3, 16)], false),
-            (&[(1, 15), (2, 14)], false),
-        ];
-        for (changes, want) in cases {
-            let changes = ChannelMap::of(alloc, changes)?;
-            assert_eq!(rt; violates_at_some(&book, &last, &changes), want);
-        }
-        // What was violated before is not looked at.
-        let last = ChannelMap::of(alloc, &[(1, 14), (2, 14)])?;
-        let changes = ChannelMap::of(alloc, &[(3, 15)])?;
-        assert!(rt; !violates_at_some(&book, &last, &changes));
-        Ok(())
-    }
-}

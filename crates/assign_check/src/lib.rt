@@ -10,5 +10,3 @@ pub mod changes;
 pub mod check;
 pub mod fault;
 pub mod laws;
-#[cfg(test)]
-mod samples;

@@ -22,6 +22,4 @@ mod part;
 mod search;
 mod signed_set;
 mod station_bits;
-#[cfg(test)]
-mod tests;
 mod witness;

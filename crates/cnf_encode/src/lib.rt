@@ -9,5 +9,3 @@ pub mod decode;
 pub mod encode;
 pub mod laws;
 pub mod numbering;
-#[cfg(test)]
-mod tests;

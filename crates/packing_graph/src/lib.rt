@@ -8,5 +8,3 @@ pub mod component;
 pub mod laws;
 mod reach;
 pub mod station_set;
-#[cfg(test)]
-mod tests;

@@ -5,5 +5,3 @@
 #![tactic(auto)]
 
 pub mod search;
-#[cfg(test)]
-mod tests;

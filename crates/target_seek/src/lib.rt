@@ -7,6 +7,4 @@
 pub mod laws;
 pub mod search;
 pub mod seek;
-#[cfg(test)]
-mod tests;
 pub mod top_test;

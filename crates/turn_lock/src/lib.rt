@@ -9,6 +9,4 @@ pub mod lock;
 pub mod make;
 pub mod number_list;
 pub mod rule;
-#[cfg(test)]
-mod tests;
 pub mod turns;

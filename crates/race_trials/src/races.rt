@@ -1,8 +1,0 @@
-//! Tests of `race_wave`.
-
-mod cached_tests;
-mod gate_tests;
-mod live_tests;
-mod repeated_tests;
-mod samples;
-mod tests;

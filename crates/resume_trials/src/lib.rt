@@ -1,5 +1,0 @@
-//! Auctions that go on from the beginning of a transcript: runs of the whole program, in memory.
-#![tactic(auto)]
-
-#[cfg(test)]
-mod resumed;

@@ -1,0 +1,65 @@
+//! Auctions in which the owners' lines stand in the place of values.
+
+use crate::auctions::auctions::samples::{Crew, two_rounds};
+use crate::auctions::auctions::tests::{ALL_ON_AIR, BESIDE_SECOND, Came, Case, Want, ended};
+use crate::samples::answers::Given;
+use crate::samples::books::three_stations;
+use crate::samples::owners::{AS_BID, SECOND_DECLINES, SaidLines, saying};
+use auction_core::auction::Auction;
+use auction_core::record::Ending;
+use pack_defs::book::Book;
+use pack_defs::order::Order;
+use pack_defs::owners::Owners;
+use pack_defs::scenario::Scenario;
+use std::alloc::{AllocError as NoMemory, Global};
+use std::test::Fail;
+
+// What the live auction of a scenario and a book came to, whose owners say these lines.
+fn played_live(
+    alloc: Global,
+    sc: &Scenario,
+    book: &Book,
+    owners: &Owners,
+    cases: &[Case],
+) -> Result<Option<Came>, NoMemory> {
+    let live = sc.with_owners(alloc, owners)?;
+    let auction = Auction::start_live(alloc, sc, book, owners, Order::ByFacility)?;
+    ended(alloc, auction, live, cases)
+}
+
+// The same of three stations without values.
+fn of_three(alloc: Global, owners: &Owners, cases: &[Case]) -> Result<Option<Came>, NoMemory> {
+    let sc = two_rounds(alloc, ALL_ON_AIR, Crew::Learner)?;
+    played_live(alloc, &sc, &three_stations(alloc)?, owners, cases)
+}
+
+const LIVE: &[(SaidLines, &[Case], Came)] = &[
+    // Station 2 leaves in round 1 and station 1 in round 2, and station 3 never, so it is frozen at 60 cents.
+    (
+        AS_BID,
+        &[
+            (0, 1, Given::Fit(1, 14), Want::Next(2)),
+            (0, 2, Given::Fit(2, 14), Want::Next(3)),
+            (0, 3, Given::Fit(3, 15), Want::Next(4)),
+            (0, 4, Given::Fit(1, 15), Want::Next(5)),
+            (0, 5, Given::Refuted, Want::Last),
+        ],
+        ((Ending::Done, 6, 5, 60), 0, false, Some(15)),
+    ),
+    // Without its line for the opening station 2 is on air from the start.
+    (
+        SECOND_DECLINES,
+        BESIDE_SECOND,
+        ((Ending::Done, 5, 4, 60), 1, false, Some(15)),
+    ),
+];
+
+#[test]
+fn owners_say_who_stays(rt: HostRuntime) -> Result<(), Fail> {
+    for (lines, cases, want) in LIVE {
+        let owners = saying(rt.alloc(), lines)?;
+        let came = of_three(rt.alloc(), &owners, cases)?;
+        assert_eq!(rt; came, Some(*want));
+    }
+    Ok(())
+}

@@ -1,0 +1,70 @@
+//! What a batch is given, the run, and what it leaves.
+
+use crate::scenes::change::Change;
+use crate::scenes::named::{named_folder, named_text};
+use crate::scenes::outside::run_in;
+use crate::scenes::told::{are_among, file_text};
+use outside_io::memory_folder::MemoryFolder;
+use solver_gate::gate::EmptyGate;
+use std::alloc::{AllocError as NoMemory, Global};
+use std::sync::Wait;
+use std::thread::Threads;
+
+/// The words of a batch over the list.
+pub const BATCH: &str = "repack batch d.csv r.csv l.csv";
+
+// The files that a row may have results stored in.
+const RESULTS: &[&str] = &["1.csv", "2.csv", "3.csv", "4.csv", "5.csv", "20.csv"];
+
+// What the files of the results hold.
+fn results_text(alloc: Global, folder: &MemoryFolder) -> Result<String, NoMemory> {
+    let mut facts = String::from_str(alloc, "results")?;
+    for name in RESULTS {
+        let fact = file_text(alloc, folder, name)?;
+        facts.push_str("; ")?;
+        facts.push_str(&fact)?;
+    }
+    Ok(facts)
+}
+
+// Runs these words over this list, and tells the facts of what is left, with "; " between each two.
+fn run<W: Threads + Wait + Sync>(
+    rt: &W,
+    alloc: Global,
+    line: &str,
+    list: &str,
+    change: Change<'_>,
+) -> Result<String, NoMemory> {
+    let mut folder = named_folder(alloc, change, "l.csv", list)?;
+    let left = run_in(rt, alloc, line, change, &mut folder, &EmptyGate)?;
+    let results = results_text(alloc, &folder)?;
+    let inputs = named_text(alloc, &folder, change, "l.csv", list)?;
+    format!(in alloc; "{left}; {results}; {inputs}")
+}
+
+/// Whether the run of these words over this list leaves what these facts say.
+pub fn leaves<W: Threads + Wait + Sync>(
+    rt: &W,
+    alloc: Global,
+    line: &str,
+    list: &str,
+    change: Change<'_>,
+    facts: &str,
+) -> Result<bool, NoMemory> {
+    let told = run(rt, alloc, line, list, change)?;
+    Ok(are_among(facts, &told))
+}
+
+/// The facts of the first row that says of a batch's facts one that isn't so.
+pub fn first_untrue<'a, W: Threads + Wait + Sync>(
+    rt: &W,
+    alloc: Global,
+    table: &[(&str, Change<'_>, &'a str)],
+) -> Result<Option<&'a str>, NoMemory> {
+    for &(list, change, facts) in table {
+        if !leaves(rt, alloc, BATCH, list, change, facts)? {
+            return Ok(Some(facts));
+        }
+    }
+    Ok(None)
+}

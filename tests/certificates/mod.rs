@@ -1,0 +1,9 @@
+//! Certificates: clauses, formulas and proof logs, the first fault of a channel map, and the component of a station.
+mod assignments;
+mod books;
+mod changes;
+mod clause_lists;
+mod components;
+mod formulas;
+mod map_faults;
+mod proof_logs;

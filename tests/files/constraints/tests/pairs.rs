@@ -1,0 +1,186 @@
+//! Texts of pairs that are read, and texts that are refused.
+
+use crate::files::constraints::tests::{
+    LENGTHS, THREE_STATIONS, domain_lines, fed_pairs, first_pairs,
+};
+use constraint_files::domains::{Domains, read_domains};
+use constraint_files::error::{ReadErr, RowWhy};
+use constraint_files::pairs::read_pairs;
+use std::alloc::{AllocError, Global};
+use std::test::Fail;
+
+#[test]
+fn rows_that_are_read(rt: HostRuntime) -> Result<(), Fail> {
+    let file = b"DOMAIN,1,14,15,16\nDOMAIN,2,14,15,16\nDOMAIN,3,14\n";
+    const CASES: &[(&[u8], &str, u64, u64)] = &[
+        (b"", "", 0, 0),
+        (b"CO,14,14,1\n", "", 0, 0),
+        (b"CO,14,14,1,1,2\n", "1 on 14, 2 on 14;", 1, 0),
+        (b"CO,14,14,1,9\n", "", 0, 1),
+        (b"CO,14,14,9,1,9,9,8\n", "", 2, 2),
+        (b"CO,15,15,1,2,3\n", "1 on 15, 2 on 15;", 0, 0),
+        (b"CO,2,2,1,2,2,1,9\nCO,51,51,1,2\n", "", 1, 1),
+        (b"CO,14,14,3,1", "1 on 14, 3 on 14;", 0, 0),
+        (b"CO,14,14,1,2,2\nCO,14,14,2,1\n", "1 on 14, 2 on 14;", 0, 0),
+        (
+            b"CO,14,14,1,2\r\nCO,015,15,2,1\r\n",
+            "1 on 14, 2 on 14;1 on 15, 2 on 15;",
+            0,
+            0,
+        ),
+        (
+            b"\nCO,14,14,2,3\rCO,14,14,1,3\n",
+            "1 on 14, 3 on 14;2 on 14, 3 on 14;",
+            0,
+            0,
+        ),
+        (b"ADJ+1,14,15,1,2\n", "1 on 14, 2 on 15;", 0, 0),
+        (b"ADJ-1,15,14,1,2\n", "1 on 15, 2 on 14;", 0, 0),
+        (b"ADJ+2,14,16,1,2\n", "1 on 14, 2 on 16;", 0, 0),
+        (b"ADJ-2,16,14,1,2\n", "1 on 16, 2 on 14;", 0, 0),
+        (
+            b"ADJ+1,14,15,2,1\nADJ-1,15,14,1,2\n",
+            "1 on 15, 2 on 14;",
+            0,
+            0,
+        ),
+        (b"ADJ+1,14,15,1,2,3\n", "1 on 14, 2 on 15;", 0, 0),
+        (b"ADJ-1,15,14,1,3\n", "1 on 15, 3 on 14;", 0, 0),
+        (b"ADJ+1,13,14,1,2\nADJ-1,14,13,1,2\n", "", 0, 0),
+        (b"ADJ+2,49,51,1,2\nADJ-2,4,2,1,2\n", "", 0, 0),
+        (b" CO ,\t14,14 , 1,2,,\n", "1 on 14, 2 on 14;", 0, 0),
+        (b",,\n \nCO,14,14,1,2\n", "1 on 14, 2 on 14;", 0, 0),
+        (b"CO,14,14,1, ,\n", "", 0, 0),
+        (b"\"CO\",\"14\",14,1,2\n", "1 on 14, 2 on 14;", 0, 0),
+        (
+            b"CO,14,14,1,\"2\nCO,15,15,1,2\n",
+            "1 on 14, 2 on 14;1 on 15, 2 on 15;",
+            0,
+            0,
+        ),
+        (b"ADJ+1,14,15,1,1\n", "", 1, 0),
+        (b"ADJ+1,14,15,9,9,1\n", "", 1, 1),
+        (
+            b"CO,14,14,1,999,2,\nCO,14,14,1,2\nCO,7,7,1,2\nCO,15,15,1,1\n",
+            "1 on 14, 2 on 14;",
+            1,
+            1,
+        ),
+    ];
+    assert_eq!(rt; first_pairs(rt.alloc(), file, CASES)?, None);
+    Ok(())
+}
+
+// Whether the pairs of the text over these domains are refused so, in one and in pieces.
+fn is_refused(alloc: Global, domains: &Domains, text: &[u8], want: ReadErr) -> bool {
+    for length in LENGTHS {
+        if fed_pairs(alloc, domains, text, *length).err() != Some(want) {
+            return false;
+        }
+    }
+    read_pairs(alloc, text, domains).err() == Some(want)
+}
+
+// The first of these texts of pairs over the three stations that is not refused so, by its place from 0.
+fn first_read_pairs(alloc: Global, cases: &[(&[u8], u64, RowWhy)]) -> Option<usize> {
+    let Ok(domains) = read_domains(alloc, THREE_STATIONS) else {
+        return Some(0);
+    };
+    for (i, (text, line, why)) in cases.iter().enumerate() {
+        let want = ReadErr::Row {
+            line: *line,
+            why: *why,
+        };
+        if !is_refused(alloc, &domains, text, want) {
+            return Some(i);
+        }
+    }
+    None
+}
+
+#[test]
+fn rows_that_are_refused(rt: HostRuntime) {
+    const CASES: &[(&[u8], u64, RowWhy)] = &[
+        (b"CO", 1, RowWhy::ShortRow),
+        (b"CO,14,14\n", 1, RowWhy::ShortRow),
+        (b"CO,14,14,,\n", 1, RowWhy::ShortRow),
+        (b"x,y,z\n", 1, RowWhy::ShortRow),
+        (b"CO,14,14,1,2\nCO,14,14\n", 2, RowWhy::ShortRow),
+        (b"DOMAIN,1,14,15\n", 1, RowWhy::BadKey),
+        (b"co,14,14,1\n", 1, RowWhy::BadKey),
+        (b"ADJ+3,14,17,1\n", 1, RowWhy::BadKey),
+        (b"ADJ1,14,15,1\n", 1, RowWhy::BadKey),
+        (b"ADJ+1 x,14,15,1\n", 1, RowWhy::BadKey),
+        (b"ADJ,x,52,1\n", 1, RowWhy::BadKey),
+        (b"CO,14,14,1,x\n", 1, RowWhy::BadNumber),
+        (b"CO,14,14,1,4294967296\n", 1, RowWhy::BadNumber),
+        (b"CO,14,14,,2\n", 1, RowWhy::BadNumber),
+        (b"CO,14,14,1,,2\n", 1, RowWhy::BadNumber),
+        (b"CO,52,1,1,x\n", 1, RowWhy::BadNumber),
+        (b"CO,14,-14,1\n", 1, RowWhy::BadNumber),
+        (b"CO,1,1,1,2\n", 1, RowWhy::ChannelRange),
+        (b"CO,52,52,1,2\n", 1, RowWhy::ChannelRange),
+        (b"CO,14,52,1,2\n", 1, RowWhy::ChannelRange),
+        (b"CO,1,14,1,2\n", 1, RowWhy::ChannelRange),
+        (b"ADJ+1,51,52,1,2\n", 1, RowWhy::ChannelRange),
+        (b"ADJ-2,3,1,1,2\n", 1, RowWhy::ChannelRange),
+        (b"CO,14,15,1,2\n", 1, RowWhy::BadOffset),
+        (b"ADJ+1,14,14,1,2\n", 1, RowWhy::BadOffset),
+        (b"ADJ+1,15,14,1,2\n", 1, RowWhy::BadOffset),
+        (b"ADJ-1,14,15,1,2\n", 1, RowWhy::BadOffset),
+        (b"ADJ-1,16,14,1,2\n", 1, RowWhy::BadOffset),
+        (b"ADJ+2,14,15,1,2\n", 1, RowWhy::BadOffset),
+        (b"ADJ+2,16,14,1,2\n", 1, RowWhy::BadOffset),
+        (b"ADJ-2,14,16,1,2\n", 1, RowWhy::BadOffset),
+        (b"ADJ-2,16,17,1\n", 1, RowWhy::BadOffset),
+        (
+            b"\nCO,14,14,1,2\r\n,\nCO,14,14,1,2\rCO,14,15,1\n",
+            4,
+            RowWhy::BadOffset,
+        ),
+        (b"CO,14,15,1\nCO\n", 1, RowWhy::BadOffset),
+        (b"\x8A\x2C\xFE\x0A\x00,\"\x0D\x91,5", 1, RowWhy::ShortRow),
+    ];
+    assert_eq!(rt; first_read_pairs(rt.alloc(), CASES), None);
+}
+
+// The row of s with each station above it up to 2,829.
+fn row_of(alloc: Global, station: u32) -> Result<String, AllocError> {
+    let mut row = format!(in alloc; "CO,14,14,{station}")?;
+    for t in 1..2_830 {
+        if t > station {
+            row.push_str(format!(in alloc; ",{t}")?.as_str())?;
+        }
+    }
+    row.push('\n')?;
+    Ok(row)
+}
+
+// For each s from 1 up to this number its row.
+fn rows_of_all(alloc: Global, last: u32) -> Result<String, AllocError> {
+    let mut text = String::new(alloc);
+    for s in 1..=last {
+        text.push_str(row_of(alloc, s)?.as_str())?;
+    }
+    Ok(text)
+}
+
+// How many pairs are read of the rows of the stations up to this one, over 2,829 domains.
+fn count_pairs(alloc: Global, last: u32) -> Result<usize, ReadErr> {
+    let domains = read_domains(alloc, domain_lines(alloc, 2_829)?.as_bytes())?;
+    let rows = rows_of_all(alloc, last)?;
+    Ok(read_pairs(alloc, rows.as_bytes(), &domains)?.list().len())
+}
+
+#[test]
+fn too_many_pairs(rt: HostRuntime) {
+    assert_eq!(rt; count_pairs(rt.alloc(), 2_808), Ok(3_999_996));
+    let all = count_pairs(rt.alloc(), 2_828);
+    assert_eq!(rt;
+        all,
+        Err(ReadErr::Row {
+            line: 2_809,
+            why: RowWhy::TooMany
+        })
+    );
+}

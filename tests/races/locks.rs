@@ -1,0 +1,173 @@
+//! Threads that take turns at a list of numbers, passes that are used one after another, and locks that are closed.
+
+use std::alloc::{AllocError as NoMemory, Global};
+use std::sync::Wait;
+use std::test::Fail;
+use std::thread;
+use std::thread::Threads;
+use turn_lock::lock::{Pass, TurnLock};
+use turn_lock::number_list::{NumberList, append};
+
+// A list with one number, of a pass that no lock here has, and room for so many more: no turn needs memory.
+fn five(alloc: Global, room: usize) -> Result<NumberList, NoMemory> {
+    let mut numbers = Vec::with_capacity(alloc, room + 1)?;
+    numbers.push((9, 5))?;
+    Ok(NumberList { title: 7, numbers })
+}
+
+// What was added to a list that began as `five`.
+fn added(list: &NumberList) -> Option<&[(u64, u32)]> {
+    let (first, added) = list.numbers.as_slice().split_first()?;
+    if list.title == 7 && *first == (9, 5) {
+        return Some(added);
+    }
+    None
+}
+
+// Whether these are of each pass below `passes` the numbers below `each` in order, however the passes took turns, and no others.
+fn are_counts(added: &[(u64, u32)], passes: usize, each: u32) -> bool {
+    let mut next = [0; 4];
+    for (by, number) in added {
+        let by = *by as usize;
+        if by >= passes || *number != next[by] || *number >= each {
+            return false;
+        }
+        next[by] += 1;
+    }
+    next[..passes].iter().all(|count| *count == each)
+}
+
+// Adds numbers, each in a turn of its own.
+fn add_all<R: Wait>(
+    rt: &R,
+    lock: &TurnLock<NumberList>,
+    pass: &mut Pass<NumberList>,
+    from: u32,
+    to: u32,
+) {
+    for number in from..to {
+        append(rt, lock, pass, number);
+    }
+}
+
+// Each pass adds the numbers below `each`, in a thread of its own.
+fn all_count<R: Threads + Wait + Sync>(
+    rt: &R,
+    lock: &TurnLock<NumberList>,
+    passes: &mut [Pass<NumberList>],
+    each: u32,
+) {
+    let part = |_: usize, pass: &mut Pass<NumberList>| { add_all(rt, lock, pass, 0, each) };
+    thread::for_each_mut(rt, passes, 4, &part);
+}
+
+// Whether as many threads as passes, of which each adds the numbers below `each`, leave just these.
+fn threads_count<R: Threads + Wait + Sync>(
+    rt: &R,
+    alloc: Global,
+    passes: u32,
+    each: u32,
+) -> Result<bool, NoMemory> {
+    let list = five(alloc, 4 * each as usize)?;
+    let Ok((lock, mut all)) = TurnLock::make(alloc, list, passes) else {
+        return Err(NoMemory);
+    };
+    all_count(rt, &lock, &mut all, each);
+    let list = lock.close(all);
+    Ok(added(&list).is_some_and(|added| are_counts(added, passes as usize, each)))
+}
+
+#[test]
+fn threads_take_turns(rt: HostRuntime) -> Result<(), Fail> {
+    assert!(rt; threads_count(&rt, rt.alloc(), 2, 150)?);
+    assert!(rt; threads_count(&rt, rt.alloc(), 4, 150)?);
+    Ok(())
+}
+
+// Adds numbers, each by the pass at its place.
+fn add_in_turn<R: Wait>(
+    rt: &R,
+    lock: &TurnLock<NumberList>,
+    passes: &mut [Pass<NumberList>],
+    turns: &[(u64, u32)],
+) {
+    for (by, number) in turns {
+        let by = *by as usize;
+        if by >= passes.len() {
+            return;
+        }
+        append(rt, lock, &mut passes[by], *number);
+    }
+}
+
+// Whether three passes that are used in these turns, on one thread, leave just these numbers, in this order.
+fn passes_add<R: Wait>(rt: &R, alloc: Global, turns: &[(u64, u32)]) -> Result<bool, NoMemory> {
+    let list = five(alloc, turns.len())?;
+    let Ok((lock, mut passes)) = TurnLock::make(alloc, list, 3) else {
+        return Err(NoMemory);
+    };
+    add_in_turn(rt, &lock, &mut passes, turns);
+    let list = lock.close(passes);
+    Ok(added(&list) == Some(turns))
+}
+
+#[test]
+fn passes_are_used_one_after_another(rt: HostRuntime) -> Result<(), Fail> {
+    let turns = [(1, 10), (0, 11), (1, 12), (1, 10), (2, 11), (0, 0)];
+    assert!(rt; passes_add(&rt, rt.alloc(), &turns)?);
+    assert!(rt; passes_add(&rt, rt.alloc(), &[])?);
+    Ok(())
+}
+
+// The value of a lock that is closed at once, or the one that comes back where there is no memory for the lock.
+fn there_and_back(alloc: Global, list: NumberList) -> NumberList {
+    match TurnLock::make(alloc, list, 3) {
+        Ok((lock, passes)) => lock.close(passes),
+        Err((_, list)) => list,
+    }
+}
+
+#[test]
+fn the_value_comes_back(rt: HostRuntime) -> Result<(), Fail> {
+    let list = there_and_back(rt.alloc(), five(rt.alloc(), 0)?);
+    assert!(rt; added(&list).is_some_and(|added| added.is_empty()));
+    Ok(())
+}
+
+// A pass that adds a number, and comes back.
+fn add_there<R: Wait>(
+    rt: &R,
+    lock: &TurnLock<NumberList>,
+    mut pass: Pass<NumberList>,
+    number: u32,
+) -> Pass<NumberList> {
+    append(rt, lock, &mut pass, number);
+    pass
+}
+
+#[test]
+fn passes_go_to_other_threads_between_two_turns(rt: HostRuntime) -> Result<(), Fail> {
+    let alloc = rt.alloc();
+    let list = five(alloc, 4)?;
+    let Ok((lock, mut passes)) = TurnLock::make(alloc, list, 2) else {
+        return Err(NoMemory)?;
+    };
+    let Some(second) = passes.pop() else {
+        unreachable!()
+    };
+    let Some(first) = passes.pop() else {
+        unreachable!()
+    };
+    let first = add_there(&rt, &lock, first, 0);
+    let second = add_there(&rt, &lock, second, 0);
+    let (one, two) = thread::join(
+        &rt,
+        || add_there(&rt, &lock, first, 1),
+        || add_there(&rt, &lock, second, 1),
+    );
+    passes.push_reserved(one);
+    passes.push_reserved(two);
+    let list = lock.close(passes);
+    assert!(rt; added(&list).is_some_and(|added| are_counts(added, 2, 2)));
+    Ok(())
+}

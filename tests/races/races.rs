@@ -1,0 +1,9 @@
+//! Tests of `race_wave`.
+
+mod cached_tests;
+mod gate_tests;
+mod live_tests;
+mod memory_tests;
+mod repeated_tests;
+mod samples;
+mod tests;

@@ -1,0 +1,100 @@
+//! Auctions driven by postings, of which each is checked before it is taken.
+
+use crate::samples::answers::{Given, answer};
+use auction_core::auction::Auction;
+use auction_core::posting::{Posting, Reply, Said};
+use auction_core::record::Record;
+use cert_types::answer::{Answer, CertifyFault, CertifyWhy, Place};
+use cert_types::certified::Certified;
+use cert_types::certify::certify;
+use cert_types::task::Task;
+use pack_defs::book::Book;
+use pack_defs::order::Order;
+use pack_defs::scenario::Scenario;
+use pack_defs::worker::Worker;
+use std::alloc::{AllocError as NoMemory, Global};
+
+// What lets a worker's answer to a query through, or the first place at which it is at fault.
+fn checked(
+    alloc: Global,
+    book: &Book,
+    task: &Task,
+    worker: &Worker,
+    answer: Answer,
+) -> Result<Result<Certified, Place>, NoMemory> {
+    match certify(alloc, book, task, worker, answer) {
+        Ok(certified) => Ok(Ok(certified)),
+        Err(fault) => Ok(Err(place(fault)?)),
+    }
+}
+
+// The place that a check found at fault.
+fn place(fault: CertifyFault) -> Result<Place, NoMemory> {
+    match fault.why {
+        CertifyWhy::Rejected(place) => Ok(place),
+        CertifyWhy::NoMemory => Err(NoMemory),
+    }
+}
+
+// What the check of a worker's answer to the standing query says.
+fn looked_at(
+    alloc: Global,
+    auction: &Auction,
+    worker: u32,
+    answer: Answer,
+) -> Result<Said, NoMemory> {
+    let Some(task) = auction.task(alloc)? else {
+        return Ok(Said::Bad(Place::Count));
+    };
+    let Some(of) = auction.workers().get(worker as usize) else {
+        return Ok(Said::Bad(Place::Count));
+    };
+    match checked(alloc, auction.book(), &task, of, answer)? {
+        Ok(certified) => return Ok(Said::Good(certified)),
+        Err(place) => return Ok(Said::Bad(place)),
+    }
+}
+
+/// Posts the answer of a worker for a query, and gives what it is told.
+pub fn post(
+    alloc: Global,
+    auction: &mut Auction,
+    worker: u32,
+    number: u64,
+    given: Given,
+) -> Result<Reply, NoMemory> {
+    auction.reserve()?;
+    let answer = answer(alloc, given)?;
+    let said = looked_at(alloc, auction, worker, answer)?;
+    Ok(auction.take(Posting {
+        worker,
+        number,
+        said,
+    }))
+}
+
+// Posts these answers of the first worker, each to the query that stands.
+fn post_all(alloc: Global, auction: &mut Auction, answers: &[Given]) -> Result<(), NoMemory> {
+    'answers: for given in answers {
+        let number = auction.number();
+        post(alloc, auction, 0, number, *given)?;
+    }
+    Ok(())
+}
+
+/// The record of this auction, whose queries are answered so by its first worker, each by the next answer; nothing where it
+/// doesn't end by them.
+pub fn record_after(
+    alloc: Global,
+    sc: Scenario,
+    book: &Book,
+    order: Order,
+    answers: &[Given],
+) -> Result<Option<Record>, NoMemory> {
+    let mut auction = Auction::start(alloc, &sc, book, order)?;
+    post_all(alloc, &mut auction, answers)?;
+    if !auction.ended() {
+        return Ok(None);
+    }
+    Ok(Some(auction.into_result(alloc, sc)?))
+}

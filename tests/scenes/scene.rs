@@ -1,0 +1,261 @@
+//! A command over the files of one auction, the run, and whether it leaves what a row of a table says.
+
+use crate::scenes::change::{Change, replaced};
+use crate::scenes::outside::{add, folder_of, is_kept, run_in};
+use crate::scenes::stations::{
+    CHECK, CLOCK, COMMAND, DOMAINS, LIVE, MANY_LINES, ROWS, THREE, VERIFY, VERIFY_LIVE,
+    scenario_text,
+};
+use crate::scenes::told::{are_among, faults_text, held_text, kept_text, proof_text};
+use outside_io::memory_folder::{MemoryFile, MemoryFolder};
+use solver_gate::gate::EmptyGate;
+use std::alloc::{AllocError as NoMemory, Global};
+use std::sync::Wait;
+use std::thread::Threads;
+
+/// What a run is given: the words with a blank between each two, the texts of two inputs, the parts of the third, an owners' file, a
+/// transcript and a log, if there are such, and a change.
+#[derive(Clone, Copy)]
+pub struct Scene<'a> {
+    pub command: &'a str,
+    pub domains: &'a str,
+    pub rows: &'a str,
+    pub clock: &'a str,
+    pub stations: &'a str,
+    pub workers: &'a str,
+    pub owners: Option<&'a str>,
+    pub transcript: Option<&'a str>,
+    pub log: Option<&'a str>,
+    pub change: Change<'a>,
+}
+
+/// The run on three stations.
+pub const RUN: Scene<'static> = Scene {
+    command: COMMAND,
+    domains: DOMAINS,
+    rows: ROWS,
+    clock: CLOCK,
+    stations: THREE,
+    workers: MANY_LINES,
+    owners: None,
+    transcript: None,
+    log: None,
+    change: Change::Nothing,
+};
+
+// The scenario's text.
+fn scenario_of(alloc: Global, scene: &Scene<'_>) -> Result<String, NoMemory> {
+    let text = scenario_text(alloc, scene.clock, scene.stations, scene.workers)?;
+    match scene.change {
+        Change::Part(part, other) => replaced(alloc, &text, part, other),
+        _ => Ok(text),
+    }
+}
+
+// Puts the outputs of a run before to the files, where there was one.
+fn add_outputs(files: &mut Vec<MemoryFile>, change: Change<'_>) -> Result<(), NoMemory> {
+    if let Change::Over(text, _) = change {
+        add(files, change, "out.csv", text)?;
+        add(files, change, "chan.csv", text)?;
+        add(files, change, "tr.txt", text)?;
+    }
+    Ok(())
+}
+
+// The files before the run.
+fn files_of(alloc: Global, scene: &Scene<'_>) -> Result<Vec<MemoryFile>, NoMemory> {
+    let scenario = scenario_of(alloc, scene)?;
+    let mut files = Vec::new(alloc);
+    add(&mut files, scene.change, "d.csv", scene.domains)?;
+    add(&mut files, scene.change, "r.csv", scene.rows)?;
+    add(&mut files, scene.change, "s.json", &scenario)?;
+    if let Some(text) = scene.owners {
+        add(&mut files, scene.change, "w.csv", text)?;
+    }
+    if let Some(text) = scene.transcript {
+        add(&mut files, scene.change, "tr.txt", text)?;
+    }
+    if let Some(text) = scene.log {
+        add(&mut files, scene.change, "p.lrat", text)?;
+    }
+    add_outputs(&mut files, scene.change)?;
+    Ok(files)
+}
+
+// The folder of a scene.
+fn scene_folder(alloc: Global, scene: &Scene<'_>) -> Result<MemoryFolder, NoMemory> {
+    let files = files_of(alloc, scene)?;
+    folder_of(alloc, files, scene.change)
+}
+
+// Whether the transcript is as it was, where there was one.
+fn is_transcript_kept(folder: &MemoryFolder, scene: &Scene<'_>) -> bool {
+    match scene.transcript {
+        Some(text) => is_kept(folder, scene.change, "tr.txt", text),
+        None => true,
+    }
+}
+
+// Whether the owners' file is as it was, where there was one.
+fn are_owners_kept(folder: &MemoryFolder, scene: &Scene<'_>) -> bool {
+    match scene.owners {
+        Some(text) => is_kept(folder, scene.change, "w.csv", text),
+        None => true,
+    }
+}
+
+// Whether the inputs are as they were.
+fn are_kept(alloc: Global, scene: &Scene<'_>, folder: &MemoryFolder) -> Result<bool, NoMemory> {
+    let scenario = scenario_of(alloc, scene)?;
+    Ok(
+        is_kept(folder, scene.change, "d.csv", scene.domains)
+            && is_kept(folder, scene.change, "r.csv", scene.rows)
+            && is_kept(folder, scene.change, "s.json", &scenario)
+            && are_owners_kept(folder, scene)
+            && is_transcript_kept(folder, scene),
+    )
+}
+
+// How many faults the folder has counted, where a call of it fails.
+fn counted_text(
+    alloc: Global,
+    scene: &Scene<'_>,
+    folder: &MemoryFolder,
+) -> Result<String, NoMemory> {
+    match scene.change.failing_call() {
+        Some(_) => faults_text(alloc, folder),
+        None => String::from_str(alloc, "no call fails"),
+    }
+}
+
+/// Runs a scene, and tells the facts of what is left, with "; " between each two.
+pub fn run<W: Threads + Wait + Sync>(
+    rt: &W,
+    alloc: Global,
+    scene: &Scene<'_>,
+) -> Result<String, NoMemory> {
+    let mut folder = scene_folder(alloc, scene)?;
+    let left = run_in(
+        rt,
+        alloc,
+        scene.command,
+        scene.change,
+        &mut folder,
+        &EmptyGate,
+    )?;
+    let inputs = kept_text(are_kept(alloc, scene, &folder)?);
+    let files = files_text(alloc, scene, &folder)?;
+    format!(in alloc; "{left}; {inputs}; {files}")
+}
+
+// How many faults were counted, and what the files hold beside the outputs of a run.
+fn files_text(alloc: Global, scene: &Scene<'_>, folder: &MemoryFolder) -> Result<String, NoMemory> {
+    let counted = counted_text(alloc, scene, folder)?;
+    let held = held_text(alloc, folder)?;
+    let proof = proof_text(alloc, folder)?;
+    format!(in alloc; "{counted}; {held}; {proof}")
+}
+
+// Runs the auction of a scene, live where it has an owners' file, and then verifies the transcript that it stored, in the
+// same folder. It tells the facts of what is left.
+fn run_and_verify<W: Threads + Wait + Sync>(
+    rt: &W,
+    alloc: Global,
+    scene: &Scene<'_>,
+) -> Result<String, NoMemory> {
+    let (run, verify) = match scene.owners {
+        Some(_) => (LIVE, VERIFY_LIVE),
+        None => (COMMAND, VERIFY),
+    };
+    let mut folder = scene_folder(alloc, scene)?;
+    let _ = run_in(rt, alloc, run, scene.change, &mut folder, &EmptyGate)?;
+    run_in(rt, alloc, verify, scene.change, &mut folder, &EmptyGate)
+}
+
+/// Whether the run of a scene leaves what these facts say.
+pub fn leaves<W: Threads + Wait + Sync>(
+    rt: &W,
+    alloc: Global,
+    scene: &Scene<'_>,
+    facts: &str,
+) -> Result<bool, NoMemory> {
+    let told = run(rt, alloc, scene)?;
+    Ok(are_among(facts, &told))
+}
+
+/// Whether the verification of a scene's own run leaves what these facts say.
+pub fn verifies<W: Threads + Wait + Sync>(
+    rt: &W,
+    alloc: Global,
+    scene: &Scene<'_>,
+    facts: &str,
+) -> Result<bool, NoMemory> {
+    let told = run_and_verify(rt, alloc, scene)?;
+    Ok(are_among(facts, &told))
+}
+
+/// The facts of the first row that says of a run's facts one that isn't so.
+pub fn first_untrue<'a, W: Threads + Wait + Sync>(
+    rt: &W,
+    alloc: Global,
+    table: &[(Scene<'_>, &'a str)],
+) -> Result<Option<&'a str>, NoMemory> {
+    for (scene, facts) in table {
+        if !leaves(rt, alloc, scene, facts)? {
+            return Ok(Some(facts));
+        }
+    }
+    Ok(None)
+}
+
+/// The words of the first row whose facts aren't so of their command on the three stations.
+pub fn first_untrue_words<'a, W: Threads + Wait + Sync>(
+    rt: &W,
+    alloc: Global,
+    table: &[(&'a str, &str)],
+) -> Result<Option<&'a str>, NoMemory> {
+    for &(command, facts) in table {
+        let scene = Scene { command, ..RUN };
+        if !leaves(rt, alloc, &scene, facts)? {
+            return Ok(Some(command));
+        }
+    }
+    Ok(None)
+}
+
+/// The facts of the first row that aren't so of this scene with its change.
+pub fn first_untrue_change<'a, W: Threads + Wait + Sync>(
+    rt: &W,
+    alloc: Global,
+    scene: &Scene<'_>,
+    table: &[(Change<'_>, &'a str)],
+) -> Result<Option<&'a str>, NoMemory> {
+    for &(change, facts) in table {
+        let changed = Scene { change, ..*scene };
+        if !leaves(rt, alloc, &changed, facts)? {
+            return Ok(Some(facts));
+        }
+    }
+    Ok(None)
+}
+
+/// Whether `run` and `check` refuse these inputs with this line, and store nothing.
+pub fn are_refused<W: Threads + Wait + Sync>(
+    rt: &W,
+    alloc: Global,
+    scene: Scene<'_>,
+    line: &str,
+) -> Result<bool, NoMemory> {
+    let facts = format!(in alloc;
+        "status 5; said: {line}; nothing stored; no record; inputs kept"
+    )?;
+    let run = Scene {
+        command: COMMAND,
+        ..scene
+    };
+    let check = Scene {
+        command: CHECK,
+        ..scene
+    };
+    Ok(leaves(rt, alloc, &run, &facts)? && leaves(rt, alloc, &check, &facts)?)
+}

@@ -1,0 +1,133 @@
+//! One solver over the queries of whole auctions: what it keeps from query to query changes no answer.
+
+use crate::solvers::learners::samples::{ALWAYS, Said, attempted, by_chance, learner, packing};
+use crate::solvers::samples::task_of;
+use cdcl_prove::cdcl::{Cdcl, Searched};
+use cert_types::query::is_query;
+use cert_types::task::Task;
+use pack_defs::book::Book;
+use pack_defs::channel_map::ChannelMap;
+use pack_defs::worker::Worker;
+use plain_pack::search::fits;
+use std::alloc::{AllocError as NoMemory, Global};
+use std::test::Fail;
+
+const STATIONS: u32 = 12;
+
+// An auction of which the next station is tested: those on air, with channels that the plain search gave them.
+#[derive(Drop)]
+struct Auction {
+    book: Book,
+    set: Vec<u32>,
+    last: ChannelMap,
+}
+
+impl Auction {
+    // The stations of a book by chance, none of which is on air.
+    fn of(alloc: Global, seed: u64) -> Option<Auction> {
+        Some(Auction {
+            book: packing(alloc, STATIONS, 3, |s, t, c| by_chance(seed, s, t, c))?,
+            set: Vec::new(alloc),
+            last: ChannelMap::of(alloc, &[]).ok()?,
+        })
+    }
+
+    // The query that tests a station.
+    fn query(&self, alloc: Global, station: u32) -> Result<Task, NoMemory> {
+        let mut set = Vec::from_slice(alloc, &self.set)?;
+        set.push(station)?;
+        task_of(alloc, Some(station), &set, self.last.entries())
+    }
+
+    // Tests a station, by the solver too where it hears of the query. Where it fits it goes on air if chance has it. Whether the
+    // solver said what the plain search did.
+    fn test(
+        &mut self,
+        alloc: Global,
+        solver: &mut Cdcl,
+        worker: &Worker,
+        station: u32,
+        turn: Turn,
+    ) -> Option<bool> {
+        let task = self.query(alloc, station).ok()?;
+        if !is_query(&self.book, &task) {
+            return None;
+        }
+        let map = fits(alloc, &self.book, task.set.as_slice()).ok()?;
+        let mut agrees = true;
+        if turn.heard {
+            let said = attempted(alloc, solver, worker, &self.book, &task, ALWAYS);
+            agrees = match said {
+                Said::Fit => map.is_some(),
+                Said::Refuted(_) => map.is_none(),
+                _ => false,
+            };
+        }
+        if let Some(map) = map {
+            if turn.stays {
+                self.set.push(station).ok()?;
+                self.last = map;
+            }
+        }
+        Some(agrees)
+    }
+}
+
+// What chance has of a test: whether the solver hears of it, and whether the station goes on air where it fits.
+#[derive(Clone, Copy)]
+struct Turn {
+    heard: bool,
+    stays: bool,
+}
+
+// What one solver, whose kept searcher came to this in the end, said over auctions that take turns, of whose queries it hears all
+// or some; none where it once said another thing than the plain search.
+fn searched(alloc: Global, first: u64, auctions: u64, hears_all: bool) -> Option<Searched> {
+    let worker = learner(10_000, first);
+    let mut solver = Cdcl::new(alloc, &worker).ok()?;
+    let mut all = Vec::new(alloc);
+    for seed in first..first.saturating_add(auctions) {
+        all.push(Auction::of(alloc, seed)?).ok()?;
+    }
+    for s in 0..STATIONS {
+        for i in 0..all.len() {
+            let key = first.saturating_add(i as u64);
+            let turn = Turn {
+                heard: hears_all || by_chance(key, s, 98, 14),
+                stays: !by_chance(key, s, 98, 15) || !by_chance(key, s, 99, 15),
+            };
+            let auction = all.get_mut(i)?;
+            if !auction.test(alloc, &mut solver, &worker, s, turn)? {
+                return None;
+            }
+        }
+    }
+    Some(solver.searched())
+}
+
+#[test]
+fn one_solver_agrees_over_a_whole_auction(rt: HostRuntime) -> Result<(), Fail> {
+    let (mut fits, mut refuted) = (0u64, 0u64);
+    for first in 0..8 {
+        let searched = searched(rt.alloc(), first, 1, true).ok_or("another answer")?;
+        assert_eq!(rt; searched.left, 0, "auction {first}");
+        fits = fits.saturating_add(searched.fits);
+        refuted = refuted.saturating_add(searched.refuted);
+    }
+    assert!(rt;
+        fits > 4 && refuted > 1,
+        "{fits} fits and {refuted} refutations"
+    );
+    Ok(())
+}
+
+#[test]
+fn one_solver_agrees_over_two_auctions_and_over_some_queries(rt: HostRuntime) -> Result<(), Fail> {
+    for (auctions, hears_all) in [(2, true), (1, false)] {
+        for first in 0..8 {
+            let searched = searched(rt.alloc(), first, auctions, hears_all);
+            assert!(rt; searched.is_some(), "{auctions} auctions from {first}");
+        }
+    }
+    Ok(())
+}

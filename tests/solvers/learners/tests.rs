@@ -1,0 +1,211 @@
+//! The solver's tests, each answer of which the check of answers lets through first.
+
+use crate::solvers::learners::samples::{ALWAYS, Said, attempted, by_chance, learner, packing};
+use crate::solvers::samples::{book, task, task_of};
+use cdcl_prove::cdcl::Cdcl;
+use first_looks::looks::Looked;
+use pack_defs::book::Book;
+use pack_defs::worker::{Kind, Worker};
+use plain_pack::search::fits;
+use std::alloc::Global;
+use std::test::Fail;
+
+const THREE: &str = "DOMAIN,1,14,15\nDOMAIN,2,14,15\nDOMAIN,3,14,15\n";
+
+const APART: &str = "CO,14,14,1,2,3\nCO,14,14,2,3\nCO,15,15,1,2,3\nCO,15,15,2,3\n";
+
+// What one solver of this budget says of the queries of an auction of the three stations, and then of station 3 with the
+// third pair, each in turn.
+fn of_three_stations(alloc: Global, budget: u32) -> Option<[Said; 6]> {
+    let book = book(alloc, THREE, APART)?;
+    let worker = learner(budget, 0);
+    let mut solver = Cdcl::new(alloc, &worker).ok()?;
+    let tasks = [
+        task(alloc, &[1], &[]).ok()?,
+        task(alloc, &[2], &[]).ok()?,
+        task(alloc, &[2, 3], &[(2, 14)]).ok()?,
+        task(alloc, &[1, 2], &[(2, 14)]).ok()?,
+        task(alloc, &[1, 2, 3], &[(1, 15), (2, 14)]).ok()?,
+        task(alloc, &[1, 3], &[(1, 15)]).ok()?,
+    ];
+    let mut all = [Said::Wrong; 6];
+    for (i, task) in tasks.iter().enumerate() {
+        all[i] = attempted(alloc, &mut solver, &worker, &book, task, ALWAYS);
+    }
+    Some(all)
+}
+
+#[test]
+fn two_of_three_stations_fit_and_three_do_not(rt: HostRuntime) -> Result<(), Fail> {
+    let all = of_three_stations(rt.alloc(), 1000).ok_or("no memory")?;
+    let fits = [0, 1, 2, 3, 5];
+    for i in fits {
+        assert_eq!(rt; all[i], Said::Fit);
+    }
+    assert!(rt; matches!(all[4], Said::Refuted(_)));
+    Ok(())
+}
+
+#[test]
+fn a_budget_of_one_line_is_spent_where_there_is_a_conflict(rt: HostRuntime) -> Result<(), Fail> {
+    let all = of_three_stations(rt.alloc(), 1).ok_or("no memory")?;
+    let fits = [0, 1, 2, 3, 5];
+    for i in fits {
+        assert_eq!(rt; all[i], Said::Fit);
+    }
+    assert_eq!(rt; all[4], Said::Spent(1));
+    Ok(())
+}
+
+// Station 1 has one channel. While station 2 stands on it and station 3 on the other one of station 2, both have to move.
+const CHAIN: &str = "DOMAIN,1,14\nDOMAIN,2,14,15\nDOMAIN,3,15,16\n";
+
+const LINKS: &str = "CO,14,14,1,2\nCO,15,15,2,3\n";
+
+// What the first looks of one solver answered so far, after each of these queries in turn.
+fn looked_in_turn(alloc: Global) -> Option<[Looked; 5]> {
+    let book = book(alloc, CHAIN, LINKS)?;
+    let worker = learner(1000, 0);
+    let mut solver = Cdcl::new(alloc, &worker).ok()?;
+    let tasks = [
+        task_of(alloc, Some(1), &[1, 2, 3], &[(2, 14), (3, 15)]).ok()?,
+        task_of(alloc, Some(1), &[1, 2, 3], &[(2, 14), (3, 15)]).ok()?,
+        task_of(alloc, Some(2), &[2, 3], &[(3, 15)]).ok()?,
+        task_of(alloc, Some(1), &[1, 2], &[(2, 14)]).ok()?,
+        task_of(alloc, Some(1), &[1, 2], &[(2, 14)]).ok()?,
+    ];
+    let mut all = [solver.looked(); 5];
+    for (i, task) in tasks.iter().enumerate() {
+        if attempted(alloc, &mut solver, &worker, &book, task, ALWAYS) != Said::Fit {
+            return None;
+        }
+        all[i] = solver.looked();
+    }
+    Some(all)
+}
+
+#[test]
+fn last_fit_answers_the_next_query_of_its_station(rt: HostRuntime) -> Result<(), Fail> {
+    let looked = looked_in_turn(rt.alloc()).ok_or("not a fit")?;
+    // By a search, by the last fit, by a free channel, by station 2 that makes way, since the last fit moves station 3 as
+    // well, which is not asked about; and again by the last fit.
+    let want = [(0, 0, 0), (1, 0, 0), (1, 1, 0), (1, 1, 1), (2, 1, 1)];
+    for (i, looked) in looked.iter().enumerate() {
+        assert_eq!(rt; (looked.last, looked.free, looked.repaired), want[i]);
+    }
+    Ok(())
+}
+
+// What a solver for this worker says of these stations of a book, none of which has a channel yet, where the poll answers
+// so many times that the query stands.
+fn of_all(alloc: Global, book: &Book, worker: &Worker, set: &[u32], stands: u32) -> Option<Said> {
+    let mut solver = Cdcl::new(alloc, worker).ok()?;
+    let task = task(alloc, set, &[]).ok()?;
+    Some(attempted(alloc, &mut solver, worker, book, &task, stands))
+}
+
+const STATIONS: [u32; 10] = [0, 1, 2, 3, 4, 5, 6, 7, 8, 9];
+
+// Whether so many stations, of which no two may share a channel, are refuted on one channel fewer.
+fn is_refuted(alloc: Global, channels: u8) -> Option<bool> {
+    let count = channels as usize + 1;
+    if count > STATIONS.len() {
+        return None;
+    }
+    let book = packing(alloc, count as u32, channels, |_, _, _| true)?;
+    let all = of_all(
+        alloc,
+        &book,
+        &learner(100_000, 0),
+        &STATIONS[..count],
+        ALWAYS,
+    )?;
+    Some(matches!(all, Said::Refuted(_)))
+}
+
+#[test]
+fn more_stations_than_channels_are_refuted(rt: HostRuntime) -> Result<(), Fail> {
+    for channels in [3, 4, 5, 6] {
+        let refuted = is_refuted(rt.alloc(), channels).ok_or("no memory")?;
+        assert!(rt; refuted, "on {channels} channels");
+    }
+    Ok(())
+}
+
+// What a solver with this budget and seed says of six stations on five channels, no two of which may share one, where the
+// poll answers so many times that the query stands.
+fn of_six(alloc: Global, budget: u32, seed: u64, stands: u32) -> Option<Said> {
+    let book = packing(alloc, 6, 5, |_, _, _| true)?;
+    of_all(alloc, &book, &learner(budget, seed), &STATIONS[..6], stands)
+}
+
+// The kept searcher tests one station after the other, of which the first five fit by themselves. At the sixth it spends the
+// budget by one policy and then by another; then as many lines are learnt for a receipt.
+#[test]
+fn the_poll_is_asked_before_the_first_conflict_and_then_after_each_16(
+    rt: HostRuntime,
+) -> Result<(), Fail> {
+    let said = [
+        (0, 1, Said::Moved(6)),
+        (7, 16, Said::Moved(6)),
+        (8, 16, Said::Spent(16)),
+        (10, 17, Said::Moved(6)),
+        (11, 17, Said::Spent(17)),
+    ];
+    for (stands, budget, said) in said {
+        let of_six = of_six(rt.alloc(), budget, 0, stands);
+        assert_eq!(rt; of_six, Some(said), "{stands} answers, {budget} lines");
+    }
+    Ok(())
+}
+
+// How many lines refute the six stations by this seed.
+fn lines_by(alloc: Global, seed: u64) -> Option<usize> {
+    match of_six(alloc, 100_000, seed, ALWAYS)? {
+        Said::Refuted(lines) => Some(lines),
+        _ => None,
+    }
+}
+
+#[test]
+fn another_seed_searches_differently(rt: HostRuntime) -> Result<(), Fail> {
+    let first = lines_by(rt.alloc(), 0).ok_or("not refuted")?;
+    let mut others: u32 = 0;
+    for seed in 0..8 {
+        let lines = lines_by(rt.alloc(), seed).ok_or("not refuted")?;
+        assert_eq!(rt; lines_by(rt.alloc(), seed), Some(lines), "at {seed}");
+        if lines != first {
+            others = others.saturating_add(1);
+        }
+    }
+    assert!(rt; others > 2, "{others} of 7 differ");
+    Ok(())
+}
+
+// Whether ten stations on three channels are said to fit exactly where the plain search finds a map, and whether they fit. The
+// solver's seed is that of the book.
+fn agrees(alloc: Global, seed: u64) -> Option<(bool, bool)> {
+    let book = packing(alloc, 10, 3, |s, t, c| by_chance(seed, s, t, c))?;
+    let fit = fits(alloc, &book, &STATIONS).ok()?.is_some();
+    let said = of_all(alloc, &book, &learner(100_000, seed), &STATIONS, ALWAYS)?;
+    let agrees = match said {
+        Said::Fit => fit,
+        Said::Refuted(_) => !fit,
+        _ => false,
+    };
+    Some((agrees, fit))
+}
+
+#[test]
+fn says_fit_exactly_where_the_plain_search_does(rt: HostRuntime) -> Result<(), Fail> {
+    let mut fitting: u32 = 0;
+    for seed in 0..40 {
+        let (agrees, fit) = agrees(rt.alloc(), seed).ok_or("no memory")?;
+        assert!(rt; agrees, "at {seed}");
+        if fit {
+            fitting = fitting.saturating_add(1);
+        }
+    }
+    assert!(rt; fitting > 5 && fitting < 35, "{fitting} fit");
+    Ok(())
+}

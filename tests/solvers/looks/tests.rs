@@ -1,0 +1,94 @@
+//! What each look finds, and what none finds.
+
+use crate::solvers::looks::samples::task;
+use crate::solvers::samples::book;
+use cert_types::query::is_query;
+use first_looks::looks::{FirstLooks, Looked};
+use pack_defs::book::Book;
+use std::alloc::{AllocError as NoMemory, Global};
+use std::test::Fail;
+
+// Station 2 has channel 14 alone. Of stations 1 and 3 two pairs are on 14 and one is on 15; of station 4 one is on 14, and two
+// are on 15.
+const DOMAINS: &str = "DOMAIN,1,14,15\nDOMAIN,2,14\nDOMAIN,3,14,15\nDOMAIN,4,14,15\n";
+
+const ROWS: &str = "CO,14,14,1,2,3\nCO,14,14,2,3,4\nCO,15,15,1,4\nCO,15,15,3,4\n";
+
+// The tested station, the channels that stand, and those that the look which finds a fit changes; none where no look does.
+type Row = (Option<u32>, &'static [(u32, u8)], &'static [(u32, u8)]);
+
+// Whether the looks find this.
+fn find(alloc: Global, looks: &mut FirstLooks, book: &Book, row: Row) -> Result<bool, NoMemory> {
+    let (station, last, found) = row;
+    let task = task(alloc, station, last)?;
+    if !is_query(book, &task) {
+        return Ok(false);
+    }
+    match looks.look(alloc, book, &task)? {
+        Some(fit) => Ok(fit.entries() == found),
+        None => Ok(found.is_empty()),
+    }
+}
+
+const APART: &[Row] = &[
+    // A free channel; of two, the one that fewer pairs are on.
+    (Some(2), &[], &[(2, 14)]),
+    (Some(1), &[(4, 15)], &[(1, 14)]),
+    (Some(1), &[(2, 14)], &[(1, 15)]),
+    (Some(1), &[], &[(1, 15)]),
+    (Some(4), &[], &[(4, 14)]),
+    // A station makes way, whose number is lower or higher.
+    (Some(2), &[(1, 14)], &[(1, 15), (2, 14)]),
+    (Some(2), &[(3, 14)], &[(2, 14), (3, 15)]),
+    // On channel 14 station 3 can't make way, on 15 station 4 can.
+    (Some(1), &[(3, 14), (4, 15)], &[(1, 15), (4, 14)]),
+    // One station stands in the way and can't make way.
+    (Some(2), &[(3, 14), (4, 15)], &[]),
+    // Two stand in the way.
+    (Some(2), &[(3, 14), (4, 14)], &[]),
+    // No station is tested.
+    (None, &[(1, 14)], &[]),
+    (None, &[], &[]),
+];
+
+#[test]
+fn each_look_finds_its_fit(rt: HostRuntime) -> Result<(), Fail> {
+    let alloc = rt.alloc();
+    let book = book(alloc, DOMAINS, ROWS).ok_or("no book")?;
+    for (i, row) in APART.iter().enumerate() {
+        let mut looks = FirstLooks::new(alloc);
+        assert!(rt; find(alloc, &mut looks, &book, *row)?, "row {i}");
+    }
+    Ok(())
+}
+
+// Of one `FirstLooks`, in turn.
+const IN_TURN: &[Row] = &[
+    (Some(3), &[], &[(3, 15)]),
+    (Some(3), &[(1, 14)], &[(3, 15)]),
+    // Station 4 stands on the channel of the last fit.
+    (Some(3), &[(4, 15)], &[(3, 14)]),
+    // Channel 15 is the one that a look for a free channel finds, and 14 that of the last fit.
+    (Some(3), &[], &[(3, 14)]),
+    (Some(3), &[(1, 14), (4, 15)], &[(3, 15), (4, 14)]),
+    (Some(3), &[(1, 14), (4, 15)], &[(3, 15), (4, 14)]),
+    // The last fit is that of the tested station.
+    (Some(1), &[], &[(1, 15)]),
+];
+
+#[test]
+fn last_fit_is_found_again_while_it_fits(rt: HostRuntime) -> Result<(), Fail> {
+    let alloc = rt.alloc();
+    let book = book(alloc, DOMAINS, ROWS).ok_or("no book")?;
+    let mut looks = FirstLooks::new(alloc);
+    for (i, row) in IN_TURN.iter().enumerate() {
+        assert!(rt; find(alloc, &mut looks, &book, *row)?, "row {i}");
+    }
+    let looked = Looked {
+        last: 3,
+        free: 3,
+        repaired: 1,
+    };
+    assert_eq!(rt; looks.looked(), looked);
+    Ok(())
+}

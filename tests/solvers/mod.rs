@@ -1,0 +1,9 @@
+//! What the solvers answer, and the trail that they search on.
+
+mod learners;
+mod looks;
+mod plain;
+mod racers;
+mod samples;
+mod trails;
+mod walkers;

@@ -1,0 +1,6 @@
+//! Tests of the commands `verify`, `export` and `import`, and of bad files, by runs of the whole program over scenes of `run_scenes`.
+
+mod bad_files;
+mod proofs;
+mod unshown;
+mod verified;
