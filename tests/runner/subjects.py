@@ -14,6 +14,7 @@ NO_PROGRAM = "no program of these sources is built; ./repack --version builds it
 NO_RT = "the toolchain's command rt is not on the path"
 NO_SHELLCHECK = "shellcheck is not installed"
 ENDED = re.compile(r"^test (\S+) \.\.\. (\w+)\n((?:    .*\n)*)", re.M)
+CASE = re.compile(r"^(ok|FAILED) (.*)\n((?:    .*\n)*)", re.M)
 GROWTHS = re.compile(r"^(.*): \d+ growths.*, (\d+) otherwise$", re.M)
 
 
@@ -24,7 +25,7 @@ def names():
         for test in unit.tests:
             subject = subject_of(unit, test)
             found[subject] = found.get(subject, 0) + 1
-    return {**dict(sorted(found.items())), "examples": None, "memory": None, "hostile": 1, "mutants": 1, "scripts": len(shell_scripts())}
+    return {**dict(sorted(found.items())), "examples": None, "limits": None, "memory": None, "hostile": 1, "mutants": 1, "scripts": len(shell_scripts())}
 
 
 def subject_of(unit, test):
@@ -101,17 +102,15 @@ def program_job(name, weight, words, read):
     return Job(name, weight, words, str(TOP), read)
 
 
-def examples():
-    """The job that runs what the README and the guide show."""
+def cases(name, weight, script):
+    """The job of a script that prints `ok NAME` or `FAILED NAME` of each case, and then, four spaces in, why it failed."""
 
     def read(printed, status):
-        found = [Result(f"examples: {name}", "examples", "passed" if word == "ok" else "failed", why) for word, name, why in EXAMPLE.findall(printed)]
-        return found or by_status("examples")(printed, 1)
+        found = [Result(f"{name}: {case}", name, "passed" if word == "ok" else "failed", why) for word, case, why in CASE.findall(printed)]
+        is_told = status == 0 or any(result.outcome == "failed" for result in found)
+        return found if found and is_told else [*found, *by_status(name)(printed, 1)]
 
-    return program_job("examples", 50, ("tests/examples",), read)
-
-
-EXAMPLE = re.compile(r"^(ok|FAILED) (.*)\n((?:    .*\n)*)", re.M)
+    return program_job(name, weight, (script,), read)
 
 
 def memory():
@@ -153,7 +152,8 @@ def script_job(script):
 
 # What is run beside the units, by subject.
 OTHERS = {
-    "examples": lambda: [examples()],
+    "examples": lambda: [cases("examples", 50, "tests/examples")],
+    "limits": lambda: [cases("limits", 60, "tests/limits")],
     "memory": lambda: [memory()],
     "hostile": lambda: [hostile()],
     "mutants": lambda: [mutants()],

@@ -1,6 +1,7 @@
 //! What is refused, and with which line.
 
 use crate::scenes::change::Change;
+use crate::scenes::long_text::one_byte_too_long;
 use crate::scenes::scene::{RUN, Scene, are_refused, first_untrue_words, leaves};
 use crate::scenes::stations::CHECK;
 use std::alloc::{AllocError as NoMemory, Global};
@@ -143,14 +144,13 @@ fn too_many_domains_are_refused(rt: HostRuntime) -> Result<(), Fail> {
     Ok(())
 }
 
-// Whether a check of the three stations, over rows of so many bytes, leaves what these facts say.
+// Whether a check of the three stations, over rows that are too long, leaves what these facts say.
 fn leaves_over<W: Threads + Wait + Sync>(
     rt: &W,
     alloc: Global,
-    length: usize,
     facts: &str,
 ) -> Result<bool, NoMemory> {
-    let rows = "\n".repeat(alloc, length)?;
+    let rows = one_byte_too_long(alloc)?;
     let scene = Scene {
         command: CHECK,
         rows: &rows,
@@ -162,7 +162,7 @@ fn leaves_over<W: Threads + Wait + Sync>(
 #[test]
 fn a_file_one_byte_too_long_is_refused(rt: HostRuntime) -> Result<(), Fail> {
     let facts = "status 5; said: r.csv: too long\n; nothing stored; no record; inputs kept";
-    assert!(rt; leaves_over(&rt, rt.alloc(), 268_435_457, facts)?);
+    assert!(rt; leaves_over(&rt, rt.alloc(), facts)?);
     Ok(())
 }
 

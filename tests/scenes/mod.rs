@@ -7,6 +7,7 @@
 //! `outside` makes the folder and the sink and runs the program; `told` and `record_text` tell what is left.
 
 pub mod change;
+pub mod long_text;
 pub mod named;
 pub mod outside;
 mod record_text;

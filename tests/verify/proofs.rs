@@ -186,43 +186,6 @@ fn logs_are_imported(rt: HostRuntime) -> Result<(), Fail> {
     Ok(())
 }
 
-// A refutation of so many lines: the first line, again and again, and the last.
-fn long_log(alloc: Global, lines: u32) -> Result<String, NoMemory> {
-    let last = 12 + u64::from(lines);
-    let mut log = String::from_str(alloc, "13 -1 0 7 2 8 3 12 0\n")?;
-    for number in 14..last {
-        let line = format!(in alloc; "{number} -1 0 13 0\n")?;
-        log.push_str(&line)?;
-    }
-    let last = format!(in alloc; "{last} 0 13 1 9 2 10 3 11 0\n")?;
-    log.push_str(&last)?;
-    Ok(log)
-}
-
-#[test]
-fn the_longest_log_is_imported(rt: HostRuntime) -> Result<(), Fail> {
-    let table = [
-        (2, SETTLED),
-        (
-            1_000_000,
-            "status 0; tests: 1.1 fits, 1.2 fits, 1.3 fits, 2.1 fits, 2.3 refuted from outside; new.txt is long",
-        ),
-        (
-            1_000_001,
-            "status 10; said: p.lrat: not a refutation\n; no out.csv; no new.txt; no record; inputs kept",
-        ),
-    ];
-    for (lines, facts) in table {
-        let log = long_log(rt.alloc(), lines)?;
-        let scene = Scene {
-            log: Some(&log),
-            ..IMPORT
-        };
-        assert!(rt; leaves(&rt, rt.alloc(), &scene, facts)?);
-    }
-    Ok(())
-}
-
 const FAILS: &[(Scene<'static>, &str)] = &[
     (
         Scene {

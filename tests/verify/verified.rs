@@ -1,6 +1,7 @@
 //! What `verify` leaves of a transcript that is sound, or whose text is refused.
 
 use crate::scenes::change::{Change, replaced};
+use crate::scenes::long_text::one_byte_too_long;
 use crate::scenes::scene::{RUN, Scene, first_untrue, first_untrue_change, leaves, verifies};
 use crate::scenes::stations::{MANY_LINES, ONE_LINE, TRANSCRIPT, VERIFY};
 use std::alloc::{AllocError as NoMemory, Global};
@@ -327,14 +328,13 @@ fn a_file_or_the_sink_fails(rt: HostRuntime) -> Result<(), Fail> {
     Ok(())
 }
 
-// Whether the check of a transcript of so many bytes leaves what these facts say.
+// Whether the check of a transcript that is too long leaves what these facts say.
 fn leaves_over<W: Threads + Wait + Sync>(
     rt: &W,
     alloc: Global,
-    length: usize,
     facts: &str,
 ) -> Result<bool, NoMemory> {
-    let text = "\n".repeat(alloc, length)?;
+    let text = one_byte_too_long(alloc)?;
     let scene = Scene {
         transcript: Some(&text),
         ..CHECKED
@@ -345,7 +345,7 @@ fn leaves_over<W: Threads + Wait + Sync>(
 #[test]
 fn a_transcript_one_byte_too_long_is_refused(rt: HostRuntime) -> Result<(), Fail> {
     let facts = "status 5; said: tr.txt: too long\n; no record";
-    assert!(rt; leaves_over(&rt, rt.alloc(), 268_435_457, facts)?);
+    assert!(rt; leaves_over(&rt, rt.alloc(), facts)?);
     Ok(())
 }
 

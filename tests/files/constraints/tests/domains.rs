@@ -179,31 +179,28 @@ fn pieces_that_are_refused(rt: HostRuntime) {
     assert_eq!(rt; first_pieces(rt.alloc(), CASES), None);
 }
 
-// How many domains are read of the lines up to this number and these behind them.
-fn count_domains(alloc: Global, last: u32, behind: &str) -> Result<usize, ReadErr> {
-    let mut text = domain_lines(alloc, last)?;
+// How many domains are read of these lines with others behind them.
+fn count_domains(alloc: Global, lines: &str, behind: &str) -> Result<usize, ReadErr> {
+    let mut text = String::from_str(alloc, lines)?;
     text.push_str(behind)?;
     Ok(read_domains(alloc, text.as_bytes())?.list().len())
 }
 
+// The refusal of line 65,537.
+fn refused_at_the_end(why: RowWhy) -> Result<usize, ReadErr> {
+    Err(ReadErr::Row { line: 65_537, why })
+}
+
 #[test]
-fn too_many_domains(rt: HostRuntime) {
+fn too_many_domains(rt: HostRuntime) -> Result<(), Fail> {
     let alloc = rt.alloc();
-    assert_eq!(rt; count_domains(alloc, 65_536, ""), Ok(65_536));
-    let more = count_domains(alloc, 65_537, "");
-    assert_eq!(rt;
-        more,
-        Err(ReadErr::Row {
-            line: 65_537,
-            why: RowWhy::TooMany
-        })
-    );
-    let again = count_domains(alloc, 65_536, "DOMAIN,5,14\n");
-    assert_eq!(rt;
-        again,
-        Err(ReadErr::Row {
-            line: 65_537,
-            why: RowWhy::SecondDomain
-        })
-    );
+    let lines = domain_lines(alloc, 65_536)?;
+    for (behind, want) in [
+        ("", Ok(65_536)),
+        ("DOMAIN,65537,14\n", refused_at_the_end(RowWhy::TooMany)),
+        ("DOMAIN,5,14\n", refused_at_the_end(RowWhy::SecondDomain)),
+    ] {
+        assert_eq!(rt; count_domains(alloc, &lines, behind), want, "{behind}");
+    }
+    Ok(())
 }

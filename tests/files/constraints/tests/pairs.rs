@@ -1,12 +1,10 @@
 //! Texts of pairs that are read, and texts that are refused.
 
-use crate::files::constraints::tests::{
-    LENGTHS, THREE_STATIONS, domain_lines, fed_pairs, first_pairs,
-};
+use crate::files::constraints::tests::{LENGTHS, THREE_STATIONS, fed_pairs, first_pairs};
 use constraint_files::domains::{Domains, read_domains};
 use constraint_files::error::{ReadErr, RowWhy};
 use constraint_files::pairs::read_pairs;
-use std::alloc::{AllocError, Global};
+use std::alloc::Global;
 use std::test::Fail;
 
 #[test]
@@ -142,45 +140,4 @@ fn rows_that_are_refused(rt: HostRuntime) {
         (b"\x8A\x2C\xFE\x0A\x00,\"\x0D\x91,5", 1, RowWhy::ShortRow),
     ];
     assert_eq!(rt; first_read_pairs(rt.alloc(), CASES), None);
-}
-
-// The row of s with each station above it up to 2,829.
-fn row_of(alloc: Global, station: u32) -> Result<String, AllocError> {
-    let mut row = format!(in alloc; "CO,14,14,{station}")?;
-    for t in 1..2_830 {
-        if t > station {
-            row.push_str(format!(in alloc; ",{t}")?.as_str())?;
-        }
-    }
-    row.push('\n')?;
-    Ok(row)
-}
-
-// For each s from 1 up to this number its row.
-fn rows_of_all(alloc: Global, last: u32) -> Result<String, AllocError> {
-    let mut text = String::new(alloc);
-    for s in 1..=last {
-        text.push_str(row_of(alloc, s)?.as_str())?;
-    }
-    Ok(text)
-}
-
-// How many pairs are read of the rows of the stations up to this one, over 2,829 domains.
-fn count_pairs(alloc: Global, last: u32) -> Result<usize, ReadErr> {
-    let domains = read_domains(alloc, domain_lines(alloc, 2_829)?.as_bytes())?;
-    let rows = rows_of_all(alloc, last)?;
-    Ok(read_pairs(alloc, rows.as_bytes(), &domains)?.list().len())
-}
-
-#[test]
-fn too_many_pairs(rt: HostRuntime) {
-    assert_eq!(rt; count_pairs(rt.alloc(), 2_808), Ok(3_999_996));
-    let all = count_pairs(rt.alloc(), 2_828);
-    assert_eq!(rt;
-        all,
-        Err(ReadErr::Row {
-            line: 2_809,
-            why: RowWhy::TooMany
-        })
-    );
 }
