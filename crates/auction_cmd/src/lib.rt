@@ -1,6 +1,6 @@
 //! The program's commands, over any folder, any sink and any gate: an auction from files to result.
 //!
-//! It may call every crate below. `auction_cli`, which is the program, and the crates of trials call it; no other knows of it.
+//! It may call every crate below. `auction_cli`, which is the program, and the tests call it; no other crate knows of it.
 //!
 //! Read `words`, with `run_words`, and `auction` first: which command the words are, and who carries it out. Then `run`, with
 //! `inputs`, `sources` and `constraints`, which read, and `conclude`, which stores and writes. The others are like it: `check`;
