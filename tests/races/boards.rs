@@ -1,3 +1,4 @@
 //! Tests of `answer_board`.
 
+mod pass_tests;
 mod tests;

@@ -85,16 +85,41 @@ const TO_THE_END: &[(usize, Case)] = &[
     (0, (6, Given::Spent, Reply::Ended, 6)),
 ];
 
-// The auction of three stations, with two workers of budget 1, at its first query.
-fn auction(alloc: Global) -> Result<Auction, NoMemory> {
-    let workers = vec![in alloc; learner(1), learner(1)]?;
+// Fits that settle the first three queries, postings for query 3 at query 4, and a fit that settles query 4.
+const OLDER_QUERY: &[(usize, Case)] = &[
+    (0, (1, Given::Fit(1, 14), NEXT_2, 2)),
+    (0, (2, Given::Fit(2, 14), NEXT_3, 3)),
+    (0, (3, Given::Fit(3, 15), NEXT_4, 4)),
+    (0, (3, Given::Fit(3, 15), Reply::WrongQuery { now: 4 }, 4)),
+    (1, (3, Given::Fit(3, 15), Reply::WrongQuery { now: 4 }, 4)),
+    (0, (4, Given::Fit(1, 15), NEXT_5, 5)),
+];
+
+// Answers to all five queries, then postings after the end: for the next number, for earlier queries and for none, by each worker
+// and by a pass without a worker.
+const AFTER_THE_END: &[(usize, Case)] = &[
+    (0, (1, Given::Fit(1, 14), NEXT_2, 2)),
+    (0, (2, Given::Fit(2, 14), NEXT_3, 3)),
+    (0, (3, Given::Fit(3, 15), NEXT_4, 4)),
+    (0, (4, Given::Fit(1, 15), NEXT_5, 5)),
+    (1, (5, Given::Refuted, Reply::Advanced { next: None }, 6)),
+    (0, (6, Given::Refuted, Reply::Ended, 6)),
+    (1, (5, Given::Refuted, Reply::Ended, 6)),
+    (0, (1, Given::Fit(1, 14), Reply::Ended, 6)),
+    (1, (0, Given::FitNothing, Reply::Ended, 6)),
+    (2, (6, Given::Refuted, Reply::Ended, 6)),
+];
+
+// The auction of three stations, with two workers of this budget, at its first query.
+pub(crate) fn auction(alloc: Global, budget: u32) -> Result<Auction, NoMemory> {
+    let workers = vec![in alloc; learner(budget), learner(budget)]?;
     let sc = three_bids(alloc, 70, 1, workers)?;
     let book = three_stations(alloc)?;
     Auction::start(alloc, &sc, &book, Order::ByFacility)
 }
 
 // What a posting is told.
-fn told<R: Wait>(
+pub(crate) fn told<R: Wait>(
     rt: &R,
     alloc: Global,
     board: &Board,
@@ -137,10 +162,15 @@ fn are_told<R: Wait>(
     all
 }
 
-// Whether each posting is told its reply, on a board with a pass more than there are workers, whose history is then of all of
-// them.
-fn are_told_on<R: Wait>(rt: &R, alloc: Global, cases: &[(usize, Case)]) -> Result<bool, NoMemory> {
-    let auction = auction(alloc)?;
+// Whether each posting is told its reply, and the history then has as many entries. The board has one pass more than there are
+// workers, each of this budget.
+fn are_told_on<R: Wait>(
+    rt: &R,
+    alloc: Global,
+    budget: u32,
+    cases: &[(usize, Case)],
+) -> Result<bool, NoMemory> {
+    let auction = auction(alloc, budget)?;
     let Ok((board, mut passes)) = Board::raise(alloc, auction, 3) else {
         return Err(NoMemory);
     };
@@ -153,8 +183,22 @@ fn are_told_on<R: Wait>(rt: &R, alloc: Global, cases: &[(usize, Case)]) -> Resul
 #[test]
 fn each_reply(rt: HostRuntime) -> Result<(), Fail> {
     let alloc = rt.alloc();
-    assert!(rt; are_told_on(&rt, alloc, POSTINGS)?);
-    assert!(rt; are_told_on(&rt, alloc, TO_THE_END)?);
+    assert!(rt; are_told_on(&rt, alloc, 1, POSTINGS)?);
+    assert!(rt; are_told_on(&rt, alloc, 1, TO_THE_END)?);
+    Ok(())
+}
+
+// A fit for query 3 is turned away at query 4 from each worker, and query 4 can still be settled.
+#[test]
+fn an_answer_for_an_older_query_is_turned_away(rt: HostRuntime) -> Result<(), Fail> {
+    assert!(rt; are_told_on(&rt, rt.alloc(), 1000, OLDER_QUERY)?);
+    Ok(())
+}
+
+// Whatever the answer and whoever posts it. `current` then answers 6, one past the last query.
+#[test]
+fn every_posting_after_the_end_gets_ended(rt: HostRuntime) -> Result<(), Fail> {
+    assert!(rt; are_told_on(&rt, rt.alloc(), 1000, AFTER_THE_END)?);
     Ok(())
 }
 
@@ -245,7 +289,7 @@ fn left_by_all<W: Threads + Wait + Sync>(
     alloc: Global,
     counts: &Counts,
 ) -> Result<(u64, u64), NoMemory> {
-    let auction = auction(alloc)?;
+    let auction = auction(alloc, 1)?;
     let Ok((board, mut passes)) = Board::raise(alloc, auction, 3) else {
         return Err(NoMemory);
     };

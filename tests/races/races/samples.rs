@@ -1,14 +1,32 @@
-//! How a worker waits for another, and an auction whose stations all start on air.
+//! How a worker waits for another or asks its poll, what a wave of a test's own racers leaves, and an auction whose stations all
+//! start on air.
 
-use crate::samples::scenarios::{auction_of, bid};
+use crate::samples::answers::{FOUR_FITS, answer};
+use crate::samples::scenarios::{auction_of, bid, three_bids};
+use crate::samples::workers::learner;
+use answer_board::board::Board;
+use auction_core::auction::Auction;
+use cert_types::poll::{Attempt, Poll};
+use pack_defs::book::Book;
+use pack_defs::order::Order;
 use pack_defs::scenario::Scenario;
 use pack_defs::worker::Worker;
+use race_wave::muster::mustered;
+use race_wave::parting::parted;
+use race_wave::wave::wave;
+use solver_gate::gate::EmptyGate;
+use solver_gate::racer::Racer;
 use std::alloc::{AllocError as NoMemory, Global};
+use std::sync::Wait;
 use std::sync::atomic::{AtomicU64, Ordering};
 use std::thread;
+use std::thread::Threads;
 
 // For how many turns of yielding a worker waits for another at most.
 const TURNS: u32 = 10_000_000;
+
+// How often a worker asks its poll at most. Each time takes a turn of the board's lock.
+const ASKS: u32 = 1_000_000;
 
 // Whether the number came to this one in time.
 pub fn comes(word: &AtomicU64, number: u64) -> bool {
@@ -19,6 +37,70 @@ pub fn comes(word: &AtomicU64, number: u64) -> bool {
         thread::yield_now();
     }
     false
+}
+
+// The current query, once it is another one than this; nothing if it is the same after so many asks.
+pub(crate) fn other_query<P: Poll>(poll: &mut P, number: u64) -> Option<u64> {
+    for _ in 0..ASKS {
+        let now = poll.current();
+        if now != number {
+            return Some(now);
+        }
+        thread::yield_now();
+    }
+    None
+}
+
+// The answer that settles the query of this number, of the five of stations 1 to 3.
+pub(crate) fn settling(alloc: Global, number: u64) -> Result<Attempt, NoMemory> {
+    let given = FOUR_FITS[number as usize - 1];
+    Ok(Attempt::Said(answer(alloc, given)?))
+}
+
+// The auction of stations 1 to 3 by two workers, at its first query.
+pub(crate) fn by_two_workers(alloc: Global, book: &Book) -> Result<Auction, NoMemory> {
+    let workers = vec![in alloc; learner(1000), learner(1000)]?;
+    let sc = three_bids(alloc, 70, 1, workers)?;
+    Auction::start(alloc, &sc, book, Order::ByFacility)
+}
+
+// What a wave leaves.
+#[derive(Drop)]
+pub(crate) struct Left {
+    pub(crate) auction: Auction,
+    pub(crate) done: Result<(), NoMemory>,
+    // For which workers memory ran out, in order.
+    pub(crate) refused: Vec<bool>,
+}
+
+// Runs a wave of these racers, one for each worker in order.
+pub(crate) fn after_wave<R: Racer + Send + Drop, W: Threads + Wait + Sync>(
+    rt: &W,
+    alloc: Global,
+    book: &Book,
+    auction: Auction,
+    racers: Vec<R>,
+) -> Result<Left, NoMemory> {
+    let count = racers.len();
+    let runners = Vec::with_capacity(alloc, count)?;
+    let passes_left = Vec::with_capacity(alloc, count)?;
+    let racers_left = Vec::with_capacity(alloc, count)?;
+    let mut refused = Vec::with_capacity(alloc, count)?;
+    let Ok((board, passes)) = Board::raise(alloc, auction, count as u32) else {
+        return Err(NoMemory);
+    };
+    let mut runners = mustered(&board, passes, racers, runners);
+    let done = wave(rt, alloc, &board, book, &mut runners, &EmptyGate);
+    for runner in &runners {
+        refused.push_reserved(runner.refused);
+    }
+    let (passes, _) = parted(runners, passes_left, racers_left);
+    let auction = board.close(passes);
+    Ok(Left {
+        auction,
+        done,
+        refused,
+    })
 }
 
 // The auction of stations 1 to 3, of which none has a value, so that each starts on air.

@@ -1,0 +1,103 @@
+//! Tests of two passes to one board, the second of which is used after the first.
+
+use crate::races::boards::tests::{auction, told};
+use crate::samples::answers::{FOUR_FITS, Given};
+use answer_board::board::{Board, Pass};
+use auction_core::auction::Auction;
+use auction_core::posting::Reply;
+use std::alloc::{AllocError as NoMemory, Global};
+use std::sync::Wait;
+use std::test::Fail;
+use std::thread;
+use std::thread::Threads;
+
+// The reply to the first pass, which answers query 1, and the query that the pass then sees.
+fn told_first<R: Wait>(
+    rt: &R,
+    alloc: Global,
+    board: &Board,
+    pass: &mut Pass,
+) -> Result<(Reply, u64), NoMemory> {
+    let reply = told(rt, alloc, board, pass, 1, Given::Fit(1, 14))?;
+    Ok((reply, board.current(rt, pass)))
+}
+
+// The reply to the second pass, which answers query 1 by another fit in a thread that starts now.
+fn told_in_a_thread<W: Threads + Wait + Sync>(
+    rt: &W,
+    alloc: Global,
+    board: &Board,
+    pass: &mut Pass,
+) -> Result<Reply, NoMemory> {
+    let (reply, ()) = thread::join(
+        rt,
+        || told(rt, alloc, board, pass, 1, Given::Fit(1, 15)),
+        || {},
+    );
+    reply
+}
+
+// Both, the second thread starting after the first reply.
+fn told_in_turn<W: Threads + Wait + Sync>(
+    rt: &W,
+    alloc: Global,
+    board: &Board,
+    passes: &mut [Pass],
+) -> Result<(Reply, u64, Reply), NoMemory> {
+    let (reply, now) = told_first(rt, alloc, board, &mut passes[0])?;
+    let later = told_in_a_thread(rt, alloc, board, &mut passes[1])?;
+    Ok((reply, now, later))
+}
+
+// The second fit is valid for query 1 too, which is no longer current. The history has both postings.
+#[test]
+fn an_answer_from_a_thread_that_starts_later_is_turned_away(rt: HostRuntime) -> Result<(), Fail> {
+    let alloc = rt.alloc();
+    let auction = auction(alloc, 1000)?;
+    let Ok((board, mut passes)) = Board::raise(alloc, auction, 2) else {
+        return Err(NoMemory)?;
+    };
+    let replies = told_in_turn(&rt, alloc, &board, &mut passes);
+    let auction = board.close(passes);
+    let advanced = Reply::Advanced { next: Some(2) };
+    let too_late = Reply::WrongQuery { now: 2 };
+    assert_eq!(rt; replies?, (advanced, 2, too_late));
+    assert_eq!(rt; auction.posted(), 2);
+    assert_eq!(rt; auction.number(), 2);
+    Ok(())
+}
+
+// The first pass settles four queries. Returns the reply to the second pass, which posts a receipt for query 5.
+fn spends_at_query_5<R: Wait>(
+    rt: &R,
+    alloc: Global,
+    board: &Board,
+    passes: &mut [Pass],
+) -> Result<Reply, NoMemory> {
+    for number in 1..5 {
+        let fit = FOUR_FITS[number as usize - 1];
+        told(rt, alloc, board, &mut passes[0], number, fit)?;
+    }
+    told(rt, alloc, board, &mut passes[1], 5, Given::Spent)
+}
+
+// The reply to the second pass, and the auction after the board is closed.
+fn after_a_receipt<R: Wait>(rt: &R, alloc: Global) -> Result<(Reply, Auction), NoMemory> {
+    let auction = auction(alloc, 1)?;
+    let Ok((board, mut passes)) = Board::raise(alloc, auction, 2) else {
+        return Err(NoMemory);
+    };
+    let reply = spends_at_query_5(rt, alloc, &board, &mut passes);
+    let auction = board.close(passes);
+    Ok((reply?, auction))
+}
+
+// Pass 1 posts as worker 1.
+#[test]
+fn a_receipt_is_noted_for_the_worker_of_its_pass(rt: HostRuntime) -> Result<(), Fail> {
+    let (reply, auction) = after_a_receipt(&rt, rt.alloc())?;
+    assert_eq!(rt; reply, Reply::Noted);
+    assert_eq!(rt; (auction.noted(0), auction.noted(1)), (false, true));
+    assert_eq!(rt; auction.posted(), 5);
+    Ok(())
+}
