@@ -1,5 +1,6 @@
 """Jobs that each run some tests as one process, and lanes in which they run side by side."""
 import concurrent.futures
+import itertools
 import os
 import signal
 import subprocess
@@ -90,13 +91,12 @@ def tell(job, results, seconds, place):
     count = {outcome: sum(result.outcome == outcome for result in results) for outcome in ("passed", "failed", "skipped")}
     numbers = ", ".join(f"{number} {outcome}" for outcome, number in count.items() if number)
     print(f"{job.name}: {numbers or 'nothing'} in {seconds:.0f} s ({place})")
-    told = ""
-    for result in results:
-        if result.outcome == "failed":
-            print(f"FAILED {result.name}, alone by: ./test {result.alone}")
-            if result.why != told:
-                print("".join(f"    {line}\n" for line in result.why.splitlines()), end="")
-            told = result.why
+    # Tests that failed for one reason, as that they were not built, are told together.
+    for why, group in itertools.groupby((result for result in results if result.outcome == "failed"), key=lambda result: result.why):
+        first, *others = group
+        more = f" and {len(others)} more" if others else ""
+        print(f"FAILED {first.name}{more}, alone by: ./test {first.alone}")
+        print("".join(f"    {line}\n" for line in why.splitlines()), end="")
     sys.stdout.flush()
 
 

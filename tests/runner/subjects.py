@@ -1,4 +1,5 @@
 """The subjects of the tests, and the jobs that run them."""
+import difflib
 import re
 import shutil
 import subprocess
@@ -9,7 +10,7 @@ from tree import TOP, units
 # The seconds that one test may take: those of large files are slow without optimization.
 SECONDS = 900
 # The seed and the number of the runs of `benchmarks/hostile`.
-HOSTILE = ("--seed", "57", "--runs", "300", "--jobs", "1")
+HOSTILE = ("--seed", "57", "--runs", "1500", "--jobs", "1")
 NO_PROGRAM = "no program of these sources is built; ./repack --version builds it"
 NO_RT = "the toolchain's command rt is not on the path"
 NO_SHELLCHECK = "shellcheck is not installed"
@@ -39,8 +40,21 @@ def name_in(unit, test):
 
 
 def is_of(name, wanted):
-    """Whether a test is one of those that a word names: a subject, a module below it, or a test."""
-    return name == wanted or name.startswith(wanted + "::")
+    """Whether a test is one of those that a word names: a subject, a module below it, or a test, of which the middle may be left out."""
+    subject, _, rest = wanted.partition("::")
+    return name == wanted or name.startswith(wanted + "::") or bool(rest) and name.startswith(subject + "::") and name.endswith("::" + rest)
+
+
+def tests_of(wanted):
+    """The whole names of the tests that the words name."""
+    return [name_in(unit, test) for unit in units() for test in unit.tests if any(is_of(name_in(unit, test), word) for word in wanted)]
+
+
+def like(word):
+    """What is named much like a word, as the end of a sentence."""
+    known = [*names(), *(name_in(unit, test) for unit in units() for test in unit.tests)]
+    found = difflib.get_close_matches(word, known, 1)
+    return f" (is it {found[0]}?)" if found else ""
 
 
 def jobs_of(copy, wanted):
@@ -72,12 +86,21 @@ def unit_job(copy, unit, own):
 def results_of(unit, own, printed):
     """The results of a unit's tests by what its run printed. A test that it doesn't name has failed."""
     told = {test: (outcome, why) for test, outcome, why in ENDED.findall(printed)}
+    lost = f"{unit.name} ended before this test:\n{last_lines(printed)}" if told else f"{unit.name} was not built:\n{last_lines(printed)}"
     results = []
     for test in own:
-        outcome, why = told.get(test, ("missing", last_lines(printed)))
-        why = "\n".join(line.strip() for line in why.splitlines())
+        outcome, why = told.get(test, ("missing", lost))
+        why = "\n".join(in_tests(unit, line.strip()) for line in why.splitlines())
         results.append(Result(name_in(unit, test), name_in(unit, test), "passed" if outcome == "ok" else "failed", why))
     return results
+
+
+def in_tests(unit, line):
+    """A line of the toolchain's with the sources of the copy by the names that they have in `tests/`."""
+    if not unit.folders:
+        return re.sub(r"\bsrc/([\w/]+)/tests\.rt\b", rf"tests/{unit.name}/\1.tests.rs", line)
+    line = re.sub(r"\bsrc/(\w+)\.rt\b", r"tests/\1/mod.rs", line)
+    return re.sub(r"\bsrc/([\w/]+)\.rt\b", r"tests/\1.rs", line)
 
 
 def skipped(name, why):

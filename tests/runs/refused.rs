@@ -1,9 +1,8 @@
 //! What is refused, and with which line.
 
 use crate::scenes::change::Change;
-use crate::scenes::long_text::one_byte_too_long;
 use crate::scenes::scene::{RUN, Scene, are_refused, first_untrue_words, leaves};
-use crate::scenes::stations::CHECK;
+use crate::scenes::stations::{CHECK, domain_rows};
 use std::alloc::{AllocError as NoMemory, Global};
 use std::sync::Wait;
 use std::test::Fail;
@@ -111,15 +110,6 @@ fn inputs_are_refused(rt: HostRuntime) -> Result<(), Fail> {
     Ok(())
 }
 
-// Domain rows for this many stations, from 1.
-fn domain_rows(alloc: Global, count: u32) -> Result<String, NoMemory> {
-    let mut domains = String::new(alloc);
-    for i in 0..count {
-        domains.push_str(&format!(in alloc; "DOMAIN,{},14\n", i + 1)?)?;
-    }
-    Ok(domains)
-}
-
 // Whether a check of this many stations leaves what these facts say.
 fn leaves_of<W: Threads + Wait + Sync>(
     rt: &W,
@@ -141,28 +131,6 @@ fn leaves_of<W: Threads + Wait + Sync>(
 fn too_many_domains_are_refused(rt: HostRuntime) -> Result<(), Fail> {
     let facts = "status 5; said: d.csv: line 65537: too many\n; nothing stored; no record";
     assert!(rt; leaves_of(&rt, rt.alloc(), 65_537, facts)?);
-    Ok(())
-}
-
-// Whether a check of the three stations, over rows that are too long, leaves what these facts say.
-fn leaves_over<W: Threads + Wait + Sync>(
-    rt: &W,
-    alloc: Global,
-    facts: &str,
-) -> Result<bool, NoMemory> {
-    let rows = one_byte_too_long(alloc)?;
-    let scene = Scene {
-        command: CHECK,
-        rows: &rows,
-        ..RUN
-    };
-    leaves(rt, alloc, &scene, facts)
-}
-
-#[test]
-fn a_file_one_byte_too_long_is_refused(rt: HostRuntime) -> Result<(), Fail> {
-    let facts = "status 5; said: r.csv: too long\n; nothing stored; no record; inputs kept";
-    assert!(rt; leaves_over(&rt, rt.alloc(), facts)?);
     Ok(())
 }
 

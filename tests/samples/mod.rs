@@ -1,10 +1,12 @@
-//! What tests are made of: small books, workers, scenarios, answers, what owners say, and postings to an auction.
+//! What tests are made of: small books, workers, scenarios, answers, what owners say, postings to an auction, and a gate
+//! that holds two workers.
 //!
-//! It may call `auction_core` and what that stands on. The crates of trials alone call it. Read `books` and `scenarios` first, then
-//! `answers`, then `postings`.
+//! It may call `auction_core` and what that stands on, and `solver_gate`. Read `books` and
+//! `scenarios` first, then `answers`, then `postings`.
 
 pub mod answers;
 pub mod books;
+pub mod gates;
 pub mod owners;
 pub mod postings;
 pub mod scenarios;

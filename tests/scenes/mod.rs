@@ -1,4 +1,4 @@
-//! Runs of the whole program over files and a sink in memory, for the tests of the crates above, whose names end in `_trials`.
+//! Runs of the whole program over files and a sink in memory, for the tests of its commands.
 //!
 //! A test is a table: a row has what a run is given, and facts of what it leaves, as plain text. So no test holds an auction.
 //!
@@ -7,7 +7,6 @@
 //! `outside` makes the folder and the sink and runs the program; `told` and `record_text` tell what is left.
 
 pub mod change;
-pub mod long_text;
 pub mod named;
 pub mod outside;
 mod record_text;

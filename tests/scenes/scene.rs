@@ -8,7 +8,7 @@ use crate::scenes::stations::{
 };
 use crate::scenes::told::{are_among, faults_text, held_text, kept_text, proof_text};
 use outside_io::memory_folder::{MemoryFile, MemoryFolder};
-use solver_gate::gate::EmptyGate;
+use solver_gate::gate::{EmptyGate, Gate};
 use std::alloc::{AllocError as NoMemory, Global};
 use std::sync::Wait;
 use std::thread::Threads;
@@ -134,15 +134,18 @@ pub fn run<W: Threads + Wait + Sync>(
     alloc: Global,
     scene: &Scene<'_>,
 ) -> Result<String, NoMemory> {
+    run_at(rt, alloc, scene, &EmptyGate)
+}
+
+// Runs a scene whose workers call this gate, and tells the facts of what is left.
+fn run_at<G: Gate + Sync, W: Threads + Wait + Sync>(
+    rt: &W,
+    alloc: Global,
+    scene: &Scene<'_>,
+    gate: &G,
+) -> Result<String, NoMemory> {
     let mut folder = scene_folder(alloc, scene)?;
-    let left = run_in(
-        rt,
-        alloc,
-        scene.command,
-        scene.change,
-        &mut folder,
-        &EmptyGate,
-    )?;
+    let left = run_in(rt, alloc, scene.command, scene.change, &mut folder, gate)?;
     let inputs = kept_text(are_kept(alloc, scene, &folder)?);
     let files = files_text(alloc, scene, &folder)?;
     format!(in alloc; "{left}; {inputs}; {files}")
@@ -179,7 +182,18 @@ pub fn leaves<W: Threads + Wait + Sync>(
     scene: &Scene<'_>,
     facts: &str,
 ) -> Result<bool, NoMemory> {
-    let told = run(rt, alloc, scene)?;
+    leaves_at(rt, alloc, scene, &EmptyGate, facts)
+}
+
+/// Whether the run of a scene whose workers call this gate leaves what these facts say.
+pub fn leaves_at<G: Gate + Sync, W: Threads + Wait + Sync>(
+    rt: &W,
+    alloc: Global,
+    scene: &Scene<'_>,
+    gate: &G,
+    facts: &str,
+) -> Result<bool, NoMemory> {
+    let told = run_at(rt, alloc, scene, gate)?;
     Ok(are_among(facts, &told))
 }
 

@@ -1,4 +1,4 @@
-//! Three stations on two channels, as files, and the lines of commands over files of these names.
+//! Three stations on two channels, as files, the lines of commands over files of these names, and texts of many stations.
 
 use std::alloc::{AllocError as NoMemory, Global};
 
@@ -56,4 +56,26 @@ pub fn scenario_text(
     workers: &str,
 ) -> Result<String, NoMemory> {
     format!(in alloc; "{{\"version\":1,{clock},\"stations\":[{stations}],\"workers\":[{workers}]}}")
+}
+
+/// Domain rows for stations 1 to `count`, each with channel 14 alone.
+pub fn domain_rows(alloc: Global, count: u32) -> Result<String, NoMemory> {
+    let mut domains = String::new(alloc);
+    for i in 0..count {
+        domains.push_str(&format!(in alloc; "DOMAIN,{},14\n", i + 1)?)?;
+    }
+    Ok(domains)
+}
+
+/// A scenario's stations 1 to `count`, each of volume 1 and worth 0 cents.
+pub fn free_stations(alloc: Global, count: u32) -> Result<String, NoMemory> {
+    let mut stations = String::new(alloc);
+    for i in 0..count {
+        let comma = if i == 0 { "" } else { "," };
+        stations.push_str(&format!(in alloc;
+            "{comma}{{\"id\":{},\"volume\":1,\"value\":0}}",
+            i + 1
+        )?)?;
+    }
+    Ok(stations)
 }

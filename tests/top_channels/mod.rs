@@ -1,4 +1,4 @@
-//! Tests of the commands `seek` and `make`, by runs of the whole program over scenes of `run_scenes`.
+//! Tests of the commands `seek` and `make`, by runs of the whole program over `scenes`.
 
 mod made;
 mod search;

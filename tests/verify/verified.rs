@@ -1,7 +1,6 @@
 //! What `verify` leaves of a transcript that is sound, or whose text is refused.
 
 use crate::scenes::change::{Change, replaced};
-use crate::scenes::long_text::one_byte_too_long;
 use crate::scenes::scene::{RUN, Scene, first_untrue, first_untrue_change, leaves, verifies};
 use crate::scenes::stations::{MANY_LINES, ONE_LINE, TRANSCRIPT, VERIFY};
 use std::alloc::{AllocError as NoMemory, Global};
@@ -325,27 +324,6 @@ fn a_file_or_the_sink_fails(rt: HostRuntime) -> Result<(), Fail> {
         first_untrue_change(&rt, rt.alloc(), &CHECKED, CHANGES)?,
         None
     );
-    Ok(())
-}
-
-// Whether the check of a transcript that is too long leaves what these facts say.
-fn leaves_over<W: Threads + Wait + Sync>(
-    rt: &W,
-    alloc: Global,
-    facts: &str,
-) -> Result<bool, NoMemory> {
-    let text = one_byte_too_long(alloc)?;
-    let scene = Scene {
-        transcript: Some(&text),
-        ..CHECKED
-    };
-    leaves(rt, alloc, &scene, facts)
-}
-
-#[test]
-fn a_transcript_one_byte_too_long_is_refused(rt: HostRuntime) -> Result<(), Fail> {
-    let facts = "status 5; said: tr.txt: too long\n; no record";
-    assert!(rt; leaves_over(&rt, rt.alloc(), facts)?);
     Ok(())
 }
 

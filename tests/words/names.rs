@@ -1,8 +1,8 @@
 //! Which name of a command's files is given twice.
 
-use auction_cmd::make_words::MakeArgs;
-use auction_cmd::proof_words::{ExportArgs, ImportArgs};
-use auction_cmd::run_words::{InputArgs, RunArgs, VerifyArgs};
+use command_words::make_words::MakeArgs;
+use command_words::proof_words::{ExportArgs, ImportArgs};
+use command_words::run_words::{InputArgs, RunArgs, VerifyArgs};
 
 // The arguments of `run` with these names, in order, and with this owners' file.
 fn run_args<'a>(owners: Option<&'a str>, names: [&'a str; 6]) -> RunArgs<'a> {

@@ -1,9 +1,9 @@
 //! What the words of a line are read as, as plain text.
 
-use auction_cmd::proof_words::{ExportArgs, ImportArgs};
-use auction_cmd::resume_words::ResumeArgs;
-use auction_cmd::run_words::InputArgs;
-use auction_cmd::words::{CommandArgs, WordsFault, read_words};
+use command_words::proof_words::{ExportArgs, ImportArgs};
+use command_words::resume_words::ResumeArgs;
+use command_words::run_words::InputArgs;
+use command_words::words::{CommandArgs, WordsFault, read_words};
 use std::alloc::{AllocError as NoMemory, Global};
 
 // The words of a line with a comma between each two; an empty line has none.

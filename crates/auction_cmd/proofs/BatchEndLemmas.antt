@@ -12,13 +12,14 @@ use Rattle.auction_cmd.specs.declared.batch_run.Ran.{Ran}
 use Rattle.auction_cmd.specs.declared.inputs.Inputs.{Inputs}
 use Rattle.auction_cmd.specs.declared.inputs.Stop.{Stop}
 use Rattle.auction_cmd.specs.declared.inputs.Stop.TheVariants.{CannotRead, NoMemory, Refused}
-use Rattle.auction_cmd.specs.Batch.{BatchStop, Unread, Twice, ListedView, among, batch_of, each_inputs, unless_stopped, inputs_beside, inputs_with, listing_of, listed_seen, own_texts, names_in_words}
+use Rattle.auction_cmd.specs.Batch.{BatchStop, Unread, Twice, ListedView, among, batch_of, each_inputs, unless_stopped, inputs_beside, listing_of, listed_seen, own_texts, names_in_words}
+use Rattle.command_words.specs.Words.{inputs_with}
 use Rattle.auction_cmd.specs.BatchEnds.{AreRecordsOf, CountsStop, EachOf, ExplainsStop, IsBatchStopped, IsReadingStopped, IsUnderList, IsUnderOneOf, StopsAsHeld, StopsUnder}
 use Rattle.auction_cmd.specs.BatchRuns.{IsRun}
 use Rattle.auction_cmd.specs.Inputs.{Agrees, CountsFault, RisesAt}
 use Rattle.auction_cmd.specs.Outside.{Outside}
 use Rattle.auction_cmd.specs.Records.{IsRecordBy}
-use Rattle.auction_cmd.specs.Words.{BatchNames, InputNames}
+use Rattle.command_words.specs.Words.{BatchNames, InputNames}
 use Rattle.auction_cmd.proofs.DeliveryLemmas.{IsSince}
 
 -- ---- the reading as a whole

@@ -16,8 +16,9 @@ use Rattle.auction_core.specs.declared.record.Record.{Record}
 use Rattle.auction_core.specs.Backed.{undecided_of}
 use Rattle.auction_cmd.specs.declared.inputs.Inputs.{Inputs}
 use Rattle.auction_cmd.specs.declared.inputs.Stop.TheVariants.{CannotRead, NoMemory, Refused}
-use Rattle.auction_cmd.specs.declared.refusal.Input.{Input}
-use Rattle.auction_cmd.specs.Batch.{BatchStop, Unread, Twice, HeldBatch, batch_of, batch_status, batch_texts, ended_status, ended_text, ends_at_start, inputs_with, own_status, own_texts, status_lines, texts_under, with_text, names_in_words}
+use Rattle.command_words.specs.declared.run_words.Input.{Input}
+use Rattle.auction_cmd.specs.Batch.{BatchStop, Unread, Twice, HeldBatch, batch_of, batch_status, batch_texts, ended_status, ended_text, ends_at_start, own_status, own_texts, status_lines, texts_under, with_text, names_in_words}
+use Rattle.command_words.specs.Words.{inputs_with}
 use Rattle.auction_cmd.specs.BatchEnds.{AreRecordsOf, BatchEnds, CountsStop, EachOf, ExplainsStop, IsBatchHeld, IsBatchStopped, IsUnderList, StopsAsHeld, StopsUnder}
 use Rattle.auction_cmd.specs.BatchEnds.BatchEnds.{BatchStopped, BatchStarved, BatchRan}
 use Rattle.auction_cmd.specs.BatchPromises.{BatchPromises, IsBatchCut, IsBatchPart, IsBatchRun, IsBatchUnstored, IsRefusing, IsRunOf, refused_line}
@@ -26,10 +27,10 @@ use Rattle.auction_cmd.specs.Delivery.IsPrinted.{Written, CutShort}
 use Rattle.auction_cmd.specs.Inputs.{CountsFault, inputs_of}
 use Rattle.auction_cmd.specs.Outside.{Outside, IsSaid}
 use Rattle.auction_cmd.specs.Records.{IsRecordBy, done_status, result_of, run_order}
-use Rattle.auction_cmd.specs.Refusals.{name_of}
+use Rattle.command_words.specs.Words.{name_of}
 use Rattle.auction_cmd.specs.Says.{memory_line, unread_line, unwritten_line}
 use Rattle.auction_cmd.specs.VerifyPromises.{IsOr}
-use Rattle.auction_cmd.specs.Words.{BatchNames, InputNames}
+use Rattle.command_words.specs.Words.{BatchNames, InputNames}
 use Rattle.auction_cmd.proofs.BatchReadings.{other-results, own-results, read-batch}
 use Rattle.auction_cmd.proofs.DeliveryLemmas.{AreApart, Ended, IsPart, ended-of, for-told, others-up-to}
 use Rattle.auction_cmd.proofs.DeliveryLemmas.Ended.{Both, NotSaid, NotStored, OutOfRoom}

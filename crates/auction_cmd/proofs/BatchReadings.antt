@@ -16,11 +16,12 @@ use Rattle.batch_list.specs.Repeated.{names_given, repeated_result}
 use Rattle.auction_cmd.specs.declared.batch_inputs.Constraints.{Constraints}
 use Rattle.auction_cmd.specs.declared.inputs.Inputs.{Inputs}
 use Rattle.auction_cmd.specs.declared.inputs.Stop.{Stop}
-use Rattle.auction_cmd.specs.declared.refusal.Input.TheVariants.{Domains, Rows, Scenario as ScenarioFile}
-use Rattle.auction_cmd.specs.Batch.{BatchStop, HeldBatch, ListedView, among, batch_of, constraints_of, each_inputs, unless_stopped, inputs_beside, inputs_with, list_named, listing_of, once_each, texts_under, names_in_words}
+use Rattle.command_words.specs.declared.run_words.Input.TheVariants.{Domains, Rows, Scenario as ScenarioFile}
+use Rattle.auction_cmd.specs.Batch.{BatchStop, HeldBatch, ListedView, among, batch_of, constraints_of, each_inputs, unless_stopped, inputs_beside, list_named, listing_of, once_each, texts_under, names_in_words}
+use Rattle.command_words.specs.Words.{inputs_with}
 use Rattle.auction_cmd.specs.Delivery.{IsOther, names_of}
 use Rattle.auction_cmd.specs.Inputs.{and_then, file_of, inputs_from, inputs_of, rows_read, scenario_read, sources_of}
-use Rattle.auction_cmd.specs.Words.{BatchNames, InputNames, is_repeated_among}
+use Rattle.command_words.specs.Words.{BatchNames, InputNames, is_repeated_among}
 use Rattle.auction_cmd.proofs.DeliveryLemmas.{AreApart}
 use Rattle.auction_cmd.proofs.OutputNames.{not-found, twice-among}
 use Rattle.auction_cmd.proofs.ReadingLemmas.{then-ok}

@@ -14,7 +14,7 @@ use Rattle.auction_cmd.specs.Inputs.{inputs_of}
 use Rattle.auction_cmd.specs.Outside.{Outside, IsSaid}
 use Rattle.auction_cmd.specs.Says.{memory_line}
 use Rattle.auction_cmd.specs.VerifyPromises.{IsOr}
-use Rattle.auction_cmd.specs.Words.{InputNames}
+use Rattle.command_words.specs.Words.{InputNames}
 use Rattle.auction_cmd.proofs.Halts.{Reading, halted-held, stopped-memory, stopped-statuses, stopped-unread}
 use Rattle.auction_cmd.proofs.Halts.Reading.{Halted, Short, Went}
 use Rattle.auction_cmd.proofs.Statuses.{off, one-of, within}

@@ -31,7 +31,7 @@ use Rattle.auction_cmd.specs.Says.{memory_line, unwritten_line}
 use Rattle.auction_cmd.specs.Settling.{missing_fault, step_line}
 use Rattle.auction_cmd.specs.Verified.{verified}
 use Rattle.auction_cmd.specs.VerifyPromises.{IsGiven, IsOr, VerifyPromises}
-use Rattle.auction_cmd.specs.Words.{ExportNames, VerifyNames}
+use Rattle.command_words.specs.Words.{ExportNames, VerifyNames}
 use Rattle.auction_cmd.proofs.DeliveryLemmas.{all-more, all-none, for-told, others-up-to, part-here}
 use Rattle.auction_cmd.proofs.Halts.{not-both, stopped-statuses}
 use Rattle.auction_cmd.proofs.Statuses.{apart-lists, done-within, off, one-of, within}

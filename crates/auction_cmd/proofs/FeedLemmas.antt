@@ -5,7 +5,7 @@ use Rattle.outside_io.specs.Pieces.{piece_size}
 use Rattle.constraint_files.specs.Reads.{Reads}
 use Rattle.constraint_files.specs.declared.error.ReadErr.{ReadErr}
 use Rattle.constraint_files.specs.declared.error.ReadErr.TheVariants.{Row, NoMemory as NoRoom}
-use Rattle.auction_cmd.specs.declared.refusal.Input.{Input}
+use Rattle.command_words.specs.declared.run_words.Input.{Input}
 use Rattle.auction_cmd.specs.declared.inputs.Stop.{Stop}
 use Rattle.auction_cmd.specs.declared.inputs.Stop.TheVariants.{CannotRead, Refused, NoMemory}
 use Rattle.auction_cmd.specs.Inputs.{Agrees, and_then, refused_by, rows_read}

@@ -7,16 +7,17 @@ use Rattle.outside_io.specs.Files.{StoredFile}
 use Rattle.auction_cmd.specs.declared.inputs.Inputs.{Inputs}
 use Rattle.auction_cmd.specs.declared.inputs.Stop.{Stop}
 use Rattle.auction_cmd.specs.declared.inputs.Stop.TheVariants.{CannotRead, Refused, NoMemory}
-use Rattle.auction_cmd.specs.declared.refusal.Input.{Input}
+use Rattle.command_words.specs.declared.run_words.Input.{Input}
 use Rattle.auction_cmd.specs.declared.refusal.Refusal.{Refusal}
 use Rattle.auction_cmd.specs.Ends.{AreInputsOf, ExplainsHalt, IsHalted}
 use Rattle.auction_cmd.specs.Inputs.{Agrees, RisesAt, inputs_of}
 use Rattle.auction_cmd.specs.Outside.{Outside, IsSaid}
 use Rattle.auction_cmd.specs.Promises.{AreThere}
-use Rattle.auction_cmd.specs.Refusals.{refusal_line, name_of}
+use Rattle.auction_cmd.specs.Refusals.{refusal_line}
+use Rattle.command_words.specs.Words.{name_of}
 use Rattle.auction_cmd.specs.Says.{memory_line, unread_line}
 use Rattle.auction_cmd.specs.VerifyPromises.{IsOr}
-use Rattle.auction_cmd.specs.Words.{InputNames}
+use Rattle.command_words.specs.Words.{InputNames}
 use Rattle.auction_cmd.proofs.ReadingLemmas.{can-read}
 use Rattle.auction_cmd.proofs.Statuses.{off, one-of}
 

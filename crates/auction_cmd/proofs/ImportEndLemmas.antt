@@ -34,7 +34,7 @@ use Rattle.auction_cmd.specs.Ends.IsNotLoaded.{Unloaded, LongText}
 use Rattle.auction_cmd.specs.Faults.{AreFaultsCounted}
 use Rattle.auction_cmd.specs.Outside.{IsSaid, Outside}
 use Rattle.auction_cmd.specs.Transcripts.{ExplainsLoad, ExplainsLog, IsFileRead, IsSettling}
-use Rattle.auction_cmd.specs.Words.{ImportNames}
+use Rattle.command_words.specs.Words.{ImportNames}
 use Rattle.auction_cmd.proofs.DeliveryLemmas.{IsSince, delivers-since}
 use Rattle.auction_cmd.proofs.Statuses.{off, one-of}
 use Rattle.auction_cmd.proofs.RecordLemmas.{record-in}

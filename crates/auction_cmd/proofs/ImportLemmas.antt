@@ -36,7 +36,7 @@ use Rattle.auction_cmd.specs.Says.{memory_line, unread_line, unwritten_line}
 use Rattle.auction_cmd.specs.Settling.{unsettled_line, open_fault, step_line}
 use Rattle.auction_cmd.specs.Verified.{verified}
 use Rattle.auction_cmd.specs.VerifyPromises.{AreAllThere, IsGiven, IsOr, VerifyPromises}
-use Rattle.auction_cmd.specs.Words.{ImportNames, repeated_import}
+use Rattle.command_words.specs.Words.{ImportNames, repeated_import}
 use Rattle.auction_cmd.proofs.DeliveryLemmas.{AreApart, Ended, ended-of, for-told, others-up-to}
 use Rattle.auction_cmd.proofs.DeliveryLemmas.Ended.{Both, NotSaid, NotStored, OutOfRoom}
 use Rattle.auction_cmd.proofs.ExportLemmas.{shown-given, shown-is, shown-not-halted, shown-not-long, shown-not-refused, unshown-or, unshown-statuses}

@@ -13,7 +13,6 @@ pub mod LiveLemmas
 pub mod MadeLemmas
 pub mod MakeEndLemmas
 pub mod MakeLemmas
-pub mod NumberLemmas
 pub mod OutputNames
 pub mod PlanLemmas
 pub mod ProgramLemmas
@@ -39,4 +38,3 @@ pub mod VerifyCases
 pub mod VerifyEndLemmas
 pub mod VerifyLemmas
 pub mod VerifyReadings
-pub mod WordsLemmas

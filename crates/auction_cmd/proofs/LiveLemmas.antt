@@ -21,7 +21,7 @@ use Rattle.pack_defs.specs.Told.{Told, row_told, told}
 use Rattle.auction_core.specs.declared.record.Record.{Record}
 use Rattle.auction_core.specs.Backed.{IsBacked, undecided_of}
 use Rattle.auction_cmd.specs.declared.inputs.Inputs.{Inputs}
-use Rattle.auction_cmd.specs.declared.refusal.Input.TheVariants.{Owners as OwnersFile}
+use Rattle.command_words.specs.declared.run_words.Input.TheVariants.{Owners as OwnersFile}
 use Rattle.auction_cmd.specs.Ends.{RunEnds, VerifyEnds}
 use Rattle.auction_cmd.specs.Ends.Concludes.{Unfit, StartOpen, Delivered}
 use Rattle.auction_cmd.specs.Ends.RunEnds.{RunStopped, RunStarved, Concluded}
@@ -30,7 +30,7 @@ use Rattle.auction_cmd.specs.Inputs.{bytes_within, file_limit, file_of, inputs_o
 use Rattle.auction_cmd.specs.LivePromises.{AreLive, FollowValues, GoesByOwnLines, IsLive}
 use Rattle.auction_cmd.specs.Outside.{Outside}
 use Rattle.auction_cmd.specs.Records.{outcome}
-use Rattle.auction_cmd.specs.Words.{InputNames, RunNames, VerifyNames}
+use Rattle.command_words.specs.Words.{InputNames, RunNames, VerifyNames}
 use Rattle.auction_cmd.proofs.ReadingLemmas.{accepted-ascend, accepted-valued, accepted-values, said-ok, then-ok, valued-values}
 
 -- what a file holds, if it was taken

@@ -9,7 +9,7 @@ use Rattle.scenario_json.specs.Joined.{joined}
 use Rattle.scenario_json.specs.ScenarioOf.{scenario_of}
 use Rattle.scenario_json.proofs.Limits.{read-limits, read-values}
 use Rattle.auction_cmd.specs.declared.inputs.Inputs.{Inputs}
-use Rattle.auction_cmd.specs.declared.refusal.Input.TheVariants.{Domains, Rows}
+use Rattle.command_words.specs.declared.run_words.Input.TheVariants.{Domains, Rows}
 use Rattle.auction_cmd.specs.Inputs.{rows_read, scenario_read}
 use Rattle.auction_cmd.specs.Made.{inputs_in}
 use Rattle.auction_cmd.proofs.ReadingLemmas.{from-ok, read-ok, then-ok}

@@ -18,7 +18,7 @@ use Rattle.auction_cmd.specs.MakePromises.{AreAllMade, IsMadeRun, made_summary}
 use Rattle.auction_cmd.specs.Outside.{Outside, IsSaid}
 use Rattle.auction_cmd.specs.Records.{done_status}
 use Rattle.auction_cmd.specs.Says.{memory_line, unwritten_line}
-use Rattle.auction_cmd.specs.Words.{MakeNames, repeated_made}
+use Rattle.command_words.specs.Words.{MakeNames, repeated_made}
 use Rattle.auction_cmd.proofs.DeliveryLemmas.{AreApart, IsPart, LeavesAll, LeavesPart, all-more, all-none, part-here, up-more}
 use Rattle.auction_cmd.proofs.OutputNames.{own-made}
 use Rattle.auction_cmd.proofs.SaysLemmas.{rises-before}

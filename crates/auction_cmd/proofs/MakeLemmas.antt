@@ -17,7 +17,7 @@ use Rattle.auction_cmd.specs.Outside.{Outside, IsSaid}
 use Rattle.auction_cmd.specs.Promises.{IsSomeRecord}
 use Rattle.auction_cmd.specs.Records.{done_status, run_order, summary_of}
 use Rattle.auction_cmd.specs.Says.{memory_line, unwritten_line}
-use Rattle.auction_cmd.specs.Words.{MakeNames, made_names}
+use Rattle.command_words.specs.Words.{MakeNames, made_names}
 use Rattle.auction_cmd.proofs.DeliveryLemmas.{IsPart, for-told, others-up-to}
 use Rattle.auction_cmd.proofs.MadeLemmas.{ascend-in, values-in}
 use Rattle.auction_cmd.proofs.MakeEndLemmas.{Reached}

@@ -14,7 +14,7 @@ use Rattle.auction_cmd.specs.Program.ProgramEnds.{Single, Resumed, Batched}
 use Rattle.auction_cmd.specs.ResumeEnds.{ResumeEnds}
 use Rattle.auction_cmd.specs.ResumePromises.{ResumePromises}
 use Rattle.auction_cmd.specs.ResumeEnds.ResumeEnds.{ResumeStarved}
-use Rattle.auction_cmd.specs.Words.{BatchNames, ResumeNames, repeated_resume}
+use Rattle.command_words.specs.Words.{BatchNames, ResumeNames, repeated_resume}
 use Rattle.auction_cmd.proofs.BatchLemmas.{batch-promises}
 use Rattle.auction_cmd.proofs.OutputNames.{own-resumed}
 use Rattle.auction_cmd.proofs.PromiseLemmas.{promises-of}

@@ -23,7 +23,7 @@ use Rattle.auction_cmd.specs.Promises.{IsSomeRecord, Promises, asks_nothing, ask
 use Rattle.auction_cmd.specs.Records.{run_order}
 use Rattle.auction_cmd.specs.Says.{memory_line, twice_line}
 use Rattle.auction_cmd.specs.VerifyPromises.{VerifyPromises}
-use Rattle.auction_cmd.specs.Words.{ExportNames, ImportNames, InputNames, MakeNames, RunNames, SeekNames, VerifyNames, repeated_import, repeated_made, repeated_output, seek_inputs}
+use Rattle.command_words.specs.Words.{ExportNames, ImportNames, InputNames, MakeNames, RunNames, SeekNames, VerifyNames, repeated_import, repeated_made, repeated_output, seek_inputs}
 use Rattle.auction_cmd.proofs.CheckLemmas.{check-complete, check-counted, check-cut, check-files, check-memory, check-none, check-reading, check-statuses, check-surely, check-unread, check-unwritten}
 use Rattle.auction_cmd.proofs.ExportLemmas.{export-memory, export-none, export-promises, export-statuses, export-unread, export-unwritten}
 use Rattle.auction_cmd.proofs.LiveLemmas.{run-unsaid, verify-live, verify-unsaid}

@@ -25,12 +25,12 @@ use Rattle.auction_core.specs.NotShown.{not_shown}
 use Rattle.transcript_check.specs.Sound.{transcript_record}
 use Rattle.transcript_check.proofs.SoundLemmas.{same-again, sound-shown, transcript-sound}
 use Rattle.auction_cmd.specs.declared.inputs.Inputs.{Inputs}
-use Rattle.auction_cmd.specs.declared.refusal.Input.{Input}
-use Rattle.auction_cmd.specs.declared.refusal.Input.TheVariants.{Domains, Rows, Scenario as ScenarioFile}
+use Rattle.command_words.specs.declared.run_words.Input.{Input}
+use Rattle.command_words.specs.declared.run_words.Input.TheVariants.{Domains, Rows, Scenario as ScenarioFile}
 use Rattle.auction_cmd.specs.declared.sources.Sources.{Sources}
 use Rattle.auction_cmd.specs.Inputs.{and_then, file_of, inputs_by, inputs_from, inputs_of, rows_read, scenario_read, sources_of, valued_of}
 use Rattle.auction_cmd.specs.Verified.{CanBeNamed, record_by, shown_or, verified}
-use Rattle.auction_cmd.specs.Words.{InputNames}
+use Rattle.command_words.specs.Words.{InputNames}
 use Rattle.auction_cmd.proofs.ReadingLemmas.{accepted-limits, accepted-valued, said-else, then-ok}
 
 -- ---- accepted inputs

@@ -25,13 +25,13 @@ use Rattle.scenario_json.specs.ScenarioOf.{scenario_of}
 use Rattle.scenario_json.proofs.Limits.{read-limits, read-values}
 use Rattle.auction_cmd.specs.declared.inputs.Inputs.{Inputs}
 use Rattle.auction_cmd.specs.declared.sources.Sources.{Sources}
-use Rattle.auction_cmd.specs.declared.refusal.Input.{Input}
-use Rattle.auction_cmd.specs.declared.refusal.Input.TheVariants.{Domains, Rows, Scenario as ScenarioFile, Owners as OwnersFile}
+use Rattle.command_words.specs.declared.run_words.Input.{Input}
+use Rattle.command_words.specs.declared.run_words.Input.TheVariants.{Domains, Rows, Scenario as ScenarioFile, Owners as OwnersFile}
 use Rattle.auction_cmd.specs.declared.inputs.Stop.{Stop}
 use Rattle.auction_cmd.specs.declared.inputs.Stop.TheVariants.{CannotRead}
 use Rattle.auction_cmd.specs.Inputs.{and_then, bytes_within, file_limit, file_of, inputs_by, inputs_from, inputs_of, live_inputs, owners_read, rows_read, said_in, scenario_read, sources_of, valued_of, with_said}
 use Rattle.auction_cmd.specs.Promises.{AreThere}
-use Rattle.auction_cmd.specs.Words.{InputNames}
+use Rattle.command_words.specs.Words.{InputNames}
 
 -- a joined book is of exactly the scenario's stations
 pub joined-stations : (sc : Scenario) (domains : List Domain) (pairs : List Pair) (book : BookView) → joined sc domains pairs ≡ Ok book → stations_of book ≡ facilities sc

@@ -23,7 +23,7 @@ use Rattle.auction_cmd.specs.Inputs.{inputs_of}
 use Rattle.auction_cmd.specs.Records.{IsRecordIn, StartFits}
 use Rattle.auction_cmd.specs.Resumption.{GoesOnFrom, begun, begun_by, kept_or}
 use Rattle.auction_cmd.specs.Verified.{CanBeNamed, record_by, shown_or, verified}
-use Rattle.auction_cmd.specs.Words.{InputNames}
+use Rattle.command_words.specs.Words.{InputNames}
 use Rattle.auction_cmd.proofs.ReadAgain.{accepted-auction}
 use Rattle.auction_cmd.proofs.ReadingLemmas.{accepted-limits}
 

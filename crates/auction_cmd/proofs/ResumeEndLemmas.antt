@@ -44,7 +44,7 @@ use Rattle.auction_cmd.specs.ResumeEnds.ResumeEnds.{ResumeStarved, PrefixNotLoad
 use Rattle.auction_cmd.specs.Resumption.{GoesOnFrom, IsResumption, StandsBehind, begun, begun_by, kept_or}
 use Rattle.auction_cmd.specs.Transcripts.{ExplainsDenied, ExplainsLoad, IsFileRead, not_read}
 use Rattle.auction_cmd.specs.Verified.{CanBeNamed}
-use Rattle.auction_cmd.specs.Words.{ResumeNames, begun_names}
+use Rattle.command_words.specs.Words.{ResumeNames, begun_names}
 use Rattle.auction_cmd.proofs.SaysLemmas.{rises-before}
 
 -- ---- the beginning

@@ -16,7 +16,7 @@ use Rattle.auction_core.specs.NotShown.{order_kept}
 use Rattle.auction_cmd.specs.declared.fault.TranscriptFault.{TranscriptFault}
 use Rattle.auction_cmd.specs.declared.inputs.Inputs.{Inputs}
 use Rattle.auction_cmd.specs.declared.inputs.Stop.TheVariants.{CannotRead, Refused}
-use Rattle.auction_cmd.specs.declared.refusal.Input.{Input}
+use Rattle.command_words.specs.declared.run_words.Input.{Input}
 use Rattle.auction_cmd.specs.declared.refusal.Refusal.{Refusal}
 use Rattle.transcript_text.specs.Spelling.{transcript_text}
 use Rattle.auction_cmd.specs.Delivery.{AllOthersStand, AreStored, named}
@@ -29,7 +29,8 @@ use Rattle.auction_cmd.specs.Inputs.{file_limit, inputs_of}
 use Rattle.auction_cmd.specs.Outside.{Outside, IsSaid}
 use Rattle.auction_cmd.specs.Promises.{IsSomeRecord}
 use Rattle.auction_cmd.specs.Records.{IsEndedRecordIn, IsRecordIn, StartFits, StartUnfit, done_status, summary_in}
-use Rattle.auction_cmd.specs.Refusals.{refusal_line, name_of}
+use Rattle.auction_cmd.specs.Refusals.{refusal_line}
+use Rattle.command_words.specs.Words.{name_of}
 use Rattle.auction_cmd.specs.ResumeEnds.{ResumeEnds}
 use Rattle.auction_cmd.specs.ResumeEnds.ResumeEnds.{ResumeStopped, ResumeStarved, PrefixNotLoaded, NotBegun, WentOn}
 use Rattle.auction_cmd.specs.ResumePromises.{IsResumed, ResumePromises}
@@ -37,7 +38,7 @@ use Rattle.auction_cmd.specs.Resumption.{GoesOnFrom, begun}
 use Rattle.auction_cmd.specs.Says.{long_line, memory_line, unread_line}
 use Rattle.auction_cmd.specs.Verified.{CanBeNamed, fault_line, verified}
 use Rattle.auction_cmd.specs.VerifyPromises.{AreAllThere, IsGiven, IsOr}
-use Rattle.auction_cmd.specs.Words.{ResumeNames, RunNames, begun_names, output_names}
+use Rattle.command_words.specs.Words.{ResumeNames, RunNames, begun_names, output_names}
 use Rattle.auction_cmd.proofs.Halts.{halted-held, not-both, same-inputs, stopped-memory, stopped-statuses}
 use Rattle.auction_cmd.proofs.DeliveryLemmas.{Ended, ended-of, for-told}
 use Rattle.auction_cmd.proofs.DeliveryLemmas.Ended.{Both, NotSaid, NotStored, OutOfRoom}

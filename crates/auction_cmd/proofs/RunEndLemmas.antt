@@ -9,7 +9,7 @@ use Rattle.auction_cmd.specs.Ends.Concludes.{Unfit, StartOpen, Delivered}
 use Rattle.auction_cmd.specs.Ends.RunEnds.{RunStarved, Concluded}
 use Rattle.auction_cmd.specs.Outside.{Outside}
 use Rattle.auction_cmd.specs.Records.{IsRecordBy, done_status, run_order, summary_in}
-use Rattle.auction_cmd.specs.Words.{RunNames}
+use Rattle.command_words.specs.Words.{RunNames}
 use Rattle.auction_cmd.proofs.DeliveryLemmas.{IsSince, delivers-since}
 use Rattle.auction_cmd.proofs.EndLemmas.{ended-order}
 

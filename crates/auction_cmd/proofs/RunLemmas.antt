@@ -28,7 +28,7 @@ use Rattle.auction_cmd.specs.RunPromises.{IsDecided, IsRunDone, IsPartStored, Is
 use Rattle.auction_cmd.specs.Records.{IsRecordIn, done_status, outcome, result_of, summary_in}
 use Rattle.auction_cmd.specs.Says.{unwritten_line}
 use Rattle.auction_cmd.specs.Verified.{CanBeNamed}
-use Rattle.auction_cmd.specs.Words.{RunNames, output_names}
+use Rattle.command_words.specs.Words.{RunNames, output_names}
 use Rattle.auction_cmd.proofs.DeliveryLemmas.{AreApart, Ended, IsPart, ended-of, for-told, others-up-to}
 use Rattle.auction_cmd.proofs.DeliveryLemmas.Ended.{Both, NotSaid, NotStored, OutOfRoom}
 use Rattle.auction_cmd.proofs.Halts.{stopped-statuses}

@@ -6,7 +6,7 @@ use Rattle.auction_core.specs.declared.record.Record.{Record}
 use Rattle.auction_cmd.specs.Ends.{RunEnds}
 use Rattle.auction_cmd.specs.Outside.{Outside}
 use Rattle.auction_cmd.specs.RunPromises.{RunPromises, ToldRun}
-use Rattle.auction_cmd.specs.Words.{RunNames}
+use Rattle.command_words.specs.Words.{RunNames}
 use Rattle.auction_cmd.proofs.LiveLemmas.{run-live}
 use Rattle.auction_cmd.proofs.RunLemmas.{run-decided, run-done, run-others, run-part, run-recorded, run-stored, run-summed, run-surely, IsOnce}
 use Rattle.auction_cmd.proofs.StartLemmas.{run-complete, run-nobody, run-open, run-opened, run-refuted, run-unfit, run-unfits}

@@ -43,7 +43,7 @@ use Rattle.auction_cmd.specs.Says.{memory_line, unwritten_line}
 use Rattle.auction_cmd.specs.Seek.{IsOneBelow, IsLeastTop, IsSeekable, base_of, inputs_at, joinable, seekable_of, top_status, top_text}
 use Rattle.auction_cmd.specs.SeekPromises.{IsNoTop, IsTopOf, IsTopOpen, SeekPromises, seek_texts, shows_unfit}
 use Rattle.auction_cmd.specs.VerifyPromises.{IsOr}
-use Rattle.auction_cmd.specs.Words.{InputNames, SeekNames, seek_inputs}
+use Rattle.command_words.specs.Words.{InputNames, SeekNames, seek_inputs}
 use Rattle.auction_cmd.proofs.DeliveryLemmas.{AreApart, Ended, IsPart, all-more, all-none, ended-of, for-told, others-up-to}
 use Rattle.auction_cmd.proofs.DeliveryLemmas.Ended.{Both, NotSaid, NotStored, OutOfRoom}
 use Rattle.auction_cmd.proofs.Halts.{Reading, halted-held, stopped-memory, stopped-statuses, stopped-unread}

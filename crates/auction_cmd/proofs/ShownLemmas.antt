@@ -12,7 +12,7 @@ use Rattle.auction_cmd.specs.Ends.VerifyEnds.{Sound}
 use Rattle.auction_cmd.specs.Outside.{IsSaid, Outside}
 use Rattle.auction_cmd.specs.Records.{done_status, result_of}
 use Rattle.auction_cmd.specs.Settling.{missing_fault, step_line}
-use Rattle.auction_cmd.specs.Words.{ExportNames, VerifyNames}
+use Rattle.command_words.specs.Words.{ExportNames, VerifyNames}
 
 -- its result is printed
 pub sound-printed : (names : VerifyNames) (before between after : Outside) (status : ℕ) (found : Option Record) (inputs : Inputs) (rec : Record) → IsShown names before inputs rec → between ≡ before → found ≡ Some rec

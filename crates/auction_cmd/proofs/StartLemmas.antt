@@ -26,7 +26,7 @@ use Rattle.auction_cmd.specs.RunPromises.{IsStartLeftOpen, IsRecordAt}
 use Rattle.auction_cmd.specs.Records.{StartFits, StartUnfit, done_status, summary_in}
 use Rattle.auction_cmd.specs.Says.{memory_line, unfit_line}
 use Rattle.auction_cmd.specs.VerifyPromises.{IsOr}
-use Rattle.auction_cmd.specs.Words.{RunNames}
+use Rattle.command_words.specs.Words.{RunNames}
 use Rattle.auction_cmd.proofs.DeliveryLemmas.{Ended, ended-of}
 use Rattle.auction_cmd.proofs.DeliveryLemmas.Ended.{Both, NotSaid, NotStored, OutOfRoom}
 use Rattle.auction_cmd.proofs.Halts.{Reading, halted-held, same-inputs, stopped-memory, stopped-statuses, stopped-unread}

@@ -25,7 +25,7 @@ use Rattle.auction_cmd.specs.Outside.{Outside}
 use Rattle.auction_cmd.specs.Records.{IsRecordIn}
 use Rattle.auction_cmd.specs.Transcripts.{ExplainsDenied, ExplainsLoad, IsTextRead, IsVerdict, not_read}
 use Rattle.auction_cmd.specs.Verified.{CanBeNamed, record_by, shown_or, verified}
-use Rattle.auction_cmd.specs.Words.{VerifyNames}
+use Rattle.command_words.specs.Words.{VerifyNames}
 use Rattle.auction_cmd.proofs.RecordLemmas.{record-in}
 use Rattle.auction_cmd.proofs.SaysLemmas.{rises-before}
 

@@ -9,7 +9,7 @@ use Rattle.auction_cmd.specs.Ends.VerifyEnds.{VerifyStopped, VerifyStarved, NotL
 use Rattle.auction_cmd.specs.Outside.{Outside, IsSaid}
 use Rattle.auction_cmd.specs.Promises.{IsSomeRecord}
 use Rattle.auction_cmd.specs.Says.{memory_line}
-use Rattle.auction_cmd.specs.Words.{VerifyNames}
+use Rattle.command_words.specs.Words.{VerifyNames}
 use Rattle.auction_cmd.proofs.Halts.{stopped-memory}
 use Rattle.auction_cmd.proofs.RunLemmas.{absent, some-record}
 use Rattle.auction_cmd.proofs.Statuses.{apart-lists, off}

@@ -16,7 +16,7 @@ use Rattle.auction_cmd.specs.Outside.{Outside}
 use Rattle.auction_cmd.specs.Records.{done_status}
 use Rattle.auction_cmd.specs.Verified.{verified}
 use Rattle.auction_cmd.specs.VerifyPromises.{IsGiven}
-use Rattle.auction_cmd.specs.Words.{VerifyNames}
+use Rattle.command_words.specs.Words.{VerifyNames}
 use Rattle.auction_cmd.proofs.Halts.{same-inputs}
 use Rattle.auction_cmd.proofs.Statuses.{done-within, off, one-of, within}
 

@@ -22,7 +22,7 @@ use Rattle.auction_cmd.specs.Outside.{Outside, IsSaid}
 use Rattle.auction_cmd.specs.Records.{IsRecordIn, done_status, outcome, result_of}
 use Rattle.auction_cmd.specs.Verified.{CanBeNamed, fault_line, verified}
 use Rattle.auction_cmd.specs.VerifyPromises.{IsGiven, IsOr, IsVerified, VerifyPromises, verified_text}
-use Rattle.auction_cmd.specs.Words.{VerifyNames}
+use Rattle.command_words.specs.Words.{VerifyNames}
 use Rattle.auction_cmd.proofs.Halts.{halted-held, same-inputs, stopped-statuses}
 use Rattle.auction_cmd.proofs.ReadAgain.{record-verified}
 use Rattle.auction_cmd.proofs.ReadingLemmas.{accepted-ascend, accepted-values}

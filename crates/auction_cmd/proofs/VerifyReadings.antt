@@ -7,7 +7,7 @@ use Rattle.auction_core.specs.declared.record.Record.{Record}
 use Rattle.auction_core.specs.Backed.{undecided_of}
 use Rattle.auction_cmd.specs.declared.inputs.Inputs.{Inputs}
 use Rattle.auction_cmd.specs.declared.inputs.Stop.TheVariants.{CannotRead, Refused}
-use Rattle.auction_cmd.specs.declared.refusal.Input.{Input}
+use Rattle.command_words.specs.declared.run_words.Input.{Input}
 use Rattle.auction_cmd.specs.declared.refusal.Refusal.{Refusal}
 use Rattle.auction_cmd.specs.Ends.{VerifyEnds}
 use Rattle.auction_cmd.specs.Ends.IsNotLoaded.{Unloaded, LongText}
@@ -16,10 +16,11 @@ use Rattle.auction_cmd.specs.Inputs.{file_limit, inputs_of}
 use Rattle.auction_cmd.specs.Outside.{Outside, IsSaid}
 use Rattle.auction_cmd.specs.Promises.{AreThere}
 use Rattle.auction_cmd.specs.Records.{result_of}
-use Rattle.auction_cmd.specs.Refusals.{refusal_line, name_of}
+use Rattle.auction_cmd.specs.Refusals.{refusal_line}
+use Rattle.command_words.specs.Words.{name_of}
 use Rattle.auction_cmd.specs.Says.{long_line, unread_line}
 use Rattle.auction_cmd.specs.VerifyPromises.{AreAllThere, IsOr}
-use Rattle.auction_cmd.specs.Words.{VerifyNames}
+use Rattle.command_words.specs.Words.{VerifyNames}
 use Rattle.auction_cmd.proofs.Halts.{halted-held, missing-one, not-both, read-there, refused-cause, stopped-unread, stops-at, unread-line}
 use Rattle.auction_cmd.proofs.Halts.Reading.{Halted}
 use Rattle.auction_cmd.proofs.Statuses.{off}

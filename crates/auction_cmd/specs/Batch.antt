@@ -20,19 +20,15 @@ use Rattle.auction_cmd.specs.declared.batch_inputs.Listed.{Listed}
 use Rattle.auction_cmd.specs.declared.inputs.Inputs.{Inputs}
 use Rattle.auction_cmd.specs.declared.inputs.Stop.{Stop}
 use Rattle.auction_cmd.specs.declared.inputs.Stop.TheVariants.{Refused, NoMemory}
-use Rattle.auction_cmd.specs.declared.refusal.Input.TheVariants.{Domains, Rows, Scenario as ScenarioFile, List as ListFile}
+use Rattle.command_words.specs.declared.run_words.Input.TheVariants.{Domains, Rows, Scenario as ScenarioFile, List as ListFile}
 use Rattle.auction_cmd.specs.declared.refusal.Refusal.TheVariants.{BadLine, EmptyList}
 use Rattle.auction_cmd.specs.Delivery.{NamedText, named}
 use Rattle.auction_cmd.specs.Inputs.{and_then, file_of, inputs_from, rows_read, scenario_read}
 use Rattle.auction_cmd.specs.Records.{done_status, result_of, run_order}
 use Rattle.auction_cmd.specs.Statuses.{DONE, LEFT_OPEN, START_UNFIT, START_OPEN, SOME_UNSTARTED}
-use Rattle.auction_cmd.specs.Words.{BatchNames, InputNames}
+use Rattle.command_words.specs.Words.{BatchNames, InputNames, inputs_with}
 
 -- ---- what is read
-
--- the files of one auction of the batch: its constraint files, and this scenario
-abbrev pub inputs_with : BatchNames → List ℕ → InputNames
-inputs_with names scenario = record { domains = names.domains; rows = names.rows; scenario = scenario; owners = None }
 
 -- the names in the words
 abbrev pub names_in_words : BatchNames → List (List ℕ)

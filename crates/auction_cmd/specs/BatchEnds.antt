@@ -6,7 +6,8 @@ use Rattle.auction_core.specs.declared.record.Record.{Record}
 use Rattle.auction_cmd.specs.declared.batch_inputs.Constraints.{Constraints}
 use Rattle.auction_cmd.specs.declared.inputs.Inputs.{Inputs}
 use Rattle.auction_cmd.specs.declared.inputs.Stop.TheVariants.{CannotRead, Refused, NoMemory}
-use Rattle.auction_cmd.specs.Batch.{BatchStop, Unread, Twice, HeldBatch, batch_of, batch_status, batch_texts, inputs_with, listing_of, status_lines}
+use Rattle.auction_cmd.specs.Batch.{BatchStop, Unread, Twice, HeldBatch, batch_of, batch_status, batch_texts, listing_of, status_lines}
+use Rattle.command_words.specs.Words.{inputs_with}
 use Rattle.auction_cmd.specs.Delivery.{Delivers}
 use Rattle.auction_cmd.specs.Ends.{ExplainsHalt, IsStarved}
 use Rattle.auction_cmd.specs.Inputs.{CountsFault}
@@ -14,7 +15,7 @@ use Rattle.auction_cmd.specs.Outside.{Outside}
 use Rattle.auction_cmd.specs.Records.{IsRecordBy}
 use Rattle.auction_cmd.specs.Says.{Says, twice_line}
 use Rattle.auction_cmd.specs.Statuses.{REFUSED}
-use Rattle.auction_cmd.specs.Words.{BatchNames, InputNames}
+use Rattle.command_words.specs.Words.{BatchNames, InputNames}
 
 -- What stopped the reading is what the files stop it by. Memory may run out; and a folder that isn't steady may fail to read a
 -- file that is there.

@@ -11,7 +11,7 @@ use Rattle.auction_cmd.specs.Inputs.{inputs_of}
 use Rattle.auction_cmd.specs.Outside.{Outside, IsSaid}
 use Rattle.auction_cmd.specs.Statuses.{DONE, LEFT_OPEN, UNWRITTEN, START_UNFIT, START_OPEN, NOT_SHOWN, NOT_SETTLED}
 use Rattle.auction_cmd.specs.VerifyPromises.{IsOr}
-use Rattle.auction_cmd.specs.Words.{InputNames}
+use Rattle.command_words.specs.Words.{InputNames}
 
 -- Of a folder that tells its files.
 pub record ToldCheck (files : List StoredFile) (names : InputNames) (before after : Outside) (status : ℕ) : Type 0 where

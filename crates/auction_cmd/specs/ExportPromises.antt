@@ -20,7 +20,7 @@ use Rattle.auction_cmd.specs.Settling.{step_line}
 use Rattle.auction_cmd.specs.Statuses.{DONE, UNREAD, UNWRITTEN, REFUSED, NO_MEMORY, NOT_SHOWN, NOT_SETTLED}
 use Rattle.auction_cmd.specs.Verified.{verified}
 use Rattle.auction_cmd.specs.VerifyPromises.{IsGiven, IsOr, VerifyPromises}
-use Rattle.auction_cmd.specs.Words.{ExportNames, VerifyNames}
+use Rattle.command_words.specs.Words.{ExportNames, VerifyNames}
 
 -- the transcript that the files hold is sound, and its record has this step or none
 pub record IsStepAsked (files : List StoredFile) (names : VerifyNames) (step : ℕ) (there : Option Step) : Type 0 where

@@ -32,7 +32,7 @@ use Rattle.auction_cmd.specs.Settling.{unsettled_line, open_fault, step_line}
 use Rattle.auction_cmd.specs.Statuses.{DONE, LEFT_OPEN, UNREAD, UNWRITTEN, REFUSED, NO_MEMORY, NOT_SHOWN, NOT_SETTLED}
 use Rattle.auction_cmd.specs.Verified.{verified}
 use Rattle.auction_cmd.specs.VerifyPromises.{AreAllThere, IsGiven, IsOr, VerifyPromises}
-use Rattle.auction_cmd.specs.Words.{ImportNames, VerifyNames}
+use Rattle.command_words.specs.Words.{ImportNames, VerifyNames}
 
 -- the transcript that the files hold is sound
 pub record IsSoundIn (files : List StoredFile) (names : VerifyNames) : Type 0 where

@@ -21,15 +21,15 @@ use Rattle.scenario_json.specs.declared.join.JoinErr.{JoinErr}
 use Rattle.scenario_json.specs.declared.join.JoinErr.TheVariants.{MissingDomain as NoDomain, NoMemory as NoSpace}
 use Rattle.scenario_json.specs.Joined.{joined}
 use Rattle.scenario_json.specs.ScenarioOf.{scenario_of}
-use Rattle.auction_cmd.specs.declared.refusal.Input.{Input}
-use Rattle.auction_cmd.specs.declared.refusal.Input.TheVariants.{Domains, Rows, Scenario as ScenarioFile, Owners as OwnersFile}
+use Rattle.command_words.specs.declared.run_words.Input.{Input}
+use Rattle.command_words.specs.declared.run_words.Input.TheVariants.{Domains, Rows, Scenario as ScenarioFile, Owners as OwnersFile}
 use Rattle.auction_cmd.specs.declared.refusal.Refusal.TheVariants.{TooLong, Row, Scenario as BadScenario, MissingDomain, Owners as BadOwners}
 use Rattle.auction_cmd.specs.declared.inputs.Inputs.{Inputs}
 use Rattle.auction_cmd.specs.declared.sources.Sources.{Sources}
 use Rattle.auction_cmd.specs.declared.inputs.TheConstants.{FILE_LIMIT}
 use Rattle.auction_cmd.specs.declared.inputs.Stop.{Stop}
 use Rattle.auction_cmd.specs.declared.inputs.Stop.TheVariants.{CannotRead, Refused, NoMemory}
-use Rattle.auction_cmd.specs.Words.{InputNames}
+use Rattle.command_words.specs.Words.{InputNames}
 
 -- a step, and where it doesn't stop the next one
 abbrev pub and_then : {A B : Type 0} → Result A Stop → (A → Result B Stop) → Result B Stop

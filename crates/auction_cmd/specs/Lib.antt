@@ -32,4 +32,3 @@ pub mod Statuses
 pub mod Transcripts
 pub mod Verified
 pub mod VerifyPromises
-pub mod Words

@@ -16,7 +16,7 @@ use Rattle.auction_core.specs.Backed.{IsBacked, undecided_of}
 use Rattle.auction_cmd.specs.declared.inputs.Inputs.{Inputs}
 use Rattle.auction_cmd.specs.Inputs.{file_limit, inputs_of, live_inputs, valued_of}
 use Rattle.auction_cmd.specs.Records.{outcome}
-use Rattle.auction_cmd.specs.Words.{InputNames}
+use Rattle.command_words.specs.Words.{InputNames}
 
 -- The inputs are those that the domains, the rows and the scenario hold, in the auction in which the owners say the lines of
 -- the owners' file of this name.

@@ -10,11 +10,11 @@ use Rattle.auction_core.specs.declared.record.Record.{Record}
 use Rattle.auction_core.specs.Backed.{undecided_of}
 use Rattle.auction_cmd.specs.declared.inputs.Inputs.{Inputs}
 use Rattle.auction_cmd.specs.declared.inputs.Stop.{Stop}
-use Rattle.auction_cmd.specs.declared.refusal.Input.TheVariants.{Domains, Rows}
+use Rattle.command_words.specs.declared.run_words.Input.TheVariants.{Domains, Rows}
 use Rattle.auction_cmd.specs.Delivery.{NamedText, named}
 use Rattle.auction_cmd.specs.Inputs.{and_then, inputs_from, rows_read, scenario_read}
 use Rattle.auction_cmd.specs.Records.{IsRecordOf, summary_of}
-use Rattle.auction_cmd.specs.Words.{InputNames, MakeNames}
+use Rattle.command_words.specs.Words.{InputNames, MakeNames}
 
 -- The inputs that three files with these bytes hold, or the first refusal: of the domains, of the rows, of the scenario, or
 -- of the book that they make.

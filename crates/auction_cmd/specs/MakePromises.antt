@@ -16,7 +16,7 @@ use Rattle.auction_cmd.specs.Outside.{Outside, IsSaid}
 use Rattle.auction_cmd.specs.Records.{IsRecordOf, done_status, outcome, run_order, summary_of}
 use Rattle.auction_cmd.specs.Says.{unwritten_line}
 use Rattle.auction_cmd.specs.Statuses.{DONE, LEFT_OPEN, UNWRITTEN, NO_MEMORY}
-use Rattle.auction_cmd.specs.Words.{MakeNames, made_names}
+use Rattle.command_words.specs.Words.{MakeNames, made_names}
 
 -- The auction of the made files was carried through: they are accepted, nobody starts on air, and the record is that of
 -- their auction.

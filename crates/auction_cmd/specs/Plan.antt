@@ -1,6 +1,6 @@
 -- What the words of the command line have the program do.
 use Rattle.std.specs.Prelude.{ℕ, List, Option, Some, None}
-use Rattle.auction_cmd.specs.Words.{Command, run, check, verify, resume, seek, batch, make, export, import, BatchNames, InputNames, RunNames, VerifyNames, ResumeNames, SeekNames, MakeNames, ExportNames, ImportNames, command_of, repeated_export, repeated_import, repeated_made, repeated_output, repeated_resume, repeated_seek}
+use Rattle.command_words.specs.Words.{Command, run, check, verify, resume, seek, batch, make, export, import, BatchNames, InputNames, RunNames, VerifyNames, ResumeNames, SeekNames, MakeNames, ExportNames, ImportNames, command_of, repeated_export, repeated_import, repeated_made, repeated_output, repeated_resume, repeated_seek}
 
 -- nothing, where they are no command; to refuse an output name that is given twice; or a command
 pub data Plan : Type 0 where

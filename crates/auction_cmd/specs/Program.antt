@@ -9,7 +9,7 @@ use Rattle.auction_cmd.specs.Plan.{Plan, no_command, repeats, runs, checks, veri
 use Rattle.auction_cmd.specs.Promises.{Promises}
 use Rattle.auction_cmd.specs.ResumeEnds.{ResumeEnds}
 use Rattle.auction_cmd.specs.ResumePromises.{ResumePromises}
-use Rattle.auction_cmd.specs.Words.{BatchNames, ResumeNames, repeated_resume}
+use Rattle.command_words.specs.Words.{BatchNames, ResumeNames, repeated_resume}
 
 -- How the program ends. An auction goes on only where no output name is given twice, and it has no owners' file. The records of a
 -- batch stand apart from the others; where there are some, there are no others.

@@ -10,7 +10,7 @@ use Rattle.auction_cmd.specs.declared.inputs.Inputs.{Inputs}
 use Rattle.auction_cmd.specs.declared.inputs.Stop.TheVariants.{CannotRead, Refused}
 use Rattle.auction_core.specs.declared.record.Ending.TheVariants.{Done}
 use Rattle.auction_core.specs.declared.record.Record.{Record}
-use Rattle.auction_cmd.specs.declared.refusal.Input.{Input}
+use Rattle.command_words.specs.declared.run_words.Input.{Input}
 use Rattle.auction_cmd.specs.declared.refusal.Refusal.{Refusal}
 use Rattle.auction_core.specs.Backed.{IsBacked, undecided_of}
 use Rattle.auction_cmd.specs.CheckPromises.{CheckPromises}
@@ -22,13 +22,14 @@ use Rattle.auction_cmd.specs.MakePromises.{MakePromises}
 use Rattle.auction_cmd.specs.Outside.{Outside, IsSaid}
 use Rattle.auction_cmd.specs.Plan.{Plan, no_command, repeats, runs, checks, verifies, resumes, seeks, batches, makes, exports, imports}
 use Rattle.auction_cmd.specs.Records.{outcome, run_order}
-use Rattle.auction_cmd.specs.Refusals.{refusal_line, name_of}
+use Rattle.auction_cmd.specs.Refusals.{refusal_line}
+use Rattle.command_words.specs.Words.{name_of}
 use Rattle.auction_cmd.specs.RunPromises.{RunPromises}
 use Rattle.auction_cmd.specs.Says.{memory_line, twice_line, unread_line}
 use Rattle.auction_cmd.specs.SeekPromises.{SeekPromises}
 use Rattle.auction_cmd.specs.Statuses.{DONE, LEFT_OPEN, NO_COMMAND, UNREAD, UNWRITTEN, REFUSED, START_UNFIT, START_OPEN, NO_MEMORY, NOT_SHOWN, NOT_SETTLED}
 use Rattle.auction_cmd.specs.VerifyPromises.{IsOr, VerifyPromises}
-use Rattle.auction_cmd.specs.Words.{ExportNames, ImportNames, InputNames, MakeNames, RunNames, SeekNames, VerifyNames, seek_inputs}
+use Rattle.command_words.specs.Words.{ExportNames, ImportNames, InputNames, MakeNames, RunNames, SeekNames, VerifyNames, seek_inputs}
 
 -- the inputs that a plan reads which reads no other file, if it reads any
 abbrev pub inputs_read : Plan → Option InputNames

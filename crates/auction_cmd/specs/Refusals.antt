@@ -1,28 +1,18 @@
 -- The line that says which input is refused, and why.
 use Rattle.std.specs.Prelude.{ℕ, ◌==◌, if◌then◌else◌, List, ◌++◌, codes, decimal}
-use Rattle.std.specs.Option.{option_map_or}
 use Rattle.constraint_files.specs.declared.error.RowWhy.{RowWhy}
 use Rattle.constraint_files.specs.declared.error.RowWhy.TheVariants.{ShortRow, BadKey, BadNumber, ChannelRange, BadOffset, SecondDomain, TooMany}
 use Rattle.scenario_json.specs.declared.error.ScenarioErr.{ScenarioErr}
 use Rattle.scenario_json.specs.declared.error.ScenarioErr.TheVariants.{Syntax, MissingField, WrongKind, OutOfLimit, RepeatedStation, SumOverOpening, NoProver, NoMemory}
 use Rattle.scenario_json.specs.declared.name.Name.{Name}
 use Rattle.scenario_json.specs.Name.{name_text}
-use Rattle.auction_cmd.specs.declared.refusal.Input.{Input}
-use Rattle.auction_cmd.specs.declared.refusal.Input.TheVariants.{Domains, Rows, Scenario as ScenarioFile, Owners as OwnersFile, List as ListFile}
+use Rattle.command_words.specs.declared.run_words.Input.{Input}
+use Rattle.command_words.specs.declared.run_words.Input.TheVariants.{Domains, Rows, Scenario as ScenarioFile, Owners as OwnersFile, List as ListFile}
 use Rattle.auction_cmd.specs.declared.refusal.Refusal.{Refusal}
 use Rattle.auction_cmd.specs.declared.refusal.Refusal.TheVariants.{TooLong, Row, Scenario, MissingDomain, Owners, BadLine, EmptyList}
 use Rattle.owner_line.specs.declared.error.OwnerWhy.{OwnerWhy}
 use Rattle.owner_line.specs.declared.error.OwnerWhy.TheVariants as owner
-use Rattle.auction_cmd.specs.Words.{InputNames}
-
--- the name of an input file; where no owners' file is named, the scenario has what stands for it; and a batch's list stands in
--- the place of a scenario until its scenarios are read
-abbrev pub name_of : InputNames → Input → List ℕ
-name_of names Domains = names.domains
-name_of names Rows = names.rows
-name_of names ScenarioFile = names.scenario
-name_of names OwnersFile = option_map_or (λ name. name) names.owners names.scenario
-name_of names ListFile = names.scenario
+use Rattle.command_words.specs.Words.{InputNames, name_of}
 
 -- the file that is refused
 abbrev pub input_of : Refusal → Input

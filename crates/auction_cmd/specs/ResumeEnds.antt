@@ -11,7 +11,7 @@ use Rattle.auction_cmd.specs.Outside.{Outside, IsSaid}
 use Rattle.auction_cmd.specs.Resumption.{GoesOnFrom, StandsBehind, begun}
 use Rattle.auction_cmd.specs.Statuses.{NOT_SHOWN}
 use Rattle.auction_cmd.specs.Verified.{CanBeNamed, fault_line}
-use Rattle.auction_cmd.specs.Words.{ResumeNames, begun_names}
+use Rattle.command_words.specs.Words.{ResumeNames, begun_names}
 
 -- How `resume` ends: an input stopped it; memory ran out; the beginning was not loaded; its text is refused, or a step that is
 -- kept of it isn't shown; or the auction goes on from what is kept, in its order, and concludes as that of a run does.

@@ -24,7 +24,7 @@ use Rattle.auction_cmd.specs.Says.{open_line, unfit_line, unwritten_line}
 use Rattle.auction_cmd.specs.Statuses.{DONE, LEFT_OPEN, UNWRITTEN, START_UNFIT, START_OPEN, NO_MEMORY}
 use Rattle.auction_cmd.specs.Verified.{verified}
 use Rattle.auction_cmd.specs.VerifyPromises.{IsOr}
-use Rattle.auction_cmd.specs.Words.{RunNames, output_names}
+use Rattle.command_words.specs.Words.{RunNames, output_names}
 
 -- The auction of these inputs was carried out: the record is the auction's. RESULT holds the text of the clock rule's result
 -- with the tests left open that the record shows undecided, CHANNELS that of the record's map, which violates no row, and

@@ -23,7 +23,7 @@ use Rattle.auction_cmd.specs.declared.tops.FoundTop.TheVariants.{NoneFits, LastO
 use Rattle.auction_cmd.specs.Inputs.{and_then, inputs_by, sources_of}
 use Rattle.auction_cmd.specs.Records.{IsOpenRecordOf, IsRecordBy, IsRecordOf, IsRefutedRecordOf}
 use Rattle.auction_cmd.specs.Statuses.{DONE, LEFT_OPEN}
-use Rattle.auction_cmd.specs.Words.{InputNames}
+use Rattle.command_words.specs.Words.{InputNames}
 
 -- ---- what is read
 

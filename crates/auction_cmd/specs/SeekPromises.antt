@@ -22,7 +22,7 @@ use Rattle.auction_cmd.specs.Says.{open_line, unfit_line, unwritten_line}
 use Rattle.auction_cmd.specs.Seek.{IsLeastTop, IsSeekable, base_of, inputs_at, seekable_of, top_status, top_text}
 use Rattle.auction_cmd.specs.Statuses.{DONE, LEFT_OPEN, UNREAD, UNWRITTEN, REFUSED, START_UNFIT, START_OPEN, NO_MEMORY}
 use Rattle.auction_cmd.specs.VerifyPromises.{IsOr}
-use Rattle.auction_cmd.specs.Words.{SeekNames, seek_inputs}
+use Rattle.command_words.specs.Words.{SeekNames, seek_inputs}
 
 -- what `seek` stores: the text of the channels up to the top that was found
 abbrev pub seek_texts : SeekNames → Record → List NamedText

@@ -14,17 +14,18 @@ use Rattle.transcript_text.specs.Spelling.{transcript_text}
 use Rattle.auction_cmd.specs.declared.fault.TranscriptFault.{TranscriptFault}
 use Rattle.auction_cmd.specs.declared.inputs.Inputs.{Inputs}
 use Rattle.auction_cmd.specs.declared.inputs.Stop.TheVariants.{CannotRead, Refused}
-use Rattle.auction_cmd.specs.declared.refusal.Input.{Input}
+use Rattle.command_words.specs.declared.run_words.Input.{Input}
 use Rattle.auction_cmd.specs.declared.refusal.Refusal.{Refusal}
 use Rattle.auction_cmd.specs.Ends.{AreInputsOf}
 use Rattle.auction_cmd.specs.Inputs.{file_limit, inputs_of}
 use Rattle.auction_cmd.specs.Outside.{Outside, IsSaid}
 use Rattle.auction_cmd.specs.Records.{IsRecordIn, done_status, outcome, result_of}
-use Rattle.auction_cmd.specs.Refusals.{refusal_line, name_of}
+use Rattle.auction_cmd.specs.Refusals.{refusal_line}
+use Rattle.command_words.specs.Words.{name_of}
 use Rattle.auction_cmd.specs.Says.{long_line, unread_line}
 use Rattle.auction_cmd.specs.Statuses.{DONE, LEFT_OPEN, UNREAD, UNWRITTEN, REFUSED, NO_MEMORY, NOT_SHOWN}
 use Rattle.auction_cmd.specs.Verified.{fault_line, verified}
-use Rattle.auction_cmd.specs.Words.{VerifyNames}
+use Rattle.command_words.specs.Words.{VerifyNames}
 
 -- the status is this one; or else memory ran out, or a folder that isn't steady failed to hand out a file
 abbrev pub IsOr : ℕ → Outside → ℕ → Type 0

@@ -22,7 +22,7 @@ use crate::says::say;
 use crate::seek::seek;
 use crate::status::{NO_COMMAND, REFUSED};
 use crate::verify::verify;
-use crate::words::{CommandArgs, WordsFault, read_words};
+use command_words::words::{CommandArgs, WordsFault, read_words};
 use outside_io::folder::Folder;
 use outside_io::sink::Sink;
 use solver_gate::gate::Gate;

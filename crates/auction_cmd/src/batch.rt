@@ -10,11 +10,10 @@ ghost use Rattle.auction_cmd.specs.Delivery.{Delivers};
 ghost use Rattle.auction_cmd.specs.Faults.{AreFaultsCounted};
 ghost use Rattle.auction_cmd.specs.Outside.{outside};
 ghost use Rattle.auction_cmd.specs.Statuses.{LEFT_OPEN};
-ghost use Rattle.auction_cmd.specs.Words.{batch_seen};
+ghost use Rattle.command_words.specs.Words.{batch_seen};
 
 use crate::batch_inputs::{ReadBatch, read_each, read_listed};
 use crate::batch_run::{Ran, run_all};
-use crate::batch_words::BatchArgs;
 use crate::explain::{explain, starve};
 use crate::finish::Finish;
 use crate::inputs::Inputs;
@@ -24,6 +23,7 @@ use crate::status::{DONE, LEFT_OPEN, REFUSED, SOME_UNSTARTED, START_OPEN, START_
 use auction_core::record::{Ending, Record};
 use batch_list::line::BatchLine;
 use batch_list::repeated::first_repeated;
+use command_words::batch_words::BatchArgs;
 use outside_io::folder::Folder;
 use outside_io::sink::Sink;
 use result_text::counts::push_count;

@@ -5,13 +5,13 @@ ghost use Rattle.auction_cmd.specs.Counts.{counts_text};
 ghost use Rattle.auction_cmd.specs.Ends.{CheckEnds};
 ghost use Rattle.auction_cmd.specs.Faults.{AreFaultsCounted};
 ghost use Rattle.auction_cmd.specs.Outside.{outside};
-ghost use Rattle.auction_cmd.specs.Words.{inputs_seen};
+ghost use Rattle.command_words.specs.Words.{inputs_seen};
 
 use crate::explain::{explain, starve};
 use crate::finish::Finish;
 use crate::inputs::{Inputs, read_inputs};
-use crate::run_words::InputArgs;
 use crate::status::{DONE, UNWRITTEN};
+use command_words::run_words::InputArgs;
 use outside_io::folder::Folder;
 use outside_io::sink::Sink;
 use result_text::counts::push_count;

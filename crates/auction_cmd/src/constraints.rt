@@ -10,7 +10,8 @@ ghost use Rattle.auction_cmd.specs.Inputs.{Agrees, CountsFault, and_then, file_o
 ghost use Rattle.auction_cmd.specs.Pieces.{IsBegun, IsFed, IsHandedOut};
 
 use crate::inputs::{FILE_LIMIT, Stop, stop_of};
-use crate::refusal::{Input, Refusal};
+use crate::refusal::Refusal;
+use command_words::run_words::Input;
 use constraint_files::domains::{DomainReader, Domains};
 use constraint_files::error::ReadErr;
 use constraint_files::pairs::{PairReader, Pairs};

@@ -5,14 +5,14 @@ ghost use Rattle.auction_cmd.specs.Ends.{ExplainsHalt};
 ghost use Rattle.auction_cmd.specs.Outside.{IsSaidTo};
 ghost use Rattle.auction_cmd.specs.Says.{memory_line};
 ghost use Rattle.auction_cmd.specs.Statuses.{NO_MEMORY};
-ghost use Rattle.auction_cmd.specs.Words.{inputs_seen};
+ghost use Rattle.command_words.specs.Words.{inputs_seen};
 
 use crate::finish::Finish;
 use crate::inputs::Stop;
 use crate::refusal::say_refused;
-use crate::run_words::InputArgs;
 use crate::says::say;
 use crate::status::{NO_MEMORY, REFUSED, UNREAD};
+use command_words::run_words::InputArgs;
 use outside_io::sink::Sink;
 
 /// Says why these inputs were not read, and gives the status for it. It takes no memory.

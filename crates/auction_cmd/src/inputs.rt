@@ -7,11 +7,11 @@ ghost use Rattle.pack_defs.specs.Scenario.{IsWithinLimits, facilities};
 ghost use Rattle.scenario_json.specs.ScenarioOf.{scenario_of};
 ghost use Rattle.auction_cmd.specs.declared.inputs.Stop.TheVariants.{NoMemory};
 ghost use Rattle.auction_cmd.specs.Inputs.{Agrees, CountsFault, and_then, file_of, inputs_of, said_in, scenario_read, stop_of, valued_of, with_said};
-ghost use Rattle.auction_cmd.specs.Words.{inputs_seen};
+ghost use Rattle.command_words.specs.Words.{inputs_seen};
 
-use crate::refusal::{Input, Refusal};
-use crate::run_words::InputArgs;
+use crate::refusal::Refusal;
 use crate::sources::{book_of, read_sources};
+use command_words::run_words::{Input, InputArgs};
 use offer_sched::offers::last_round;
 use outside_io::folder::{Folder, LoadErr};
 use owner_line::error::OwnerErr;

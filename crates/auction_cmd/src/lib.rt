@@ -2,7 +2,7 @@
 //!
 //! It may call every crate below. `auction_cli`, which is the program, and the tests call it; no other crate knows of it.
 //!
-//! Read `words`, with `run_words`, and `auction` first: which command the words are, and who carries it out. Then `run`, with
+//! Read `auction` first: who carries out the command that the words are (`command_words`). Then `run`, with
 //! `inputs`, `sources` and `constraints`, which read, and `conclude`, which stores and writes. The others are like it: `check`;
 //! `verify`, with `shown`; `resume`; `seek`, with `tops`; `batch`, with `batch_inputs` and `batch_run`; `make`; `export` and
 //! `import`, with `settling`. How a command ends is in `finish` and `status`, and what it says in `says`, `explain`, `refusal` and
@@ -13,7 +13,6 @@ pub mod auction;
 mod batch;
 mod batch_inputs;
 mod batch_run;
-pub mod batch_words;
 mod check;
 mod constraints;
 mod explain;
@@ -23,20 +22,14 @@ pub mod finish;
 mod import;
 pub mod inputs;
 mod make;
-pub mod make_words;
-pub mod proof_words;
 mod refusal;
 mod resume;
-pub mod resume_words;
 mod run;
-pub mod run_words;
 mod says;
 mod seek;
-pub mod seek_words;
 mod settling;
 mod shown;
 mod sources;
 pub mod status;
 mod tops;
 mod verify;
-pub mod words;

@@ -3,26 +3,15 @@
 ghost use Rattle.std.specs.Prelude.{◌≡◌, ◌≤◌, ◌++◌, codes, decimal};
 ghost use Rattle.auction_cmd.specs.Outside.{IsSaidTo};
 ghost use Rattle.auction_cmd.specs.Refusals.{input_of, refusal_line, owner_text, place_text, refusal_text, row_text, scenario_text};
-ghost use Rattle.auction_cmd.specs.Words.{inputs_seen};
+ghost use Rattle.command_words.specs.Words.{inputs_seen};
 
-use crate::run_words::InputArgs;
 use crate::says::say;
+use command_words::run_words::{Input, InputArgs};
 use constraint_files::error::RowWhy;
 use itoa::Buffer;
 use outside_io::sink::Sink;
 use owner_line::error::OwnerWhy;
 use scenario_json::error::ScenarioErr;
-
-/// An input file.
-#[derive(Clone, Copy, Debug, PartialEq, Eq)]
-pub enum Input {
-    Domains,
-    Rows,
-    Scenario,
-    Owners,
-    /// The list of a batch.
-    List,
-}
 
 /// Why the inputs are refused.
 #[derive(Clone, Copy, Debug, PartialEq, Eq)]

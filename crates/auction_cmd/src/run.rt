@@ -12,15 +12,15 @@ ghost use Rattle.auction_cmd.specs.Ends.{ConcludesUnlessStarved, RunEnds, output
 ghost use Rattle.auction_cmd.specs.Faults.{AreFaultsCounted};
 ghost use Rattle.auction_cmd.specs.Outside.{outside};
 ghost use Rattle.auction_cmd.specs.Records.{IsEndedRecordIn, IsRecordBy, IsRecordIn, done_status, result_of, run_order, summary_in};
-ghost use Rattle.auction_cmd.specs.Words.{names_seen};
+ghost use Rattle.command_words.specs.Words.{names_seen};
 
 use crate::explain::{explain, say_memory, starve};
 use crate::finish::Finish;
 use crate::inputs::{Inputs, read_inputs};
-use crate::run_words::RunArgs;
 use crate::says::say;
 use crate::status::{DONE, LEFT_OPEN, NO_MEMORY, START_OPEN, START_UNFIT, UNWRITTEN};
 use auction_core::record::{Ending, Record, Shown, Step};
+use command_words::run_words::RunArgs;
 use outside_io::folder::{Folder, StoreErr};
 use outside_io::sink::Sink;
 use race_wave::run::run_auction;

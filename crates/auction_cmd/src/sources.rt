@@ -5,12 +5,12 @@ ghost use Rattle.outside_io.specs.Files.{StoredFile};
 ghost use Rattle.pack_defs.specs.Book.{stations_of};
 ghost use Rattle.pack_defs.specs.Scenario.{IsWithinLimits, facilities};
 ghost use Rattle.auction_cmd.specs.Inputs.{Agrees, CountsFault, IsBookOf, sources_of};
-ghost use Rattle.auction_cmd.specs.Words.{inputs_seen};
+ghost use Rattle.command_words.specs.Words.{inputs_seen};
 
 use crate::constraints::{domains_from, pairs_from};
 use crate::inputs::{Stop, scenario_from};
 use crate::refusal::Refusal;
-use crate::run_words::InputArgs;
+use command_words::run_words::InputArgs;
 use constraint_files::domains::Domains;
 use constraint_files::pairs::Pairs;
 use outside_io::folder::Folder;

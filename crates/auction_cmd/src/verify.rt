@@ -7,16 +7,16 @@ ghost use Rattle.auction_cmd.specs.Ends.{VerifyEnds};
 ghost use Rattle.auction_cmd.specs.Faults.{AreFaultsCounted};
 ghost use Rattle.auction_cmd.specs.Outside.{outside};
 ghost use Rattle.auction_cmd.specs.Records.{IsRecordIn, result_of};
-ghost use Rattle.auction_cmd.specs.Words.{verify_seen};
+ghost use Rattle.command_words.specs.Words.{verify_seen};
 
 use crate::explain::starve;
 use crate::finish::Finish;
 use crate::inputs::Inputs;
 use crate::run::done_status;
-use crate::run_words::VerifyArgs;
 use crate::shown::{ShownAuction, shown_by};
 use crate::status::UNWRITTEN;
 use auction_core::record::Record;
+use command_words::run_words::VerifyArgs;
 use outside_io::folder::Folder;
 use outside_io::sink::Sink;
 use result_text::rows::result_csv;

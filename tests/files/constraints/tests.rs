@@ -278,15 +278,6 @@ fn has_second(alloc: Global, text: &[u8]) -> bool {
     }
 }
 
-// The lines `DOMAIN,i,14` for i from 1 up to this number.
-fn domain_lines(alloc: Global, last: u32) -> Result<String, AllocError> {
-    let mut text = String::new(alloc);
-    for i in 1..=last {
-        text.push_str(format!(in alloc; "DOMAIN,{i},14\n")?.as_str())?;
-    }
-    Ok(text)
-}
-
 // The first length from 1 to 45 in which the three stations are not read.
 fn first_length(alloc: Global, want: &str) -> Result<Option<usize>, AllocError> {
     for length in 1..=45 {

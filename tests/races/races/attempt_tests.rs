@@ -1,7 +1,8 @@
 //! A test of a worker that stays inside an attempt while another worker looks and posts.
 
-use crate::races::races::samples::{after_wave, by_two_workers, comes, settling};
+use crate::races::races::samples::{after_wave, by_two_workers, settling};
 use crate::samples::books::three_stations;
+use crate::samples::gates::comes;
 use crate::samples::workers::learner;
 use cert_types::poll::{Attempt, Poll};
 use cert_types::task::Task;

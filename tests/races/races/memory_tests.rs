@@ -1,8 +1,9 @@
 //! A test of a wave whose workers are of three kinds: memory runs out for the first, the second only waits for another to answer,
 //! and the third answers.
 
-use crate::races::races::samples::{after_wave, comes, other_query};
+use crate::races::races::samples::{after_wave, other_query};
 use crate::samples::books::three_stations;
+use crate::samples::gates::comes;
 use crate::samples::scenarios::three_bids;
 use crate::samples::workers::learner;
 use auction_core::auction::Auction;

@@ -1,7 +1,8 @@
 //! A test of workers that ask their polls until another worker has answered.
 
-use crate::races::races::samples::{after_wave, by_two_workers, comes, other_query, settling};
+use crate::races::races::samples::{after_wave, by_two_workers, other_query, settling};
 use crate::samples::books::three_stations;
+use crate::samples::gates::comes;
 use crate::samples::workers::learner;
 use cert_types::poll::{Attempt, Poll};
 use cert_types::task::Task;

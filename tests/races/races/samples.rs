@@ -1,5 +1,4 @@
-//! How a worker waits for another or asks its poll, what a wave of a test's own racers leaves, and an auction whose stations all
-//! start on air.
+//! How a worker asks its poll, what a wave of a test's own racers leaves, and an auction whose stations all start on air.
 
 use crate::samples::answers::{FOUR_FITS, answer};
 use crate::samples::scenarios::{auction_of, bid, three_bids};
@@ -18,26 +17,11 @@ use solver_gate::gate::EmptyGate;
 use solver_gate::racer::Racer;
 use std::alloc::{AllocError as NoMemory, Global};
 use std::sync::Wait;
-use std::sync::atomic::{AtomicU64, Ordering};
 use std::thread;
 use std::thread::Threads;
 
-// For how many turns of yielding a worker waits for another at most.
-const TURNS: u32 = 10_000_000;
-
 // How often a worker asks its poll at most. Each time takes a turn of the board's lock.
 const ASKS: u32 = 1_000_000;
-
-// Whether the number came to this one in time.
-pub fn comes(word: &AtomicU64, number: u64) -> bool {
-    for _ in 0..TURNS {
-        if word.load(Ordering::SeqCst) >= number {
-            return true;
-        }
-        thread::yield_now();
-    }
-    false
-}
 
 // The current query, once it is another one than this; nothing if it is the same after so many asks.
 pub(crate) fn other_query<P: Poll>(poll: &mut P, number: u64) -> Option<u64> {

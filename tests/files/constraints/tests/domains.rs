@@ -1,6 +1,6 @@
 //! Texts of domains that are read, and texts that are refused.
 
-use crate::files::constraints::tests::{LENGTHS, domain_lines, fed_domains, first_domains};
+use crate::files::constraints::tests::{LENGTHS, fed_domains, first_domains};
 use constraint_files::domains::{DomainReader, read_domains};
 use constraint_files::error::{ReadErr, RowWhy};
 use std::alloc::Global;
@@ -177,30 +177,4 @@ fn pieces_that_are_refused(rt: HostRuntime) {
         (&[b"\xEF\xBB", b"\xBFDOMAIN,1,1", b"4\n"], None),
     ];
     assert_eq!(rt; first_pieces(rt.alloc(), CASES), None);
-}
-
-// How many domains are read of these lines with others behind them.
-fn count_domains(alloc: Global, lines: &str, behind: &str) -> Result<usize, ReadErr> {
-    let mut text = String::from_str(alloc, lines)?;
-    text.push_str(behind)?;
-    Ok(read_domains(alloc, text.as_bytes())?.list().len())
-}
-
-// The refusal of line 65,537.
-fn refused_at_the_end(why: RowWhy) -> Result<usize, ReadErr> {
-    Err(ReadErr::Row { line: 65_537, why })
-}
-
-#[test]
-fn too_many_domains(rt: HostRuntime) -> Result<(), Fail> {
-    let alloc = rt.alloc();
-    let lines = domain_lines(alloc, 65_536)?;
-    for (behind, want) in [
-        ("", Ok(65_536)),
-        ("DOMAIN,65537,14\n", refused_at_the_end(RowWhy::TooMany)),
-        ("DOMAIN,5,14\n", refused_at_the_end(RowWhy::SecondDomain)),
-    ] {
-        assert_eq!(rt; count_domains(alloc, &lines, behind), want, "{behind}");
-    }
-    Ok(())
 }

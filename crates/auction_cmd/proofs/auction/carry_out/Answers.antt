@@ -2,8 +2,8 @@
 use Rattle.std.proofs.Common.{map, refl, string_bytes, sym}
 use Rattle.auction_cmd.specs.Ends.Ends.{Usage, Repeated, Ran, Checked, Verified, Sought, Made, Exported, Imported}
 use Rattle.auction_cmd.specs.Program.ProgramEnds.{Single, Resumed, Batched}
-use Rattle.auction_cmd.specs.Words.{batch_seen, export_seen, import_seen, inputs_seen, make_seen, names_seen, resume_seen, seek_seen, verify_seen}
-use Rattle.auction_cmd.proofs.NumberLemmas.{command-sized, import-valued, resume-valued}
+use Rattle.command_words.specs.Words.{batch_seen, export_seen, import_seen, inputs_seen, make_seen, names_seen, resume_seen, seek_seen, verify_seen}
+use Rattle.command_words.proofs.NumberLemmas.{command-sized, import-valued, resume-valued}
 use Rattle.auction_cmd.proofs.PlanLemmas.{plan-none, plan-batches, plan-checks, plan-exported_twice, plan-exports, plan-imported_twice, plan-imports, plan-made_twice, plan-makes, plan-repeats, plan-resumed_twice, plan-resumes, plan-runs, plan-seeks, plan-sought_twice, plan-verifies}
 use Rattle.auction_cmd.proofs.auction.carry_out.Goals as goal
 

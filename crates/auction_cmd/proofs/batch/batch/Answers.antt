@@ -2,13 +2,14 @@
 use Rattle.std.proofs.Common.{◌≡◌, ◌∙◌, Some, refl, ap, subst, inl}
 use Rattle.std.specs.Prelude.{Err, None}
 use Rattle.batch_list.specs.Repeated.{repeated_result}
-use Rattle.auction_cmd.specs.Batch.{HeldBatch, Twice, Unread, batch_status, batch_texts, inputs_with, listing_of, listed_seen, status_lines, names_in_words}
+use Rattle.auction_cmd.specs.Batch.{HeldBatch, Twice, Unread, batch_status, batch_texts, listing_of, listed_seen, status_lines, names_in_words}
+use Rattle.command_words.specs.Words.{inputs_with}
 use Rattle.auction_cmd.specs.BatchEnds.{AreRecordsOf}
 use Rattle.auction_cmd.specs.BatchEnds.BatchEnds.{BatchStopped, BatchRan}
 use Rattle.auction_cmd.specs.Delivery.{Delivers}
 use Rattle.auction_cmd.specs.Inputs.{Agrees}
 use Rattle.auction_cmd.specs.Outside.{outside}
-use Rattle.auction_cmd.specs.Words.{batch_seen}
+use Rattle.command_words.specs.Words.{batch_seen}
 use Rattle.auction_cmd.specs.declared.batch_inputs.Listed.{Listed}
 use Rattle.auction_cmd.proofs.BatchEndLemmas.{held-batch, listing-counts, stopped-each, stops-listing, stops-twice}
 use Rattle.auction_cmd.proofs.DeliveryLemmas.{delivers-since}

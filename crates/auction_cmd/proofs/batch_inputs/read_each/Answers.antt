@@ -6,10 +6,11 @@ use Rattle.auction_core.specs.Setup.{IsOfAuction}
 use Rattle.batch_list.specs.ListOf.{ListedNames}
 use Rattle.auction_cmd.specs.declared.inputs.Inputs.{Inputs}
 use Rattle.auction_cmd.specs.declared.inputs.Stop.TheVariants.{NoMemory}
-use Rattle.auction_cmd.specs.Batch.{Unread, each_inputs, inputs_beside, inputs_with}
+use Rattle.auction_cmd.specs.Batch.{Unread, each_inputs, inputs_beside}
+use Rattle.command_words.specs.Words.{inputs_with}
 use Rattle.auction_cmd.specs.BatchEnds.{StopsAsHeld}
 use Rattle.auction_cmd.specs.Inputs.{Agrees, CountsFault}
-use Rattle.auction_cmd.specs.Words.{batch_seen}
+use Rattle.command_words.specs.Words.{batch_seen}
 use Rattle.auction_cmd.proofs.BatchEndLemmas.{behind, each-begins, each-ends, each-next, each-stops, long-more}
 use Rattle.auction_cmd.proofs.batch_inputs.read_each.Goals as goal
 

@@ -3,7 +3,7 @@ use Rattle.std.proofs.Common.{◌≡◌, ◌≤◌, All, List, Some, drop, lengt
 use Rattle.outside_io.specs.Files.{StoredFile}
 use Rattle.auction_core.specs.Setup.{IsOfAuction}
 use Rattle.auction_cmd.specs.Batch.{each_inputs}
-use Rattle.auction_cmd.specs.Words.{batch_seen}
+use Rattle.command_words.specs.Words.{batch_seen}
 use Rattle.auction_cmd.proofs.BatchEndLemmas.{behind}
 use Rattle.auction_cmd.proofs.batch_inputs.read_each.Given as goal
 

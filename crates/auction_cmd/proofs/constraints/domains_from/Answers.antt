@@ -2,7 +2,7 @@ use Rattle.std.proofs.Common.{[]}
 use Rattle.std.proofs.lemmas.Result.{err_from_is_err_and}
 use Rattle.constraint_files.specs.Domains.{domains_fed, domains_of}
 use Rattle.auction_cmd.specs.Inputs.{file_of, rows_read}
-use Rattle.auction_cmd.specs.declared.refusal.Input.TheVariants.{Domains}
+use Rattle.command_words.specs.declared.run_words.Input.TheVariants.{Domains}
 use Rattle.auction_cmd.proofs.FeedLemmas.{from-fails, from-ok, from-refused}
 use Rattle.auction_cmd.proofs.constraints.domains_from.Goals as goal
 

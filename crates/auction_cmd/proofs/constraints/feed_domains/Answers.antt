@@ -5,7 +5,7 @@ use Rattle.constraint_files.specs.Domains.{domains_fed, domains_of}
 use Rattle.constraint_files.proofs.PieceLaws.{domains-refused}
 use Rattle.auction_cmd.specs.Inputs.{refused_by, rows_read}
 use Rattle.auction_cmd.specs.Pieces.{IsFed}
-use Rattle.auction_cmd.specs.declared.refusal.Input.TheVariants.{Domains}
+use Rattle.command_words.specs.declared.run_words.Input.TheVariants.{Domains}
 use Rattle.auction_cmd.proofs.FeedLemmas.{feed-step, feed-end, feed-fails, feed-refused}
 use Rattle.auction_cmd.proofs.constraints.feed_domains.Goals as goal
 

@@ -5,7 +5,7 @@ use Rattle.constraint_files.specs.Rows.{pairs_fed, pairs_of}
 use Rattle.constraint_files.proofs.PieceLaws.{pairs-refused}
 use Rattle.auction_cmd.specs.Inputs.{refused_by, rows_read}
 use Rattle.auction_cmd.specs.Pieces.{IsFed}
-use Rattle.auction_cmd.specs.declared.refusal.Input.TheVariants.{Rows}
+use Rattle.command_words.specs.declared.run_words.Input.TheVariants.{Rows}
 use Rattle.auction_cmd.proofs.FeedLemmas.{feed-step, feed-end, feed-fails, feed-refused}
 use Rattle.auction_cmd.proofs.constraints.feed_pairs.Goals as goal
 

@@ -1,7 +1,7 @@
 -- Each end, from what its steps did: the outside is what it was until the formula is stored, or a line is said.
 use Rattle.std.proofs.Common.{refl, sym}
 use Rattle.auction_cmd.specs.Ends.ExportEnds.{Unshown, FormulaStored, FormulaNotStored}
-use Rattle.auction_cmd.specs.Words.{export_seen}
+use Rattle.command_words.specs.Words.{export_seen}
 use Rattle.auction_cmd.proofs.ShownLemmas.{no-step, not-stored-so, stored-so}
 use Rattle.auction_cmd.proofs.export.export.Goals as goal
 

@@ -1,7 +1,7 @@
 -- Each end, from what its steps did: the outside is what it was until the log is loaded.
 use Rattle.std.proofs.Common.{refl, sym}
 use Rattle.auction_cmd.specs.Ends.ImportEnds.{NothingShown}
-use Rattle.auction_cmd.specs.Words.{import_seen}
+use Rattle.command_words.specs.Words.{import_seen}
 use Rattle.auction_cmd.proofs.ImportEndLemmas.{no-log-counted-since, no-log-since, no-open-step, not-settled-since, settled-since}
 use Rattle.auction_cmd.proofs.import.import.Goals as goal
 

@@ -2,7 +2,7 @@
 use Rattle.std.proofs.Common.{◌∙◌, subst}
 use Rattle.std.specs.Prelude.{Err}
 use Rattle.auction_cmd.specs.Resumption.{IsResumption, begun}
-use Rattle.auction_cmd.specs.Words.{resume_seen}
+use Rattle.command_words.specs.Words.{resume_seen}
 use Rattle.auction_cmd.proofs.ResumeEndLemmas.{not-begun, prefix-unloaded}
 use Rattle.auction_cmd.proofs.resume.resumable.Goals as goal
 

@@ -1,5 +1,5 @@
 -- The auction went on, and concludes.
-use Rattle.auction_cmd.specs.Words.{resume_seen}
+use Rattle.command_words.specs.Words.{resume_seen}
 use Rattle.auction_cmd.proofs.ResumeEndLemmas.{went-on}
 use Rattle.auction_cmd.proofs.resume.resume.Goals as goal
 

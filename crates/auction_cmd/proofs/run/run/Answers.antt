@@ -1,7 +1,7 @@
 -- The auction of the inputs concludes, where they were read and there was memory.
 use Rattle.std.proofs.Common.{refl}
 use Rattle.auction_cmd.specs.Records.{run_order}
-use Rattle.auction_cmd.specs.Words.{names_seen}
+use Rattle.command_words.specs.Words.{names_seen}
 use Rattle.auction_cmd.proofs.EndLemmas.{own-ended}
 use Rattle.auction_cmd.proofs.RunEndLemmas.{run-concludes}
 use Rattle.auction_cmd.proofs.run.run.Goals as goal

@@ -5,7 +5,7 @@ use Rattle.auction_cmd.specs.Delivery.{named}
 use Rattle.auction_cmd.specs.Ends.SeekEnds.{SeekStopped, NoTop, TopOpen, TopFound}
 use Rattle.auction_cmd.specs.Records.{IsOpenRecordOf, IsRefutedRecordOf}
 use Rattle.auction_cmd.specs.Seek.{IsFoundTop, IsLeastTop, base_of, inputs_at, top_status, top_text}
-use Rattle.auction_cmd.specs.Words.{inputs_seen, seek_seen}
+use Rattle.command_words.specs.Words.{inputs_seen, seek_seen}
 use Rattle.auction_cmd.proofs.DeliveryLemmas.{delivers-since}
 use Rattle.auction_cmd.proofs.SeekLemmas.{stop-agrees, stop-counts}
 use Rattle.auction_cmd.proofs.seek.seek.Goals as goal

@@ -1,6 +1,6 @@
 -- Each end, from what its steps did.
 use Rattle.std.proofs.Common.{◌∙◌}
-use Rattle.auction_cmd.specs.Words.{verify_seen}
+use Rattle.command_words.specs.Words.{verify_seen}
 use Rattle.auction_cmd.proofs.TranscriptLemmas.{denied-ends, unloaded-ends}
 use Rattle.auction_cmd.proofs.shown.shown_by.Goals as goal
 

@@ -1,7 +1,7 @@
 -- Each end, from what its steps did: the outside is what it was until the result is printed.
 use Rattle.std.proofs.Common.{◌∙◌, refl}
 use Rattle.auction_cmd.specs.Delivery.IsPrinted.{Written, CutShort}
-use Rattle.auction_cmd.specs.Words.{verify_seen}
+use Rattle.command_words.specs.Words.{verify_seen}
 use Rattle.auction_cmd.proofs.EndLemmas.{cut-over}
 use Rattle.auction_cmd.proofs.SaysLemmas.{says-write}
 use Rattle.auction_cmd.proofs.ShownLemmas.{sound-printed}

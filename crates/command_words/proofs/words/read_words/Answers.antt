@@ -1,9 +1,9 @@
 -- The words have no fault, so their command is the one that `clap` found; or `clap` has a fault for them.
 use Rattle.std.proofs.Common.{Some, None, map, string_bytes}
 use Rattle.clap.specs.Words.{app_of, subcommand_rows_of}
-use Rattle.auction_cmd.specs.Words.{command_seen}
-use Rattle.auction_cmd.proofs.WordsLemmas.{command-from, refused-from}
-use Rattle.auction_cmd.proofs.words.read_words.Goals as goal
+use Rattle.command_words.specs.Words.{command_seen}
+use Rattle.command_words.proofs.WordsLemmas.{command-from, refused-from}
+use Rattle.command_words.proofs.words.read_words.Goals as goal
 
 pub returns-in-Some-clause-command : goal.returns-in-Some-clause-command
 returns-in-Some-clause-command c =

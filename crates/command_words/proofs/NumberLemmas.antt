@@ -9,7 +9,7 @@ use Rattle.clap.specs.Walk.{is_empty}
 use Rattle.clap.specs.ValueTests.{is_unsigned_in}
 use Rattle.clap.specs.declared.builder.value_parser.ValueParser.TheVariants.{Unsigned}
 use Rattle.clap.proofs.ValueTestLemmas.{Accepts-accepts, accepts-Accepts}
-use Rattle.auction_cmd.specs.Words.{Command, run, check, verify, resume, seek, batch, make, export, import, ExportNames, ImportNames, InputNames, MakeNames, ResumeNames, RunNames, VerifyNames, batch_names, command_of, export_names, import_names, input_names, live_names, make_names, named_command, number_within, program_app, resume_names, run_names, seed_limit, seek_names, shown_by_names, size_limit, step_limit, step_named, verify_names, given_value}
+use Rattle.command_words.specs.Words.{Command, run, check, verify, resume, seek, batch, make, export, import, ExportNames, ImportNames, InputNames, MakeNames, ResumeNames, RunNames, VerifyNames, batch_names, command_of, export_names, import_names, input_names, live_names, make_names, named_command, number_within, program_app, resume_names, run_names, seed_limit, seek_names, shown_by_names, size_limit, step_limit, step_named, verify_names, given_value}
 
 number-in : (least most : ℕ) (text : List ℕ) → IsUnsignedIn least most text → number_within least most text ≡ Some (digits_value 10 (without_leading_plus text))
 number-in least most text h =

@@ -5,12 +5,22 @@ ghost use Rattle.std.specs.Prelude.{◌≡◌, IfOk, codes, count_by, false, map
 ghost use Rattle.std.specs.Str.{bytes_eq};
 ghost use Rattle.clap.specs.Words.{app_of, first_of, found_of, new_app, rows_of, rule_of};
 ghost use Rattle.clap.specs.declared.builder.command.Command.TheViews.{out-Command};
-ghost use Rattle.auction_cmd.specs.Refusals.{name_of};
-ghost use Rattle.auction_cmd.specs.Words.{check_app, constraint_ids, input_ids, input_names, inputs_seen, is_repeated_in, live_app, live_ids, live_names, names_seen, repeated_output, required_rule, run_app, run_names, shown_by_names, shown_ids, verify_app, verify_live_app, verify_names, verify_seen, with_required};
+ghost use Rattle.command_words.specs.Words.{name_of};
+ghost use Rattle.command_words.specs.Words.{check_app, constraint_ids, input_ids, input_names, inputs_seen, is_repeated_in, live_app, live_ids, live_names, names_seen, repeated_output, required_rule, run_app, run_names, shown_by_names, shown_ids, verify_app, verify_live_app, verify_names, verify_seen, with_required};
 
-use crate::refusal::Input;
 use clap::{Arg, ArgMatches, Command};
 use std::alloc::{AllocError, Global};
+
+/// An input file.
+#[derive(Clone, Copy, Debug, PartialEq, Eq)]
+pub enum Input {
+    Domains,
+    Rows,
+    Scenario,
+    Owners,
+    /// The list of a batch.
+    List,
+}
 
 /// The names of the input files, as they are given.
 #[derive(Clone, Copy, Debug, PartialEq, Eq)]

@@ -3,7 +3,7 @@
 ghost use Rattle.std.specs.Prelude.{◌≡◌, IfOk, false, option_map};
 ghost use Rattle.clap.specs.Words.{app_of, found_of, rows_of};
 ghost use Rattle.clap.specs.declared.builder.command.Command.TheViews.{out-Command};
-ghost use Rattle.auction_cmd.specs.Words.{inputs_seen, is_repeated_among, repeated_seek, seek_app, seek_inputs, seek_names, seek_seen, sought_names};
+ghost use Rattle.command_words.specs.Words.{inputs_seen, is_repeated_among, repeated_seek, seek_app, seek_inputs, seek_names, seek_seen, sought_names};
 
 use crate::run_words::{InputArgs, input_args, input_command, required, times_in, value_of};
 use clap::{ArgMatches, Command};

@@ -3,7 +3,7 @@
 ghost use Rattle.std.specs.Prelude.{◌≡◌, IfOk, false, option_map};
 ghost use Rattle.clap.specs.Words.{app_of, found_of, rows_of};
 ghost use Rattle.clap.specs.declared.builder.command.Command.TheViews.{out-Command};
-ghost use Rattle.auction_cmd.specs.Words.{export_app, export_names, export_seen, exported_names, import_app, import_names, import_seen, imported_names, is_repeated_among, repeated_export, repeated_import, step_app, step_named};
+ghost use Rattle.command_words.specs.Words.{export_app, export_names, export_seen, exported_names, import_app, import_names, import_seen, imported_names, is_repeated_among, repeated_export, repeated_import, step_app, step_named};
 
 use crate::make_words::{count_in, number};
 use crate::run_words::{VerifyArgs, required, shown_command, times_in, value_of, verify_args};

@@ -3,7 +3,7 @@
 ghost use Rattle.std.specs.Prelude.{◌≡◌, IfOk, codes, false, option_map};
 ghost use Rattle.clap.specs.Words.{app_of, found_of, rows_of, rule_of};
 ghost use Rattle.clap.specs.declared.builder.command.Command.TheViews.{out-Command};
-ghost use Rattle.auction_cmd.specs.Words.{is_repeated_among, repeated_resume, required_rule, resume_app, resume_names, resume_seen, resumed_names};
+ghost use Rattle.command_words.specs.Words.{is_repeated_among, repeated_resume, required_rule, resume_app, resume_names, resume_seen, resumed_names};
 
 use crate::run_words::{
     RunArgs, channels_name, input_args, input_command, required, result_name, run_args, times_in,

@@ -3,7 +3,7 @@
 ghost use Rattle.std.specs.Prelude.{◌≡◌, IfOk, false, option_map};
 ghost use Rattle.clap.specs.Words.{app_of, found_of, rows_of, rule_of};
 ghost use Rattle.clap.specs.declared.builder.command.Command.TheViews.{out-Command};
-ghost use Rattle.auction_cmd.specs.Words.{is_repeated_among, made_names, make_app, make_names, make_seen, number_rule, number_within, numbers_app, repeated_made, seed_limit};
+ghost use Rattle.command_words.specs.Words.{is_repeated_among, made_names, make_app, make_names, make_seen, number_rule, number_within, numbers_app, repeated_made, seed_limit};
 
 use crate::run_words::{InputArgs, input_args, required, times_in, value_of};
 use clap::builder::ValueParser;

@@ -6,7 +6,7 @@ use Rattle.clap.specs.Words.{App, HasKind, Kinds, Row, Text, fault_of, is_simple
 use Rattle.clap.specs.Walk.{is_empty}
 use Rattle.clap.specs.declared.error.Error.{Error}
 use Rattle.clap.specs.declared.error.kind.ErrorKind.TheVariants.{OutOfMemory}
-use Rattle.auction_cmd.specs.Words.{Command, command_of, named_command, program_app}
+use Rattle.command_words.specs.Words.{Command, command_of, named_command, program_app}
 
 -- what any such program makes of words that it has no fault for
 command-by : (p : App) (words : List Text) (rows : Option (Text × List Row)) (order : Option Command) → fault_of p words ≡ [] → rows ≡ subcommand_of p words → order ≡ option_and_then named_command rows →

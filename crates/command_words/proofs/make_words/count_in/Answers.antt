@@ -1,8 +1,8 @@
 -- The count is the number that the text is, where it is in its bounds.
 use Rattle.std.proofs.Common.{arith}
 use Rattle.std.proofs.lemmas.Bool.Decides.{nat_tests}
-use Rattle.auction_cmd.proofs.NumberLemmas.{parsed-in, unparsed}
-use Rattle.auction_cmd.proofs.make_words.count_in.Goals as goal
+use Rattle.command_words.proofs.NumberLemmas.{parsed-in, unparsed}
+use Rattle.command_words.proofs.make_words.count_in.Goals as goal
 
 pub returns-in_default : goal.returns-in_default
 returns-in_default c = unparsed 32 1 c.args.most c.args.text.now c.parse.result c.in_default.field-0 c.parse.ensures.value.0 c.in_default.is (omega arith)

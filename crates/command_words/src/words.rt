@@ -3,7 +3,7 @@
 ghost use Rattle.std.specs.Prelude.{◌≡◌, ◌≢◌, IfErr, IfOk, None, Some, false, map, option_and_then, option_map, string_bytes};
 ghost use Rattle.clap.specs.Words.{app_of, kind_of, subcommand_rows_of};
 ghost use Rattle.clap.specs.declared.builder.command.Command.TheViews.{out-Command};
-ghost use Rattle.auction_cmd.specs.Words.{IsRefused, bare_app, batching_app, command_of, command_seen, live_reading_app, named_command, program_app, reading_app, resuming_app, seeking_app};
+ghost use Rattle.command_words.specs.Words.{IsRefused, bare_app, batching_app, command_of, command_seen, live_reading_app, named_command, program_app, reading_app, resuming_app, seeking_app};
 
 use crate::batch_words::{BatchArgs, batch_args, batch_command};
 use crate::make_words::{MakeArgs, make_args, make_command};

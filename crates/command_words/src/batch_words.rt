@@ -3,8 +3,8 @@
 ghost use Rattle.std.specs.Prelude.{◌≡◌, IfOk, false, option_map};
 ghost use Rattle.clap.specs.Words.{app_of, found_of, rows_of};
 ghost use Rattle.clap.specs.declared.builder.command.Command.TheViews.{out-Command};
-ghost use Rattle.auction_cmd.specs.Batch.{inputs_with};
-ghost use Rattle.auction_cmd.specs.Words.{batch_app, batch_names, batch_seen, inputs_seen};
+ghost use Rattle.command_words.specs.Words.{inputs_with};
+ghost use Rattle.command_words.specs.Words.{batch_app, batch_names, batch_seen, inputs_seen};
 
 use crate::run_words::{InputArgs, constraint_command, required, value_of};
 use clap::{ArgMatches, Command};

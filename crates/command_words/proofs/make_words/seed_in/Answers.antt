@@ -1,8 +1,8 @@
 -- The seed is the number that the text is.
 use Rattle.std.proofs.Common.{arith}
-use Rattle.auction_cmd.specs.Words.{seed_limit}
-use Rattle.auction_cmd.proofs.NumberLemmas.{parsed-fits, parsed-in, unparsed}
-use Rattle.auction_cmd.proofs.make_words.seed_in.Goals as goal
+use Rattle.command_words.specs.Words.{seed_limit}
+use Rattle.command_words.proofs.NumberLemmas.{parsed-fits, parsed-in, unparsed}
+use Rattle.command_words.proofs.make_words.seed_in.Goals as goal
 
 pub returns-in-Ok : goal.returns-in-Ok
 returns-in-Ok c =

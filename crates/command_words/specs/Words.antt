@@ -1,5 +1,6 @@
 -- What the words of the command line ask for, by the definition that `clap` gives of a simple command.
 use Rattle.std.specs.Prelude.{ℕ, Bool, true, List, [], ◌∷◌, ◌++◌, Option, Some, None, codes, count_by, find, if◌then◌else◌, nat_lt, option_and_then, option_map, ⊤}
+use Rattle.std.specs.Option.{option_map_or}
 use Rattle.std.specs.Str.{bytes_eq}
 use Rattle.std.specs.Str.Parse.{digits_value, without_leading_plus}
 use Rattle.clap.specs.Words.{App, Row, Rule, Text, fault_of, first_of, new_app, new_rule, subcommand_of, with_rule, with_subcommand}
@@ -8,19 +9,21 @@ use Rattle.clap.specs.Walk.{is_empty}
 use Rattle.clap.specs.ValueTests.{is_unsigned_in}
 use Rattle.clap.specs.declared.builder.value_parser.ValueParser.TheVariants.{Unsigned}
 use Rattle.scenario_make.specs.declared.limits.TheConstants.{MOST_MADE}
-use Rattle.auction_cmd.specs.declared.batch_words.BatchArgs.{BatchArgs}
-use Rattle.auction_cmd.specs.declared.make_words.MakeArgs.{MakeArgs}
-use Rattle.auction_cmd.specs.declared.proof_words.ExportArgs.{ExportArgs}
-use Rattle.auction_cmd.specs.declared.proof_words.ImportArgs.{ImportArgs}
-use Rattle.auction_cmd.specs.declared.resume_words.ResumeArgs.{ResumeArgs}
-use Rattle.auction_cmd.specs.declared.seek_words.SeekArgs.{SeekArgs}
-use Rattle.auction_cmd.specs.declared.run_words.InputArgs.{InputArgs}
-use Rattle.auction_cmd.specs.declared.run_words.RunArgs.{RunArgs}
-use Rattle.auction_cmd.specs.declared.run_words.VerifyArgs.{VerifyArgs}
-use Rattle.auction_cmd.specs.declared.words.CommandArgs.{CommandArgs}
-use Rattle.auction_cmd.specs.declared.words.CommandArgs.TheVariants.{Run, Check, Verify, Resume, Seek, Batch, Make, Export, Import}
-use Rattle.auction_cmd.specs.declared.words.WordsFault.{WordsFault}
-use Rattle.auction_cmd.specs.declared.words.WordsFault.TheVariants.{NoMemory, Refused}
+use Rattle.command_words.specs.declared.batch_words.BatchArgs.{BatchArgs}
+use Rattle.command_words.specs.declared.make_words.MakeArgs.{MakeArgs}
+use Rattle.command_words.specs.declared.proof_words.ExportArgs.{ExportArgs}
+use Rattle.command_words.specs.declared.proof_words.ImportArgs.{ImportArgs}
+use Rattle.command_words.specs.declared.resume_words.ResumeArgs.{ResumeArgs}
+use Rattle.command_words.specs.declared.seek_words.SeekArgs.{SeekArgs}
+use Rattle.command_words.specs.declared.run_words.Input.{Input}
+use Rattle.command_words.specs.declared.run_words.Input.TheVariants.{Domains, Rows, Scenario as ScenarioFile, Owners as OwnersFile, List as ListFile}
+use Rattle.command_words.specs.declared.run_words.InputArgs.{InputArgs}
+use Rattle.command_words.specs.declared.run_words.RunArgs.{RunArgs}
+use Rattle.command_words.specs.declared.run_words.VerifyArgs.{VerifyArgs}
+use Rattle.command_words.specs.declared.words.CommandArgs.{CommandArgs}
+use Rattle.command_words.specs.declared.words.CommandArgs.TheVariants.{Run, Check, Verify, Resume, Seek, Batch, Make, Export, Import}
+use Rattle.command_words.specs.declared.words.WordsFault.{WordsFault}
+use Rattle.command_words.specs.declared.words.WordsFault.TheVariants.{NoMemory, Refused}
 
 -- the names of the input files; the owners' file has one where the auction is live
 pub record InputNames : Type 0 where
@@ -58,6 +61,19 @@ pub record BatchNames : Type 0 where
   pub domains : List ℕ
   pub rows : List ℕ
   pub list : List ℕ
+
+-- the name of an input file; where no owners' file is named, the scenario has what stands for it; and a batch's list stands in
+-- the place of a scenario until its scenarios are read
+abbrev pub name_of : InputNames → Input → List ℕ
+name_of names Domains = names.domains
+name_of names Rows = names.rows
+name_of names ScenarioFile = names.scenario
+name_of names OwnersFile = option_map_or (λ name. name) names.owners names.scenario
+name_of names ListFile = names.scenario
+
+-- the files of one auction of the batch: its constraint files, and this scenario
+abbrev pub inputs_with : BatchNames → List ℕ → InputNames
+inputs_with names scenario = record { domains = names.domains; rows = names.rows; scenario = scenario; owners = None }
 
 -- the seed and the size of `make`, and the names of the files that it stores
 pub record MakeNames : Type 0 where

@@ -1,0 +1,13 @@
+//! The words of the command line, as `clap` reads them: which command they are, and the names and numbers of its arguments.
+//!
+//! `auction_cmd` calls it, and carries the commands out. Read `words` and `run_words` first; each other module has the words of one
+//! command, or of two that are alike.
+#![tactic(auto)]
+
+pub mod batch_words;
+pub mod make_words;
+pub mod proof_words;
+pub mod resume_words;
+pub mod run_words;
+pub mod seek_words;
+pub mod words;
