@@ -317,8 +317,8 @@ const ORDERS: &[(&str, &str)] = &[
         "command make,18446744073709551615,4096,d,r,s",
     ),
     ("repack,make,+0,01,--,-d,,make", "command make,0,1,-d,,make"),
-    ("repack,--version", "repack 0.1.0\n"),
-    ("other,-V", "repack 0.1.0\n"),
+    ("repack,--version", "repack 1.0.0\n"),
+    ("other,-V", "repack 1.0.0\n"),
 ];
 
 #[test]

@@ -6,7 +6,8 @@ ghost use Rattle.clap.specs.declared.builder.command.Command.TheViews.{out-Comma
 ghost use Rattle.command_words.specs.Words.{inputs_with};
 ghost use Rattle.command_words.specs.Words.{batch_app, batch_names, batch_seen, inputs_seen};
 
-use crate::run_words::{InputArgs, constraint_command, required, value_of};
+use crate::file_args::{DOMAINS, FileArg, ROWS, file_command};
+use crate::run_words::{InputArgs, value_of};
 use clap::{ArgMatches, Command};
 use std::alloc::{AllocError, Global};
 
@@ -41,11 +42,11 @@ pub(crate) fn batch_command<'a>(alloc: Global) -> Result<Command<'a>, AllocError
     ensures local { IfOk result (λ c. (out-Command c).has_globals ≡ false) }
 {
     let about = "Runs the auctions of many scenarios and stores their results";
-    constraint_command(alloc, "batch", about)?.arg(required(
-        alloc,
-        "LIST",
-        "The auctions: lines of a scenario file and a file for its result",
-    ))
+    let list = FileArg {
+        id: "LIST",
+        help: "The auctions: lines of a scenario file and a file for its result",
+    };
+    file_command(alloc, "batch", about, &[DOMAINS, ROWS, list])
 }
 
 pub(crate) fn batch_args<'a>(matches: &ArgMatches<'a>) -> Option<BatchArgs<'a>>

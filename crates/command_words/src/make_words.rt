@@ -5,7 +5,8 @@ ghost use Rattle.clap.specs.Words.{app_of, found_of, rows_of, rule_of};
 ghost use Rattle.clap.specs.declared.builder.command.Command.TheViews.{out-Command};
 ghost use Rattle.command_words.specs.Words.{is_repeated_among, made_names, make_app, make_names, make_seen, number_rule, number_within, numbers_app, repeated_made, seed_limit};
 
-use crate::run_words::{InputArgs, input_args, required, times_in, value_of};
+use crate::file_args::{FileArg, required, with_files};
+use crate::run_words::{InputArgs, input_args, times_in, value_of};
 use clap::builder::ValueParser;
 use clap::{Arg, ArgMatches, Command};
 use scenario_make::limits::MOST_MADE;
@@ -92,14 +93,19 @@ pub(crate) fn make_command<'a>(alloc: Global) -> Result<Command<'a>, AllocError>
     ensures app { IfOk result (λ c. app_of c ≡ make_app) }
     ensures local { IfOk result (λ c. (out-Command c).has_globals ≡ false) }
 {
-    numbers_command(alloc)?
-        .arg(required(
-            alloc,
-            "DOMAINS",
-            "Where to store the channels of each station",
-        ))?
-        .arg(required(alloc, "ROWS", "Where to store what interferes"))?
-        .arg(required(alloc, "SCENARIO", "Where to store the auction's scenario"))
+    let domains = FileArg {
+        id: "DOMAINS",
+        help: "Where to store the channels of each station",
+    };
+    let rows = FileArg {
+        id: "ROWS",
+        help: "Where to store what interferes",
+    };
+    let scenario = FileArg {
+        id: "SCENARIO",
+        help: "Where to store the auction's scenario",
+    };
+    with_files(alloc, numbers_command(alloc)?, &[domains, rows, scenario])
 }
 
 // The seed that this text is.

@@ -5,8 +5,9 @@ ghost use Rattle.clap.specs.Words.{app_of, found_of, rows_of};
 ghost use Rattle.clap.specs.declared.builder.command.Command.TheViews.{out-Command};
 ghost use Rattle.command_words.specs.Words.{export_app, export_names, export_seen, exported_names, import_app, import_names, import_seen, imported_names, is_repeated_among, repeated_export, repeated_import, step_app, step_named};
 
+use crate::file_args::{DOMAINS, FileArg, ROWS, SCENARIO, SHOWN, file_command, with_files};
 use crate::make_words::{count_in, number};
-use crate::run_words::{VerifyArgs, required, shown_command, times_in, value_of, verify_args};
+use crate::run_words::{VerifyArgs, times_in, value_of, verify_args};
 use clap::{ArgMatches, Command};
 use std::alloc::{AllocError, Global};
 
@@ -107,7 +108,8 @@ fn step_command<'a>(alloc: Global, name: &'a str, about: &'a str) -> Result<Comm
     ensures app { IfOk result (λ c. app_of c ≡ step_app name.entry.now) }
     ensures local { IfOk result (λ c. (out-Command c).has_globals ≡ false) }
 {
-    shown_command(alloc, name, about)?.arg(number(
+    let shown = file_command(alloc, name, about, &[DOMAINS, ROWS, SCENARIO, SHOWN])?;
+    shown.arg(number(
         alloc,
         "STEP",
         1,
@@ -121,7 +123,11 @@ pub(crate) fn export_command<'a>(alloc: Global) -> Result<Command<'a>, AllocErro
     ensures local { IfOk result (λ c. (out-Command c).has_globals ≡ false) }
 {
     let about = "Writes the packing formula of a step's test as DIMACS CNF";
-    step_command(alloc, "export", about)?.arg(required(alloc, "CNF", "Where to store the formula"))
+    let formula = FileArg {
+        id: "CNF",
+        help: "Where to store the formula",
+    };
+    with_files(alloc, step_command(alloc, "export", about)?, &[formula])
 }
 
 pub(crate) fn import_command<'a>(alloc: Global) -> Result<Command<'a>, AllocError>
@@ -129,22 +135,20 @@ pub(crate) fn import_command<'a>(alloc: Global) -> Result<Command<'a>, AllocErro
     ensures local { IfOk result (λ c. (out-Command c).has_globals ≡ false) }
 {
     let about = "Settles an undecided step by a proof from outside, an LRAT log";
-    step_command(alloc, "import", about)?
-        .arg(required(
-            alloc,
-            "LRAT",
-            "The LRAT log, which refutes the formula that export stores",
-        ))?
-        .arg(required(
-            alloc,
-            "RESULT",
-            "Where to store the result that is then shown",
-        ))?
-        .arg(required(
-            alloc,
-            "NEWTRANSCRIPT",
-            "Where to store the transcript with the step settled",
-        ))
+    let proof = FileArg {
+        id: "LRAT",
+        help: "The LRAT log, which refutes the formula that export stores",
+    };
+    let result = FileArg {
+        id: "RESULT",
+        help: "Where to store the result that is then shown",
+    };
+    let transcript = FileArg {
+        id: "NEWTRANSCRIPT",
+        help: "Where to store the transcript with the step settled",
+    };
+    let files = [proof, result, transcript];
+    with_files(alloc, step_command(alloc, "import", about)?, &files)
 }
 
 // The number of the step.

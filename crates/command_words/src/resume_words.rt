@@ -1,15 +1,15 @@
 //! The words of `resume`: the files of a run, and the beginning of a transcript that it goes on from.
 
-ghost use Rattle.std.specs.Prelude.{◌≡◌, IfOk, codes, false, option_map};
-ghost use Rattle.clap.specs.Words.{app_of, found_of, rows_of, rule_of};
+ghost use Rattle.std.specs.Prelude.{◌≡◌, IfOk, false, option_map};
+ghost use Rattle.clap.specs.Words.{app_of, found_of, rows_of};
 ghost use Rattle.clap.specs.declared.builder.command.Command.TheViews.{out-Command};
-ghost use Rattle.command_words.specs.Words.{is_repeated_among, repeated_resume, required_rule, resume_app, resume_names, resume_seen, resumed_names};
+ghost use Rattle.command_words.specs.Words.{is_repeated_among, repeated_resume, resume_app, resume_names, resume_seen, resumed_names};
 
-use crate::run_words::{
-    RunArgs, channels_name, input_args, input_command, required, result_name, run_args, times_in,
-    transcript_name, value_of,
+use crate::file_args::{
+    CHANNELS, DOMAINS, FileArg, RESULT, ROWS, SCENARIO, TRANSCRIPT, file_command,
 };
-use clap::{Arg, ArgMatches, Command};
+use crate::run_words::{RunArgs, input_args, run_args, times_in, value_of};
+use clap::{ArgMatches, Command};
 use std::alloc::{AllocError, Global};
 
 /// The arguments of `resume`, as they are given.
@@ -59,25 +59,19 @@ impl<'a> ResumeArgs<'a> {
     }
 }
 
-// The name of the file of a transcript's beginning.
-fn prefix_name<'a>(alloc: Global) -> Arg<'a>
-    ensures rule { rule_of result ≡ required_rule (codes "PREFIX") }
-    ensures local { result.global ≡ false }
-{
-    let help = "The beginning of a transcript of these inputs, cut anywhere";
-    required(alloc, "PREFIX", help)
-}
-
 pub(crate) fn resume_command<'a>(alloc: Global) -> Result<Command<'a>, AllocError>
     ensures app { IfOk result (λ c. app_of c ≡ resume_app) }
     ensures local { IfOk result (λ c. (out-Command c).has_globals ≡ false) }
 {
     let about = "Goes on with an auction from the beginning of its transcript";
-    input_command(alloc, "resume", about)?
-        .arg(prefix_name(alloc))?
-        .arg(result_name(alloc))?
-        .arg(channels_name(alloc))?
-        .arg(transcript_name(alloc))
+    let prefix = FileArg {
+        id: "PREFIX",
+        help: "The beginning of a transcript of these inputs, cut anywhere",
+    };
+    let files = [
+        DOMAINS, ROWS, SCENARIO, prefix, RESULT, CHANNELS, TRANSCRIPT,
+    ];
+    file_command(alloc, "resume", about, &files)
 }
 
 pub(crate) fn resume_args<'a>(matches: &ArgMatches<'a>) -> Option<ResumeArgs<'a>>

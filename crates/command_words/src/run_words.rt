@@ -1,14 +1,17 @@
 //! The words of `run`, `live`, `check`, `verify` and `verify-live`: the names of an auction's files, and the arguments that more
 //! commands take.
 
-ghost use Rattle.std.specs.Prelude.{◌≡◌, IfOk, codes, count_by, false, map, option_map};
+ghost use Rattle.std.specs.Prelude.{◌≡◌, IfOk, count_by, false, map, option_map};
 ghost use Rattle.std.specs.Str.{bytes_eq};
-ghost use Rattle.clap.specs.Words.{app_of, first_of, found_of, new_app, rows_of, rule_of};
+ghost use Rattle.clap.specs.Words.{app_of, first_of, found_of, rows_of};
 ghost use Rattle.clap.specs.declared.builder.command.Command.TheViews.{out-Command};
 ghost use Rattle.command_words.specs.Words.{name_of};
-ghost use Rattle.command_words.specs.Words.{check_app, constraint_ids, input_ids, input_names, inputs_seen, is_repeated_in, live_app, live_ids, live_names, names_seen, repeated_output, required_rule, run_app, run_names, shown_by_names, shown_ids, verify_app, verify_live_app, verify_names, verify_seen, with_required};
+ghost use Rattle.command_words.specs.Words.{check_app, input_names, inputs_seen, is_repeated_in, live_app, live_names, names_seen, repeated_output, run_app, run_names, shown_by_names, verify_app, verify_live_app, verify_names, verify_seen};
 
-use clap::{Arg, ArgMatches, Command};
+use crate::file_args::{
+    CHANNELS, DOMAINS, FileArg, OWNERS, RESULT, ROWS, SCENARIO, SHOWN, TRANSCRIPT, file_command,
+};
+use clap::{ArgMatches, Command};
 use std::alloc::{AllocError, Global};
 
 /// An input file.
@@ -125,105 +128,13 @@ pub(crate) fn times_in(names: &[&str], name: &str) -> usize
     names.iter().filter(|other| name == **other).count()
 }
 
-// An argument that has to be given, with its line of help.
-pub(crate) fn required<'a>(alloc: Global, name: &'a str, help: &'a str) -> Arg<'a>
-    ensures rule { rule_of result ≡ required_rule name.entry.now }
-    ensures local { result.global ≡ false }
-{
-    Arg::new(alloc, name).required(true).help(help)
-}
-
-// A command of this name that takes the names of the constraint files.
-pub(crate) fn constraint_command<'a>(
-    alloc: Global,
-    name: &'a str,
-    about: &'a str,
-) -> Result<Command<'a>, AllocError>
-    ensures app { IfOk result (λ c. app_of c ≡ with_required (new_app name.entry.now) constraint_ids) }
-    ensures local { IfOk result (λ c. (out-Command c).has_globals ≡ false) }
-{
-    Command::new(alloc, name)
-        .about(about)
-        .arg(required(
-            alloc,
-            "DOMAINS",
-            "The channels of each station, as in the FCC's Domain.csv",
-        ))?
-        .arg(required(
-            alloc,
-            "ROWS",
-            "What interferes, as in the FCC's Interference_Paired.csv",
-        ))
-}
-
-// A command of this name that takes the names of the input files.
-pub(crate) fn input_command<'a>(
-    alloc: Global,
-    name: &'a str,
-    about: &'a str,
-) -> Result<Command<'a>, AllocError>
-    ensures app { IfOk result (λ c. app_of c ≡ with_required (new_app name.entry.now) input_ids) }
-    ensures local { IfOk result (λ c. (out-Command c).has_globals ≡ false) }
-{
-    constraint_command(alloc, name, about)?.arg(required(
-        alloc,
-        "SCENARIO",
-        "The auction, as JSON: top channel, prices, stations, workers",
-    ))
-}
-
-// A command of this name that takes the names of the input files of a live auction.
-fn live_input_command<'a>(
-    alloc: Global,
-    name: &'a str,
-    about: &'a str,
-) -> Result<Command<'a>, AllocError>
-    ensures app { IfOk result (λ c. app_of c ≡ with_required (new_app name.entry.now) live_ids) }
-    ensures local { IfOk result (λ c. (out-Command c).has_globals ≡ false) }
-{
-    input_command(alloc, name, about)?.arg(required(
-        alloc,
-        "OWNERS",
-        "What the owners say: lines of round, facility, stay or leave",
-    ))
-}
-
-// The name of the file for the result of a run.
-pub(crate) fn result_name<'a>(alloc: Global) -> Arg<'a>
-    ensures rule { rule_of result ≡ required_rule (codes "RESULT") }
-    ensures local { result.global ≡ false }
-{
-    let help = "Where to store what became of each station and what it is paid";
-    required(alloc, "RESULT", help)
-}
-
-// The name of the file for its channels.
-pub(crate) fn channels_name<'a>(alloc: Global) -> Arg<'a>
-    ensures rule { rule_of result ≡ required_rule (codes "CHANNELS") }
-    ensures local { result.global ≡ false }
-{
-    let help = "Where to store the channel of each station on air";
-    required(alloc, "CHANNELS", help)
-}
-
-// The name of the file for its transcript.
-pub(crate) fn transcript_name<'a>(alloc: Global) -> Arg<'a>
-    ensures rule { rule_of result ≡ required_rule (codes "TRANSCRIPT") }
-    ensures local { result.global ≡ false }
-{
-    let help = "Where to store the transcript, which shows the result";
-    required(alloc, "TRANSCRIPT", help)
-}
-
 pub(crate) fn run_command<'a>(alloc: Global) -> Result<Command<'a>, AllocError>
     ensures app { IfOk result (λ c. app_of c ≡ run_app) }
     ensures local { IfOk result (λ c. (out-Command c).has_globals ≡ false) }
 {
     let about = "Runs the auction, stores its three outputs and prints the summary";
-    input_command(alloc, "run", about)?
-        .arg(result_name(alloc))?
-        .arg(channels_name(alloc))?
-        .arg(transcript_name(alloc))
+    let files = [DOMAINS, ROWS, SCENARIO, RESULT, CHANNELS, TRANSCRIPT];
+    file_command(alloc, "run", about, &files)
 }
 
 pub(crate) fn live_command<'a>(alloc: Global) -> Result<Command<'a>, AllocError>
@@ -231,10 +142,10 @@ pub(crate) fn live_command<'a>(alloc: Global) -> Result<Command<'a>, AllocError>
     ensures local { IfOk result (λ c. (out-Command c).has_globals ≡ false) }
 {
     let about = "Runs the auction by what the owners say in each round";
-    live_input_command(alloc, "live", about)?
-        .arg(result_name(alloc))?
-        .arg(channels_name(alloc))?
-        .arg(transcript_name(alloc))
+    let files = [
+        DOMAINS, ROWS, SCENARIO, OWNERS, RESULT, CHANNELS, TRANSCRIPT,
+    ];
+    file_command(alloc, "live", about, &files)
 }
 
 pub(crate) fn check_command<'a>(alloc: Global) -> Result<Command<'a>, AllocError>
@@ -242,23 +153,7 @@ pub(crate) fn check_command<'a>(alloc: Global) -> Result<Command<'a>, AllocError
     ensures local { IfOk result (λ c. (out-Command c).has_globals ≡ false) }
 {
     let about = "Checks the input files and prints their counts; stores nothing";
-    input_command(alloc, "check", about)
-}
-
-// A command of this name that takes the names of the files of an auction that was carried out.
-pub(crate) fn shown_command<'a>(
-    alloc: Global,
-    name: &'a str,
-    about: &'a str,
-) -> Result<Command<'a>, AllocError>
-    ensures app { IfOk result (λ c. app_of c ≡ with_required (new_app name.entry.now) shown_ids) }
-    ensures local { IfOk result (λ c. (out-Command c).has_globals ≡ false) }
-{
-    input_command(alloc, name, about)?.arg(required(
-        alloc,
-        "TRANSCRIPT",
-        "The transcript of an auction of these inputs",
-    ))
+    file_command(alloc, "check", about, &[DOMAINS, ROWS, SCENARIO])
 }
 
 pub(crate) fn verify_command<'a>(alloc: Global) -> Result<Command<'a>, AllocError>
@@ -266,7 +161,7 @@ pub(crate) fn verify_command<'a>(alloc: Global) -> Result<Command<'a>, AllocErro
     ensures local { IfOk result (λ c. (out-Command c).has_globals ≡ false) }
 {
     let about = "Checks a transcript and prints its result; stores nothing";
-    shown_command(alloc, "verify", about)
+    file_command(alloc, "verify", about, &[DOMAINS, ROWS, SCENARIO, SHOWN])
 }
 
 pub(crate) fn verify_live_command<'a>(alloc: Global) -> Result<Command<'a>, AllocError>
@@ -274,11 +169,16 @@ pub(crate) fn verify_live_command<'a>(alloc: Global) -> Result<Command<'a>, Allo
     ensures local { IfOk result (λ c. (out-Command c).has_globals ≡ false) }
 {
     let about = "Checks a live auction's transcript and prints its result";
-    live_input_command(alloc, "verify-live", about)?.arg(required(
+    let shown = FileArg {
+        id: "TRANSCRIPT",
+        help: "The transcript of a live auction of these inputs",
+    };
+    file_command(
         alloc,
-        "TRANSCRIPT",
-        "The transcript of a live auction of these inputs",
-    ))
+        "verify-live",
+        about,
+        &[DOMAINS, ROWS, SCENARIO, OWNERS, shown],
+    )
 }
 
 // The first value of an argument.

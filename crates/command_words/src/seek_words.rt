@@ -5,7 +5,8 @@ ghost use Rattle.clap.specs.Words.{app_of, found_of, rows_of};
 ghost use Rattle.clap.specs.declared.builder.command.Command.TheViews.{out-Command};
 ghost use Rattle.command_words.specs.Words.{inputs_seen, is_repeated_among, repeated_seek, seek_app, seek_inputs, seek_names, seek_seen, sought_names};
 
-use crate::run_words::{InputArgs, input_args, input_command, required, times_in, value_of};
+use crate::file_args::{DOMAINS, FileArg, ROWS, SCENARIO, file_command};
+use crate::run_words::{InputArgs, input_args, times_in, value_of};
 use clap::{ArgMatches, Command};
 use std::alloc::{AllocError, Global};
 
@@ -62,11 +63,11 @@ pub(crate) fn seek_command<'a>(alloc: Global) -> Result<Command<'a>, AllocError>
     ensures local { IfOk result (λ c. (out-Command c).has_globals ≡ false) }
 {
     let about = "Seeks the least top channel at which the start set fits";
-    input_command(alloc, "seek", about)?.arg(required(
-        alloc,
-        "CHANNELS",
-        "Where to store the channel of each station of the start set there",
-    ))
+    let channels = FileArg {
+        id: "CHANNELS",
+        help: "Where to store the channel of each station of the start set there",
+    };
+    file_command(alloc, "seek", about, &[DOMAINS, ROWS, SCENARIO, channels])
 }
 
 pub(crate) fn seek_args<'a>(matches: &ArgMatches<'a>) -> Option<SeekArgs<'a>>

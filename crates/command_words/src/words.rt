@@ -57,7 +57,7 @@ fn bare_program<'a>(alloc: Global) -> Result<Command<'a>, AllocError>
     ensures local { IfOk result (λ c. (out-Command c).has_globals ≡ false) }
 {
     let command = Command::new(alloc, "repack")
-        .version("0.1.0")
+        .version("1.0.0")
         .about("Runs the reverse clock auction that buys television stations off the air")
         .after_help("The files and the lines printed are described in docs/FORMATS.md.")
         .subcommand_required(true);
