@@ -1,4 +1,5 @@
 """The program that a script runs, built before, or proved and built in a copy of the crates."""
+import os
 import pathlib
 import shutil
 import subprocess
@@ -7,13 +8,21 @@ import sys
 TOP = pathlib.Path(__file__).resolve().parent.parent
 
 
+def started():
+    """The program that `./repack` starts. Where it would have to build one first, the script ends."""
+    found = subprocess.run([TOP / "release" / "find"], env={**os.environ, "REPACK_BUILD": "0"}, stdout=subprocess.PIPE, text=True)
+    if found.returncode:
+        sys.exit("./repack --version builds the program")
+    return pathlib.Path(found.stdout.strip()).resolve()
+
+
 def told(words):
-    """What a script is told by these words, of which `--program` names the program, built before."""
-    at = TOP / "crates" / "auction_cli" / "out" / "auction_cli"
-    words.add_argument("--program", type=lambda path: pathlib.Path(path).resolve(), default=at, help="the program, built before")
+    """What a script is told by these words, of which `--program` names the program; else it is the one that `./repack` starts."""
+    words.add_argument("--program", type=lambda path: pathlib.Path(path).resolve(), help="the program (the one that ./repack starts)")
     given = words.parse_args()
+    given.program = given.program or started()
     if not given.program.exists():
-        sys.exit(f"{given.program} isn't there: ./repack --version builds it")
+        sys.exit(f"{given.program} isn't there")
     return given
 
 

@@ -26,7 +26,8 @@ def names():
         for test in unit.tests:
             subject = subject_of(unit, test)
             found[subject] = found.get(subject, 0) + 1
-    return {**dict(sorted(found.items())), "examples": None, "limits": None, "memory": None, "hostile": 1, "mutants": 1, "scripts": len(shell_scripts())}
+    known = {"hostile": 1, "mutants": 1, "scripts": len(shell_scripts())}
+    return {**dict(sorted(found.items())), **{name: known.get(name) for name in OTHERS}}
 
 
 def subject_of(unit, test):
@@ -114,8 +115,9 @@ def by_status(name):
 
 
 def has_program():
-    """Whether the program is built, and of these sources."""
-    return subprocess.run([TOP / "repack", "--version"], env={"REPACK_BUILD": "0", "PATH": "/usr/bin:/bin"}, capture_output=True, check=False).returncode == 2
+    """Whether there is a program of these sources, the release's or one that was built."""
+    own = {"REPACK_BUILD": "0", "PATH": "/usr/bin:/bin"}
+    return subprocess.run([TOP / "release" / "find"], env=own, capture_output=True, check=False).returncode == 0
 
 
 def program_job(name, weight, words, read):
@@ -125,7 +127,12 @@ def program_job(name, weight, words, read):
     return Job(name, weight, words, str(TOP), read)
 
 
-def cases(name, weight, script):
+def plain_job(name, weight, words, read):
+    """A job that needs no program."""
+    return Job(name, weight, words, str(TOP), read)
+
+
+def cases(name, weight, script, make=program_job):
     """The job of a script that prints `ok NAME` or `FAILED NAME` of each case, and then, four spaces in, why it failed."""
 
     def read(printed, status):
@@ -133,7 +140,7 @@ def cases(name, weight, script):
         is_told = status == 0 or any(result.outcome == "failed" for result in found)
         return found if found and is_told else [*found, *by_status(name)(printed, 1)]
 
-    return program_job(name, weight, (script,), read)
+    return make(name, weight, (script,), read)
 
 
 def memory():
@@ -161,7 +168,7 @@ def mutants():
 
 def shell_scripts():
     """The shell scripts of the repository."""
-    places = [TOP / "repack", *sorted((TOP / ".ci").iterdir()), *sorted((TOP / "tests").iterdir()), *sorted((TOP / "benchmarks").iterdir())]
+    places = [TOP / "repack", *(place for folder in (".ci", "release", "tests", "benchmarks") for place in sorted((TOP / folder).iterdir()))]
     return [place for place in places if place.is_file() and place.read_bytes().startswith(b"#!/bin/sh")]
 
 
@@ -176,9 +183,13 @@ def script_job(script):
 # What is run beside the units, by subject.
 OTHERS = {
     "examples": lambda: [cases("examples", 50, "tests/examples")],
+    "launcher": lambda: [cases("launcher", 55, "tests/launcher")],
     "limits": lambda: [cases("limits", 60, "tests/limits")],
+    "release": lambda: [cases("release", 45, "tests/release")],
+    "installed": lambda: [cases("installed", 40, "tests/installed")],
     "memory": lambda: [memory()],
     "hostile": lambda: [hostile()],
     "mutants": lambda: [mutants()],
+    "documents": lambda: [cases("documents", 2, "tests/documents", plain_job)],
     "scripts": lambda: [script_job(script) for script in shell_scripts()],
 }
