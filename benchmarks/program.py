@@ -17,7 +17,7 @@ def started():
 
 
 def told(words):
-    """What a script is told by these words, of which `--program` names the program; else it is the one that `./repack` starts."""
+    """The arguments of a script, `--program` added: the program, which is the one that `./repack` starts where none is named."""
     words.add_argument("--program", type=lambda path: pathlib.Path(path).resolve(), help="the program (the one that ./repack starts)")
     given = words.parse_args()
     given.program = given.program or started()
