@@ -8,10 +8,8 @@ could not be stored or would be stored over an input; the line and the status ar
 
 The launcher never reads standard input, never writes a file, and never shows a traceback: where the help fails, nothing is said.
 """
-import errno
 import io
 import os
-import signal
 import sys
 
 # The folder of the sources stays as it is, and its modules are found with `-I` too.
@@ -110,6 +108,16 @@ def notes_of(command, status, printed, given):
     return outputs.notes(command, given, status in (0, 1) and os.isatty(2))
 
 
+def members_of(status, given):
+    """What is said of the members of a scenario that an auction was carried out or checked by."""
+    names = [name for argument, name in given if argument.name == "SCENARIO" and not argument.is_output]
+    if not names or status not in (0, 1, 6, 7):
+        return b""
+    import members
+
+    return members.notes(names[0])
+
+
 def say_after(words, status, flow, given):
     """Says what is to be said after a run."""
     printed = flow.printed
@@ -120,6 +128,7 @@ def say_after(words, status, flow, given):
     elif is_elsewhere():
         say(repeated(status, printed))
     say(tried(hints_of, status, printed, given) or b"")
+    say(tried(members_of, status, given) or b"")
     say(tried(notes_of, words[0] if words else "", status, printed, given) or b"")
 
 
@@ -137,9 +146,6 @@ def main():
     ended, flow = processes.run(program, words)
     if ended.si_code != os.CLD_EXITED:
         processes.die_by(ended.si_status)
-    if getattr(flow.error, "errno", None) == errno.EFBIG:
-        # A write beyond the limit of `ulimit -f` would have ended the program so.
-        processes.die_by(signal.SIGXFSZ)
     status = status_of(ended, flow)
     tried(say_after, words, status, flow, given)
     os._exit(status)

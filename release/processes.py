@@ -76,9 +76,8 @@ def become(program, words, write_end, mask, prctl, launcher):
 
 def replace(program, words):
     """Runs the program in the place of this process. Never returns."""
-    # Python ignores these signals, and the program would too.
+    # Python ignores this signal, and the program would too. That of a file's greatest size stays ignored: the program tells it.
     signal.signal(signal.SIGPIPE, signal.SIG_DFL)
-    signal.signal(signal.SIGXFSZ, signal.SIG_DFL)
     try:
         os.execv(program, [program, *words])
     except OSError as error:

@@ -1,5 +1,6 @@
 """The subjects of the tests, and the jobs that run them."""
 import difflib
+import os
 import re
 import shutil
 import subprocess
@@ -16,7 +17,7 @@ NO_RT = "the toolchain's command rt is not on the path"
 NO_SHELLCHECK = "shellcheck is not installed"
 ENDED = re.compile(r"^test (\S+) \.\.\. (\w+)\n((?:    .*\n)*)", re.M)
 CASE = re.compile(r"^(ok|FAILED) (.*)\n((?:    .*\n)*)", re.M)
-GROWTHS = re.compile(r"^(.*): \d+ growths.*, (\d+) otherwise$", re.M)
+GROWTHS = re.compile(r"^(.*): (\d+) growths.*, (\d+) otherwise$", re.M)
 
 
 def names():
@@ -79,7 +80,8 @@ def unit_job(copy, unit, own):
         return Job(unit.name, 0, (), str(TOP), lambda printed, status: [skipped(name_in(unit, test), NO_RT) for test in own])
     # A single filter is passed on; the program knows no more than one.
     alone = own if len(own) == 1 else ()
-    words = ("rt", "try", "--test", "--steps", "1", "--seconds", str(SECONDS), *(["--", *alone] if alone else []))
+    path = f"PATH={TOP / 'tests' / 'runner' / 'bin'}:{os.environ['PATH']}"
+    words = ("env", path, "rt", "try", "--test", "--steps", "1", "--seconds", str(SECONDS), *(["--", *alone] if alone else []))
     weight = 100 + len(unit.calls.split())
     return Job(unit.name, weight, words, str(copy() / "crates" / unit.name), lambda printed, status: results_of(unit, own, printed))
 
@@ -148,8 +150,10 @@ def memory():
 
     def read(printed, status):
         found = []
-        for name, otherwise in GROWTHS.findall(printed):
-            found.append(Result(f"memory: {name}", "memory", "failed" if int(otherwise) else "passed", last_lines(printed)))
+        for name, growths, otherwise in GROWTHS.findall(printed):
+            # Of a program whose growths aren't seen none is refused.
+            is_good = int(growths) > 0 and int(otherwise) == 0
+            found.append(Result(f"memory: {name}", "memory", "passed" if is_good else "failed", last_lines(printed)))
         is_told = status == 0 or any(result.outcome == "failed" for result in found)
         return found if found and is_told else [*found, *by_status("memory")(printed, 1)]
 
@@ -185,6 +189,7 @@ OTHERS = {
     "examples": lambda: [cases("examples", 50, "tests/examples")],
     "launcher": lambda: [cases("launcher", 55, "tests/launcher")],
     "limits": lambda: [cases("limits", 60, "tests/limits")],
+    "stores": lambda: [cases("stores", 47, "tests/stores")],
     "release": lambda: [cases("release", 45, "tests/release")],
     "installed": lambda: [cases("installed", 40, "tests/installed")],
     "memory": lambda: [memory()],

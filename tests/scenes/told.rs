@@ -1,8 +1,8 @@
 //! What a run left, as plain text.
 
 use crate::scenes::record_text::{below_text, found_text, records_text};
-use auction_cmd::finish::Finish;
 use auction_core::record::Record;
+use commands::finish::Finish;
 use outside_io::memory_folder::MemoryFolder;
 use outside_io::memory_sink::MemorySink;
 use std::alloc::{AllocError as NoMemory, Global};

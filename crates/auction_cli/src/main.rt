@@ -2,7 +2,7 @@
 #![tactic(auto)]
 
 use auction_cmd::auction::auction_main;
-use auction_cmd::status::NO_MEMORY;
+use commands::status::NO_MEMORY;
 use outside_io::real::{RealFolder, RealSink};
 use outside_io::sink::Sink;
 use solver_gate::gate::EmptyGate;
@@ -17,7 +17,7 @@ fn main(rt: HostRuntime) -> ExitCode {
         let _ = out.write(b"out of memory\n");
         return ExitCode::from(NO_MEMORY);
     };
-    let mut folder = RealFolder::new(&rt);
+    let mut folder = RealFolder::new(&rt, rt.alloc());
     let finish = auction_main(&rt, rt.alloc(), &words, &mut folder, &mut out, &EmptyGate);
     ExitCode::from(finish.status)
 }

@@ -14,28 +14,28 @@ use Rattle.auction_core.specs.declared.record.Ending.{Ending}
 use Rattle.auction_core.specs.declared.record.Ending.TheVariants.{Done, StartRefuted, StartUndecided}
 use Rattle.auction_core.specs.declared.record.Record.{Record}
 use Rattle.auction_core.specs.Backed.{undecided_of}
-use Rattle.auction_cmd.specs.declared.inputs.Inputs.{Inputs}
-use Rattle.auction_cmd.specs.declared.inputs.Stop.TheVariants.{CannotRead, NoMemory, Refused}
+use Rattle.commands.specs.declared.inputs.Inputs.{Inputs}
+use Rattle.commands.specs.declared.inputs.Stop.TheVariants.{CannotRead, NoMemory, Refused}
 use Rattle.command_words.specs.declared.run_words.Input.{Input}
-use Rattle.auction_cmd.specs.Batch.{BatchStop, Unread, Twice, HeldBatch, batch_of, batch_status, batch_texts, ended_status, ended_text, ends_at_start, own_status, own_texts, status_lines, texts_under, with_text, names_in_words}
+use Rattle.commands.specs.Batch.{BatchStop, Unread, Twice, HeldBatch, batch_of, batch_status, batch_texts, ended_status, ended_text, ends_at_start, own_status, own_texts, status_lines, texts_under, with_text, names_in_words}
 use Rattle.command_words.specs.Words.{inputs_with}
-use Rattle.auction_cmd.specs.BatchEnds.{AreRecordsOf, BatchEnds, CountsStop, EachOf, ExplainsStop, IsBatchHeld, IsBatchStopped, IsUnderList, StopsAsHeld, StopsUnder}
-use Rattle.auction_cmd.specs.BatchEnds.BatchEnds.{BatchStopped, BatchStarved, BatchRan}
+use Rattle.commands.specs.BatchEnds.{AreRecordsOf, BatchEnds, CountsStop, EachOf, ExplainsStop, IsBatchHeld, IsBatchStopped, IsUnderList, StopsAsHeld, StopsUnder}
+use Rattle.commands.specs.BatchEnds.BatchEnds.{BatchStopped, BatchStarved, BatchRan}
 use Rattle.auction_cmd.specs.BatchPromises.{BatchPromises, IsBatchCut, IsBatchPart, IsBatchRun, IsBatchUnstored, IsRefusing, IsRunOf, refused_line}
-use Rattle.auction_cmd.specs.Delivery.{AllOthersStand, AreStored, Delivers, IsPrinted, NamedText}
-use Rattle.auction_cmd.specs.Delivery.IsPrinted.{Written, CutShort}
-use Rattle.auction_cmd.specs.Inputs.{CountsFault, inputs_of}
-use Rattle.auction_cmd.specs.Outside.{Outside, IsSaid}
-use Rattle.auction_cmd.specs.Records.{IsRecordBy, done_status, result_of, run_order}
+use Rattle.commands.specs.Delivery.{AllOthersStand, AreStored, Delivers, IsPrinted, NamedText}
+use Rattle.commands.specs.Delivery.IsPrinted.{Written, CutShort}
+use Rattle.commands.specs.Inputs.{CountsFault, inputs_of}
+use Rattle.commands.specs.Outside.{Outside, IsSaid}
+use Rattle.commands.specs.Records.{IsRecordBy, done_status, result_of, run_order}
 use Rattle.command_words.specs.Words.{name_of}
-use Rattle.auction_cmd.specs.Says.{memory_line, unread_line, unwritten_line}
-use Rattle.auction_cmd.specs.VerifyPromises.{IsOr}
+use Rattle.commands.specs.Says.{memory_line, unread_line, unwritten_line}
+use Rattle.commands.specs.VerifyPromises.{IsOr}
 use Rattle.command_words.specs.Words.{BatchNames, InputNames}
 use Rattle.auction_cmd.proofs.BatchReadings.{other-results, own-results, read-batch}
-use Rattle.auction_cmd.proofs.DeliveryLemmas.{AreApart, Ended, IsPart, ended-of, for-told, others-up-to}
-use Rattle.auction_cmd.proofs.DeliveryLemmas.Ended.{Both, NotSaid, NotStored, OutOfRoom}
-use Rattle.auction_cmd.proofs.ReadingLemmas.{accepted-ascend, accepted-values}
-use Rattle.auction_cmd.proofs.Statuses.{apart-lists, none-open, off, one-of, within}
+use Rattle.commands.proofs.DeliveryLemmas.{AreApart, Ended, IsPart, ended-of, for-told, others-up-to}
+use Rattle.commands.proofs.DeliveryLemmas.Ended.{Both, NotSaid, NotStored, OutOfRoom}
+use Rattle.commands.proofs.ReadingLemmas.{accepted-ascend, accepted-values}
+use Rattle.commands.proofs.Statuses.{apart-lists, none-open, off, one-of, within}
 
 -- ---- the status of a batch
 

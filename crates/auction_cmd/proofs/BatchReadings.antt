@@ -13,18 +13,18 @@ use Rattle.scenario_json.specs.Joined.{joined}
 use Rattle.scenario_json.specs.ScenarioOf.{scenario_of}
 use Rattle.batch_list.specs.ListOf.{ListedNames}
 use Rattle.batch_list.specs.Repeated.{names_given, repeated_result}
-use Rattle.auction_cmd.specs.declared.batch_inputs.Constraints.{Constraints}
-use Rattle.auction_cmd.specs.declared.inputs.Inputs.{Inputs}
-use Rattle.auction_cmd.specs.declared.inputs.Stop.{Stop}
+use Rattle.commands.specs.declared.batch_inputs.Constraints.{Constraints}
+use Rattle.commands.specs.declared.inputs.Inputs.{Inputs}
+use Rattle.commands.specs.declared.inputs.Stop.{Stop}
 use Rattle.command_words.specs.declared.run_words.Input.TheVariants.{Domains, Rows, Scenario as ScenarioFile}
-use Rattle.auction_cmd.specs.Batch.{BatchStop, HeldBatch, ListedView, among, batch_of, constraints_of, each_inputs, unless_stopped, inputs_beside, list_named, listing_of, once_each, texts_under, names_in_words}
+use Rattle.commands.specs.Batch.{BatchStop, HeldBatch, ListedView, among, batch_of, constraints_of, each_inputs, unless_stopped, inputs_beside, list_named, listing_of, once_each, texts_under, names_in_words}
 use Rattle.command_words.specs.Words.{inputs_with}
-use Rattle.auction_cmd.specs.Delivery.{IsOther, names_of}
-use Rattle.auction_cmd.specs.Inputs.{and_then, file_of, inputs_from, inputs_of, rows_read, scenario_read, sources_of}
+use Rattle.commands.specs.Delivery.{IsOther, names_of}
+use Rattle.commands.specs.Inputs.{and_then, file_of, inputs_from, inputs_of, rows_read, scenario_read, sources_of}
 use Rattle.command_words.specs.Words.{BatchNames, InputNames, is_repeated_among}
-use Rattle.auction_cmd.proofs.DeliveryLemmas.{AreApart}
-use Rattle.auction_cmd.proofs.OutputNames.{not-found, twice-among}
-use Rattle.auction_cmd.proofs.ReadingLemmas.{then-ok}
+use Rattle.commands.proofs.DeliveryLemmas.{AreApart}
+use Rattle.commands.proofs.OutputNames.{not-found, twice-among}
+use Rattle.commands.proofs.ReadingLemmas.{then-ok}
 
 -- ---- steps
 

@@ -6,18 +6,18 @@ use Rattle.outside_io.specs.Faults.{HasRisen}
 use Rattle.outside_io.specs.Files.{StoredFile}
 use Rattle.outside_io.specs.Loads.{Writes}
 use Rattle.auction_core.specs.declared.record.Record.{Record}
-use Rattle.auction_cmd.specs.declared.inputs.Inputs.{Inputs}
-use Rattle.auction_cmd.specs.Counts.{counts_text}
-use Rattle.auction_cmd.specs.Ends.{CheckEnds}
-use Rattle.auction_cmd.specs.Ends.CheckEnds.{CheckStopped, CheckStarved, Counted, CountsCut}
-use Rattle.auction_cmd.specs.Inputs.{inputs_of}
-use Rattle.auction_cmd.specs.Outside.{Outside, IsSaid}
-use Rattle.auction_cmd.specs.Says.{memory_line}
-use Rattle.auction_cmd.specs.VerifyPromises.{IsOr}
+use Rattle.commands.specs.declared.inputs.Inputs.{Inputs}
+use Rattle.commands.specs.Counts.{counts_text}
+use Rattle.commands.specs.Ends.{CheckEnds}
+use Rattle.commands.specs.Ends.CheckEnds.{CheckStopped, CheckStarved, Counted, CountsCut}
+use Rattle.commands.specs.Inputs.{inputs_of}
+use Rattle.commands.specs.Outside.{Outside, IsSaid}
+use Rattle.commands.specs.Says.{memory_line}
+use Rattle.commands.specs.VerifyPromises.{IsOr}
 use Rattle.command_words.specs.Words.{InputNames}
-use Rattle.auction_cmd.proofs.Halts.{Reading, halted-held, stopped-memory, stopped-statuses, stopped-unread}
-use Rattle.auction_cmd.proofs.Halts.Reading.{Halted, Short, Went}
-use Rattle.auction_cmd.proofs.Statuses.{off, one-of, within}
+use Rattle.commands.proofs.Halts.{Reading, halted-held, stopped-memory, stopped-statuses, stopped-unread}
+use Rattle.commands.proofs.Halts.Reading.{Halted, Short, Went}
+use Rattle.commands.proofs.Statuses.{off, one-of, within}
 
 pub check-reading : (names : InputNames) (before after : Outside) (status : ℕ) (found : Option Record) → CheckEnds names before after status found → Reading names before after status
 check-reading names before after status found (CheckStopped s none) = Halted s

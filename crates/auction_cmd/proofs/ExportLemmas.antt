@@ -13,28 +13,28 @@ use Rattle.auction_core.specs.declared.record.Record.{Record}
 use Rattle.auction_core.specs.declared.record.Step.{Step}
 use Rattle.open_tests.specs.Queries.{step_numbered}
 use Rattle.open_tests.specs.Settling.{formula_text}
-use Rattle.auction_cmd.specs.declared.fault.TranscriptFault.{TranscriptFault}
-use Rattle.auction_cmd.specs.declared.inputs.Inputs.{Inputs}
-use Rattle.auction_cmd.specs.declared.inputs.Stop.TheVariants.{Refused}
-use Rattle.auction_cmd.specs.declared.refusal.Refusal.{Refusal}
-use Rattle.auction_cmd.specs.declared.settling.StepFault.{StepFault}
-use Rattle.auction_cmd.specs.declared.settling.StepFault.TheVariants.{NoSuchStep}
-use Rattle.auction_cmd.specs.Delivery.{AllOthersStand, AreStored, IsNotStored, IsOther, IsStored, NamedText, named}
-use Rattle.auction_cmd.specs.Delivery.IsNotStored.{Unwritten, OutOfRoom}
-use Rattle.auction_cmd.specs.Ends.{ExportEnds, IsShown, VerifyEnds}
-use Rattle.auction_cmd.specs.Ends.ExportEnds.{Unshown, ExportStarved, NoStep, FormulaStored, FormulaNotStored}
-use Rattle.auction_cmd.specs.Ends.VerifyEnds.{VerifyStopped, VerifyStarved, NotLoaded, NotSound, Sound}
-use Rattle.auction_cmd.specs.ExportPromises.{ExportPromises, IsStepAsked}
-use Rattle.auction_cmd.specs.Inputs.{file_limit, inputs_of}
-use Rattle.auction_cmd.specs.Outside.{Outside, IsSaid}
-use Rattle.auction_cmd.specs.Says.{memory_line, unwritten_line}
-use Rattle.auction_cmd.specs.Settling.{missing_fault, step_line}
-use Rattle.auction_cmd.specs.Verified.{verified}
-use Rattle.auction_cmd.specs.VerifyPromises.{IsGiven, IsOr, VerifyPromises}
+use Rattle.commands.specs.declared.fault.TranscriptFault.{TranscriptFault}
+use Rattle.commands.specs.declared.inputs.Inputs.{Inputs}
+use Rattle.commands.specs.declared.inputs.Stop.TheVariants.{Refused}
+use Rattle.commands.specs.declared.refusal.Refusal.{Refusal}
+use Rattle.commands.specs.declared.settling.StepFault.{StepFault}
+use Rattle.commands.specs.declared.settling.StepFault.TheVariants.{NoSuchStep}
+use Rattle.commands.specs.Delivery.{AllOthersStand, AreStored, IsNotStored, IsOther, IsStored, NamedText, named}
+use Rattle.commands.specs.Delivery.IsNotStored.{Unwritten, OutOfRoom}
+use Rattle.commands.specs.Ends.{ExportEnds, IsShown, VerifyEnds}
+use Rattle.commands.specs.Ends.ExportEnds.{Unshown, ExportStarved, NoStep, FormulaStored, FormulaNotStored}
+use Rattle.commands.specs.Ends.VerifyEnds.{VerifyStopped, VerifyStarved, NotLoaded, NotSound, Sound}
+use Rattle.commands.specs.ExportPromises.{ExportPromises, IsStepAsked}
+use Rattle.commands.specs.Inputs.{file_limit, inputs_of}
+use Rattle.commands.specs.Outside.{Outside, IsSaid}
+use Rattle.commands.specs.Says.{memory_line, unwritten_line}
+use Rattle.commands.specs.Settling.{missing_fault, step_line}
+use Rattle.commands.specs.Verified.{verified}
+use Rattle.commands.specs.VerifyPromises.{IsGiven, IsOr, VerifyPromises}
 use Rattle.command_words.specs.Words.{ExportNames, VerifyNames}
-use Rattle.auction_cmd.proofs.DeliveryLemmas.{all-more, all-none, for-told, others-up-to, part-here}
-use Rattle.auction_cmd.proofs.Halts.{not-both, stopped-statuses}
-use Rattle.auction_cmd.proofs.Statuses.{apart-lists, done-within, off, one-of, within}
+use Rattle.commands.proofs.DeliveryLemmas.{all-more, all-none, for-told, others-up-to, part-here}
+use Rattle.commands.proofs.Halts.{not-both, stopped-statuses}
+use Rattle.commands.proofs.Statuses.{apart-lists, done-within, off, one-of, within}
 use Rattle.auction_cmd.proofs.VerifyCases.{verify-memory}
 use Rattle.auction_cmd.proofs.VerifyEndLemmas.{is-given, not-both-verified, not-long, same-record, same-verified, unloaded-statuses}
 use Rattle.auction_cmd.proofs.VerifyLemmas.{verify-promises}

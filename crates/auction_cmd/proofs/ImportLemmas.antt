@@ -18,34 +18,34 @@ use Rattle.open_tests.specs.Settling.{settled_text}
 use Rattle.open_tests.specs.declared.settle.SettleErr.{SettleErr}
 use Rattle.transcript_text.specs.Named.{IsHeld}
 use Rattle.transcript_text.specs.Spelling.{transcript_text}
-use Rattle.auction_cmd.specs.declared.fault.TranscriptFault.{TranscriptFault}
-use Rattle.auction_cmd.specs.declared.inputs.Inputs.{Inputs}
-use Rattle.auction_cmd.specs.declared.inputs.Stop.TheVariants.{Refused}
-use Rattle.auction_cmd.specs.declared.refusal.Refusal.{Refusal}
-use Rattle.auction_cmd.specs.declared.settling.StepFault.{StepFault}
-use Rattle.auction_cmd.specs.Delivery.{AllOthersStand, AreStored, Delivers, NamedText}
-use Rattle.auction_cmd.specs.Ends.{AreInputsOf, ImportEnds, IsFileHeld, IsNotLoaded, IsShown, import_texts}
-use Rattle.auction_cmd.specs.Ends.ImportEnds.{NothingShown, ImportStarved, NoOpenStep, NoLog, NotSettled, Settled}
-use Rattle.auction_cmd.specs.Ends.IsNotLoaded.{Unloaded, LongText}
-use Rattle.auction_cmd.specs.ImportPromises.{ImportPromises, IsImported, IsImportedUpTo, IsLogIn, IsSettledStep, IsSoundIn, IsUnimported, IsUnlogged, IsUnsummed}
-use Rattle.auction_cmd.specs.Inputs.{file_limit, inputs_of}
-use Rattle.auction_cmd.specs.Outside.{Outside, IsSaid}
-use Rattle.auction_cmd.specs.Promises.{IsSomeRecord}
-use Rattle.auction_cmd.specs.Records.{IsRecordIn, done_status, outcome, result_of, summary_in}
-use Rattle.auction_cmd.specs.Says.{memory_line, unread_line, unwritten_line}
-use Rattle.auction_cmd.specs.Settling.{unsettled_line, open_fault, step_line}
-use Rattle.auction_cmd.specs.Verified.{verified}
-use Rattle.auction_cmd.specs.VerifyPromises.{AreAllThere, IsGiven, IsOr, VerifyPromises}
+use Rattle.commands.specs.declared.fault.TranscriptFault.{TranscriptFault}
+use Rattle.commands.specs.declared.inputs.Inputs.{Inputs}
+use Rattle.commands.specs.declared.inputs.Stop.TheVariants.{Refused}
+use Rattle.commands.specs.declared.refusal.Refusal.{Refusal}
+use Rattle.commands.specs.declared.settling.StepFault.{StepFault}
+use Rattle.commands.specs.Delivery.{AllOthersStand, AreStored, Delivers, NamedText}
+use Rattle.commands.specs.Ends.{AreInputsOf, ImportEnds, IsFileHeld, IsNotLoaded, IsShown, import_texts}
+use Rattle.commands.specs.Ends.ImportEnds.{NothingShown, ImportStarved, NoOpenStep, NoLog, NotSettled, Settled}
+use Rattle.commands.specs.Ends.IsNotLoaded.{Unloaded, LongText}
+use Rattle.commands.specs.ImportPromises.{ImportPromises, IsImported, IsImportedUpTo, IsLogIn, IsSettledStep, IsSoundIn, IsUnimported, IsUnlogged, IsUnsummed}
+use Rattle.commands.specs.Inputs.{file_limit, inputs_of}
+use Rattle.commands.specs.Outside.{Outside, IsSaid}
+use Rattle.commands.specs.Promises.{IsSomeRecord}
+use Rattle.commands.specs.Records.{IsRecordIn, done_status, outcome, result_of, summary_in}
+use Rattle.commands.specs.Says.{memory_line, unread_line, unwritten_line}
+use Rattle.commands.specs.Settling.{unsettled_line, open_fault, step_line}
+use Rattle.commands.specs.Verified.{verified}
+use Rattle.commands.specs.VerifyPromises.{AreAllThere, IsGiven, IsOr, VerifyPromises}
 use Rattle.command_words.specs.Words.{ImportNames, repeated_import}
-use Rattle.auction_cmd.proofs.DeliveryLemmas.{AreApart, Ended, ended-of, for-told, others-up-to}
-use Rattle.auction_cmd.proofs.DeliveryLemmas.Ended.{Both, NotSaid, NotStored, OutOfRoom}
+use Rattle.commands.proofs.DeliveryLemmas.{AreApart, Ended, ended-of, for-told, others-up-to}
+use Rattle.commands.proofs.DeliveryLemmas.Ended.{Both, NotSaid, NotStored, OutOfRoom}
 use Rattle.auction_cmd.proofs.ExportLemmas.{shown-given, shown-is, shown-not-halted, shown-not-long, shown-not-refused, unshown-or, unshown-statuses}
-use Rattle.auction_cmd.proofs.ImportEndLemmas.{changed, two-faults, undecided-some}
-use Rattle.auction_cmd.proofs.OutputNames.{own-imports}
-use Rattle.auction_cmd.proofs.ReadAgain.{accepted-auction, record-verified}
-use Rattle.auction_cmd.proofs.ReadingLemmas.{accepted-ascend, accepted-values}
-use Rattle.auction_cmd.proofs.RunLemmas.{absent, ended-statuses, never, some-record}
-use Rattle.auction_cmd.proofs.Statuses.{apart-lists, off, one-of, within}
+use Rattle.commands.proofs.ImportEndLemmas.{changed, two-faults, undecided-some}
+use Rattle.commands.proofs.OutputNames.{own-imports}
+use Rattle.commands.proofs.ReadAgain.{accepted-auction, record-verified}
+use Rattle.commands.proofs.ReadingLemmas.{accepted-ascend, accepted-values}
+use Rattle.commands.proofs.RunLemmas.{absent, ended-statuses, never, some-record}
+use Rattle.commands.proofs.Statuses.{apart-lists, off, one-of, within}
 use Rattle.auction_cmd.proofs.VerifyCases.{verify-memory}
 use Rattle.auction_cmd.proofs.VerifyEndLemmas.{no-text, over, same-text, unloaded-statuses}
 use Rattle.auction_cmd.proofs.VerifyLemmas.{verify-promises}

@@ -20,18 +20,18 @@ use Rattle.pack_defs.specs.Scenario.{StationsAscend, facilities, with_owners}
 use Rattle.pack_defs.specs.Told.{Told, row_told, told}
 use Rattle.auction_core.specs.declared.record.Record.{Record}
 use Rattle.auction_core.specs.Backed.{IsBacked, undecided_of}
-use Rattle.auction_cmd.specs.declared.inputs.Inputs.{Inputs}
+use Rattle.commands.specs.declared.inputs.Inputs.{Inputs}
 use Rattle.command_words.specs.declared.run_words.Input.TheVariants.{Owners as OwnersFile}
-use Rattle.auction_cmd.specs.Ends.{RunEnds, VerifyEnds}
-use Rattle.auction_cmd.specs.Ends.Concludes.{Unfit, StartOpen, Delivered}
-use Rattle.auction_cmd.specs.Ends.RunEnds.{RunStopped, RunStarved, Concluded}
-use Rattle.auction_cmd.specs.Ends.VerifyEnds.{VerifyStopped, VerifyStarved, NotLoaded, NotSound, Sound}
-use Rattle.auction_cmd.specs.Inputs.{bytes_within, file_limit, file_of, inputs_of, live_inputs, owners_read, with_said}
-use Rattle.auction_cmd.specs.LivePromises.{AreLive, FollowValues, GoesByOwnLines, IsLive}
-use Rattle.auction_cmd.specs.Outside.{Outside}
-use Rattle.auction_cmd.specs.Records.{outcome}
+use Rattle.commands.specs.Ends.{RunEnds, VerifyEnds}
+use Rattle.commands.specs.Ends.Concludes.{Unfit, StartOpen, Delivered}
+use Rattle.commands.specs.Ends.RunEnds.{RunStopped, RunStarved, Concluded}
+use Rattle.commands.specs.Ends.VerifyEnds.{VerifyStopped, VerifyStarved, NotLoaded, NotSound, Sound}
+use Rattle.commands.specs.Inputs.{bytes_within, file_limit, file_of, inputs_of, live_inputs, owners_read, with_said}
+use Rattle.commands.specs.LivePromises.{AreLive, FollowValues, GoesByOwnLines, IsLive}
+use Rattle.commands.specs.Outside.{Outside}
+use Rattle.commands.specs.Records.{outcome}
 use Rattle.command_words.specs.Words.{InputNames, RunNames, VerifyNames}
-use Rattle.auction_cmd.proofs.ReadingLemmas.{accepted-ascend, accepted-valued, accepted-values, said-ok, then-ok, valued-values}
+use Rattle.commands.proofs.ReadingLemmas.{accepted-ascend, accepted-valued, accepted-values, said-ok, then-ok, valued-values}
 
 -- what a file holds, if it was taken
 bytes-ok : (held : Option (List ℕ)) (bytes : List ℕ) → bytes_within OwnersFile held ≡ Ok bytes → (held ≡ Some bytes) × (length bytes ≤ file_limit)

@@ -8,11 +8,11 @@ use Rattle.pack_defs.specs.declared.scenario.Scenario.{Scenario}
 use Rattle.scenario_json.specs.Joined.{joined}
 use Rattle.scenario_json.specs.ScenarioOf.{scenario_of}
 use Rattle.scenario_json.proofs.Limits.{read-limits, read-values}
-use Rattle.auction_cmd.specs.declared.inputs.Inputs.{Inputs}
+use Rattle.commands.specs.declared.inputs.Inputs.{Inputs}
 use Rattle.command_words.specs.declared.run_words.Input.TheVariants.{Domains, Rows}
-use Rattle.auction_cmd.specs.Inputs.{rows_read, scenario_read}
-use Rattle.auction_cmd.specs.Made.{inputs_in}
-use Rattle.auction_cmd.proofs.ReadingLemmas.{from-ok, read-ok, then-ok}
+use Rattle.commands.specs.Inputs.{rows_read, scenario_read}
+use Rattle.commands.specs.Made.{inputs_in}
+use Rattle.commands.proofs.ReadingLemmas.{from-ok, read-ok, then-ok}
 
 -- the scenario of inputs stands in the scenario file
 scenario-in : (d r s : List ℕ) (inputs : Inputs) → inputs_in d r s ≡ Ok inputs → scenario_of s ≡ Ok inputs.scenario

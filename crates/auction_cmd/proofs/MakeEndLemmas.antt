@@ -8,20 +8,20 @@ use Rattle.outside_io.specs.declared.folder.StoreErr.TheVariants.{Failed, NoMemo
 use Rattle.auction_core.specs.declared.record.Record.{Record}
 use Rattle.auction_core.specs.Backed.{undecided_of}
 use Rattle.scenario_make.specs.MadeFiles.{made_domains, made_rows, made_scenario_text}
-use Rattle.auction_cmd.specs.Delivery.{AreAllStored, AreStored, IsStored, NamedText, StopsAtOne}
-use Rattle.auction_cmd.specs.Delivery.IsNotStored.{Unwritten, OutOfRoom as NoRoom}
-use Rattle.auction_cmd.specs.Delivery.IsPrinted.{Written, CutShort}
-use Rattle.auction_cmd.specs.Ends.{MakeEnds}
-use Rattle.auction_cmd.specs.Ends.MakeEnds.{MakeStarved, MakeStopped, AuctionStarved, Carried}
-use Rattle.auction_cmd.specs.Made.{HasRun, made_inputs, made_texts}
-use Rattle.auction_cmd.specs.MakePromises.{AreAllMade, IsMadeRun, made_summary}
-use Rattle.auction_cmd.specs.Outside.{Outside, IsSaid}
-use Rattle.auction_cmd.specs.Records.{done_status}
-use Rattle.auction_cmd.specs.Says.{memory_line, unwritten_line}
+use Rattle.commands.specs.Delivery.{AreAllStored, AreStored, IsStored, NamedText, StopsAtOne}
+use Rattle.commands.specs.Delivery.IsNotStored.{Unwritten, OutOfRoom as NoRoom}
+use Rattle.commands.specs.Delivery.IsPrinted.{Written, CutShort}
+use Rattle.commands.specs.Ends.{MakeEnds}
+use Rattle.commands.specs.Ends.MakeEnds.{MakeStarved, MakeStopped, AuctionStarved, Carried}
+use Rattle.commands.specs.Made.{HasRun, made_inputs, made_texts}
+use Rattle.commands.specs.MakePromises.{AreAllMade, IsMadeRun, made_summary}
+use Rattle.commands.specs.Outside.{Outside, IsSaid}
+use Rattle.commands.specs.Records.{done_status}
+use Rattle.commands.specs.Says.{memory_line, unwritten_line}
 use Rattle.command_words.specs.Words.{MakeNames, repeated_made}
-use Rattle.auction_cmd.proofs.DeliveryLemmas.{AreApart, IsPart, LeavesAll, LeavesPart, all-more, all-none, part-here, up-more}
-use Rattle.auction_cmd.proofs.OutputNames.{own-made}
-use Rattle.auction_cmd.proofs.SaysLemmas.{rises-before}
+use Rattle.commands.proofs.DeliveryLemmas.{AreApart, IsPart, LeavesAll, LeavesPart, all-more, all-none, part-here, up-more}
+use Rattle.commands.proofs.OutputNames.{own-made}
+use Rattle.commands.proofs.SaysLemmas.{rises-before}
 
 -- ---- the stores
 

@@ -9,21 +9,21 @@ use Rattle.outside_io.specs.Loads.{Writes}
 use Rattle.auction_core.specs.declared.record.Record.{Record}
 use Rattle.auction_core.specs.Backed.{undecided_of}
 use Rattle.scenario_make.specs.MadeFiles.{made_domains, made_rows, made_scenario_text}
-use Rattle.auction_cmd.specs.declared.inputs.Inputs.{Inputs}
-use Rattle.auction_cmd.specs.Delivery.{AllOthersStand, AreStored, NamedText}
-use Rattle.auction_cmd.specs.Made.{made_inputs, made_texts}
-use Rattle.auction_cmd.specs.MakePromises.{AreAllMade, IsMadeDecided, IsMadeRun, IsMadeUpTo, IsUnmade, IsUnsaid, MakePromises, made_summary}
-use Rattle.auction_cmd.specs.Outside.{Outside, IsSaid}
-use Rattle.auction_cmd.specs.Promises.{IsSomeRecord}
-use Rattle.auction_cmd.specs.Records.{done_status, run_order, summary_of}
-use Rattle.auction_cmd.specs.Says.{memory_line, unwritten_line}
+use Rattle.commands.specs.declared.inputs.Inputs.{Inputs}
+use Rattle.commands.specs.Delivery.{AllOthersStand, AreStored, NamedText}
+use Rattle.commands.specs.Made.{made_inputs, made_texts}
+use Rattle.commands.specs.MakePromises.{AreAllMade, IsMadeDecided, IsMadeRun, IsMadeUpTo, IsUnmade, IsUnsaid, MakePromises, made_summary}
+use Rattle.commands.specs.Outside.{Outside, IsSaid}
+use Rattle.commands.specs.Promises.{IsSomeRecord}
+use Rattle.commands.specs.Records.{done_status, run_order, summary_of}
+use Rattle.commands.specs.Says.{memory_line, unwritten_line}
 use Rattle.command_words.specs.Words.{MakeNames, made_names}
-use Rattle.auction_cmd.proofs.DeliveryLemmas.{IsPart, for-told, others-up-to}
+use Rattle.commands.proofs.DeliveryLemmas.{IsPart, for-told, others-up-to}
 use Rattle.auction_cmd.proofs.MadeLemmas.{ascend-in, values-in}
 use Rattle.auction_cmd.proofs.MakeEndLemmas.{Reached}
 use Rattle.auction_cmd.proofs.MakeEndLemmas.Reached.{Nothing, OneFailed, OneStarved, AllStarved, Summed, Unsummed}
-use Rattle.auction_cmd.proofs.RunLemmas.{absent, never, some-record}
-use Rattle.auction_cmd.proofs.Statuses.{done-within, none-open, off, one-of, within}
+use Rattle.commands.proofs.RunLemmas.{absent, never, some-record}
+use Rattle.commands.proofs.Statuses.{done-within, none-open, off, one-of, within}
 
 -- a record that is there is none that isn't
 none-some : (found : Option Record) (rec : Record) → found ≡ Some rec → found ≡ None → ⊥

@@ -3,20 +3,20 @@ use Rattle.std.proofs.Common.{◌≡◌, ◌∙◌, ℕ, true, false, inl, inr, 
 use Rattle.std.specs.Prelude.{IsSome, IsTrue, is_some}
 use Rattle.std.proofs.lemmas.Bool.{false≢true, true≢false}
 use Rattle.auction_core.specs.declared.record.Record.{Record}
-use Rattle.auction_cmd.specs.BatchEnds.{BatchEnds}
-use Rattle.auction_cmd.specs.BatchEnds.BatchEnds.{BatchStarved}
-use Rattle.auction_cmd.specs.Ends.{Ends}
-use Rattle.auction_cmd.specs.Ends.Ends.{Starved, Usage, Repeated, Ran, Checked, Verified, Sought, Made, Exported, Imported}
-use Rattle.auction_cmd.specs.Outside.{Outside}
-use Rattle.auction_cmd.specs.Plan.{Plan, batches, resumes}
+use Rattle.commands.specs.BatchEnds.{BatchEnds}
+use Rattle.commands.specs.BatchEnds.BatchEnds.{BatchStarved}
+use Rattle.commands.specs.Ends.{Ends}
+use Rattle.commands.specs.Ends.Ends.{Starved, Usage, Repeated, Ran, Checked, Verified, Sought, Made, Exported, Imported}
+use Rattle.commands.specs.Outside.{Outside}
+use Rattle.commands.specs.Plan.{Plan, batches, resumes}
 use Rattle.auction_cmd.specs.Program.{ProgramEnds, ProgramPromises, is_batch, is_resumption}
 use Rattle.auction_cmd.specs.Program.ProgramEnds.{Single, Resumed, Batched}
-use Rattle.auction_cmd.specs.ResumeEnds.{ResumeEnds}
+use Rattle.commands.specs.ResumeEnds.{ResumeEnds}
 use Rattle.auction_cmd.specs.ResumePromises.{ResumePromises}
-use Rattle.auction_cmd.specs.ResumeEnds.ResumeEnds.{ResumeStarved}
+use Rattle.commands.specs.ResumeEnds.ResumeEnds.{ResumeStarved}
 use Rattle.command_words.specs.Words.{BatchNames, ResumeNames, repeated_resume}
 use Rattle.auction_cmd.proofs.BatchLemmas.{batch-promises}
-use Rattle.auction_cmd.proofs.OutputNames.{own-resumed}
+use Rattle.commands.proofs.OutputNames.{own-resumed}
 use Rattle.auction_cmd.proofs.PromiseLemmas.{promises-of}
 use Rattle.auction_cmd.proofs.ResumeLemmas.{resume-promises}
 

@@ -6,38 +6,38 @@ use Rattle.pack_defs.specs.Lists.{is_in}
 use Rattle.outside_io.specs.Faults.{HasRisen}
 use Rattle.outside_io.specs.Files.{StoredFile}
 use Rattle.auction_core.specs.declared.record.Record.{Record}
-use Rattle.auction_cmd.specs.CheckPromises.{CheckPromises, ToldCheck}
-use Rattle.auction_cmd.specs.Ends.{CheckEnds, Ends, ExportEnds, ImportEnds, MakeEnds, RunEnds, SeekEnds, VerifyEnds}
-use Rattle.auction_cmd.specs.Ends.CheckEnds.{CheckStarved}
-use Rattle.auction_cmd.specs.Ends.Ends.{Starved, Usage, Repeated, Ran, Checked, Verified, Sought, Made, Exported, Imported}
-use Rattle.auction_cmd.specs.Ends.ExportEnds.{ExportStarved}
-use Rattle.auction_cmd.specs.Ends.ImportEnds.{ImportStarved}
-use Rattle.auction_cmd.specs.Ends.RunEnds.{RunStarved}
-use Rattle.auction_cmd.specs.Ends.SeekEnds.{SeekStarved}
-use Rattle.auction_cmd.specs.Ends.VerifyEnds.{VerifyStarved}
-use Rattle.auction_cmd.specs.ImportPromises.{ImportPromises}
-use Rattle.auction_cmd.specs.MakePromises.{MakePromises}
-use Rattle.auction_cmd.specs.Outside.{Outside, IsSaid}
-use Rattle.auction_cmd.specs.Plan.{Plan, no_command, repeats, runs, checks, verifies, resumes, seeks, batches, makes, exports, imports}
-use Rattle.auction_cmd.specs.Promises.{IsSomeRecord, Promises, asks_nothing, asks_step, carries_out, inputs_read, records_first, seeks_top, verifies_first}
-use Rattle.auction_cmd.specs.Records.{run_order}
-use Rattle.auction_cmd.specs.Says.{memory_line, twice_line}
-use Rattle.auction_cmd.specs.VerifyPromises.{VerifyPromises}
+use Rattle.commands.specs.CheckPromises.{CheckPromises, ToldCheck}
+use Rattle.commands.specs.Ends.{CheckEnds, Ends, ExportEnds, ImportEnds, MakeEnds, RunEnds, SeekEnds, VerifyEnds}
+use Rattle.commands.specs.Ends.CheckEnds.{CheckStarved}
+use Rattle.commands.specs.Ends.Ends.{Starved, Usage, Repeated, Ran, Checked, Verified, Sought, Made, Exported, Imported}
+use Rattle.commands.specs.Ends.ExportEnds.{ExportStarved}
+use Rattle.commands.specs.Ends.ImportEnds.{ImportStarved}
+use Rattle.commands.specs.Ends.RunEnds.{RunStarved}
+use Rattle.commands.specs.Ends.SeekEnds.{SeekStarved}
+use Rattle.commands.specs.Ends.VerifyEnds.{VerifyStarved}
+use Rattle.commands.specs.ImportPromises.{ImportPromises}
+use Rattle.commands.specs.MakePromises.{MakePromises}
+use Rattle.commands.specs.Outside.{Outside, IsSaid}
+use Rattle.commands.specs.Plan.{Plan, no_command, repeats, runs, checks, verifies, resumes, seeks, batches, makes, exports, imports}
+use Rattle.commands.specs.Promises.{IsSomeRecord, Promises, asks_nothing, asks_step, carries_out, inputs_read, records_first, seeks_top, verifies_first}
+use Rattle.commands.specs.Records.{run_order}
+use Rattle.commands.specs.Says.{memory_line, twice_line}
+use Rattle.commands.specs.VerifyPromises.{VerifyPromises}
 use Rattle.command_words.specs.Words.{ExportNames, ImportNames, InputNames, MakeNames, RunNames, SeekNames, VerifyNames, repeated_import, repeated_made, repeated_output, seek_inputs}
 use Rattle.auction_cmd.proofs.CheckLemmas.{check-complete, check-counted, check-cut, check-files, check-memory, check-none, check-reading, check-statuses, check-surely, check-unread, check-unwritten}
 use Rattle.auction_cmd.proofs.ExportLemmas.{export-memory, export-none, export-promises, export-statuses, export-unread, export-unwritten}
 use Rattle.auction_cmd.proofs.LiveLemmas.{run-unsaid, verify-live, verify-unsaid}
 use Rattle.auction_cmd.proofs.ImportLemmas.{IsOnce as IsOnceImported, import-backed, import-kept, import-memory, import-promises, import-statuses, import-unread, import-unrecorded, import-unwritten}
-use Rattle.auction_cmd.proofs.Halts.{Reading, missing-one, read-there, refused-cause, stops-at, unread-line}
+use Rattle.commands.proofs.Halts.{Reading, missing-one, read-there, refused-cause, stops-at, unread-line}
 use Rattle.auction_cmd.proofs.MakeEndLemmas.{Reached, reached}
 use Rattle.auction_cmd.proofs.MakeEndLemmas.Reached.{Nothing}
 use Rattle.auction_cmd.proofs.MakeLemmas.{make-backed, make-memory, make-promises}
-use Rattle.auction_cmd.proofs.OutputNames.{own-names}
-use Rattle.auction_cmd.proofs.RunLemmas.{absent, run-backed, run-ended, run-statuses, run-unrecorded, run-untouched, run-unwritten, IsOnce}
+use Rattle.commands.proofs.OutputNames.{own-names}
+use Rattle.commands.proofs.RunLemmas.{absent, run-backed, run-ended, run-statuses, run-unrecorded, run-untouched, run-unwritten, IsOnce}
 use Rattle.auction_cmd.proofs.RunPromiseLemmas.{run-promises}
-use Rattle.auction_cmd.proofs.StartLemmas.{run-memory, run-reading, run-unread}
-use Rattle.auction_cmd.proofs.SeekLemmas.{seek-backed, seek-ended, seek-memory, seek-promises, seek-reading, seek-statuses, seek-unread, seek-unrecorded, seek-untouched, seek-unwritten}
-use Rattle.auction_cmd.proofs.Statuses.{apart-lists, not-in, off, one-of, within}
+use Rattle.commands.proofs.StartLemmas.{run-memory, run-reading, run-unread}
+use Rattle.commands.proofs.SeekLemmas.{seek-backed, seek-ended, seek-memory, seek-promises, seek-reading, seek-statuses, seek-unread, seek-unrecorded, seek-untouched, seek-unwritten}
+use Rattle.commands.proofs.Statuses.{apart-lists, not-in, off, one-of, within}
 use Rattle.auction_cmd.proofs.VerifyCases.{verify-backed, verify-memory, verify-none}
 use Rattle.auction_cmd.proofs.VerifyLemmas.{verify-promises}
 

@@ -18,14 +18,14 @@ use Rattle.transcript_check.specs.Sound.{transcript_record}
 use Rattle.transcript_check.proofs.BeginningLemmas.{any-beginning}
 use Rattle.transcript_check.proofs.SoundLemmas.{shown-sound}
 use Rattle.transcript_check.proofs.WholeLemmas.{none-other, same-text}
-use Rattle.auction_cmd.specs.declared.inputs.Inputs.{Inputs}
-use Rattle.auction_cmd.specs.Inputs.{inputs_of}
-use Rattle.auction_cmd.specs.Records.{IsRecordIn, StartFits}
-use Rattle.auction_cmd.specs.Resumption.{GoesOnFrom, begun, begun_by, kept_or}
-use Rattle.auction_cmd.specs.Verified.{CanBeNamed, record_by, shown_or, verified}
+use Rattle.commands.specs.declared.inputs.Inputs.{Inputs}
+use Rattle.commands.specs.Inputs.{inputs_of}
+use Rattle.commands.specs.Records.{IsRecordIn, StartFits}
+use Rattle.commands.specs.Resumption.{GoesOnFrom, begun, begun_by, kept_or}
+use Rattle.commands.specs.Verified.{CanBeNamed, record_by, shown_or, verified}
 use Rattle.command_words.specs.Words.{InputNames}
-use Rattle.auction_cmd.proofs.ReadAgain.{accepted-auction}
-use Rattle.auction_cmd.proofs.ReadingLemmas.{accepted-limits}
+use Rattle.commands.proofs.ReadAgain.{accepted-auction}
+use Rattle.commands.proofs.ReadingLemmas.{accepted-limits}
 
 -- ---- what is verified
 

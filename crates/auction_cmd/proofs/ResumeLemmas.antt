@@ -13,41 +13,41 @@ use Rattle.auction_core.specs.declared.record.Ending.TheVariants.{StartRefuted, 
 use Rattle.auction_core.specs.declared.record.Record.{Record}
 use Rattle.auction_core.specs.Backed.{undecided_of}
 use Rattle.auction_core.specs.NotShown.{order_kept}
-use Rattle.auction_cmd.specs.declared.fault.TranscriptFault.{TranscriptFault}
-use Rattle.auction_cmd.specs.declared.inputs.Inputs.{Inputs}
-use Rattle.auction_cmd.specs.declared.inputs.Stop.TheVariants.{CannotRead, Refused}
+use Rattle.commands.specs.declared.fault.TranscriptFault.{TranscriptFault}
+use Rattle.commands.specs.declared.inputs.Inputs.{Inputs}
+use Rattle.commands.specs.declared.inputs.Stop.TheVariants.{CannotRead, Refused}
 use Rattle.command_words.specs.declared.run_words.Input.{Input}
-use Rattle.auction_cmd.specs.declared.refusal.Refusal.{Refusal}
+use Rattle.commands.specs.declared.refusal.Refusal.{Refusal}
 use Rattle.transcript_text.specs.Spelling.{transcript_text}
-use Rattle.auction_cmd.specs.Delivery.{AllOthersStand, AreStored, named}
-use Rattle.auction_cmd.specs.Ends.{AreInputsOf, Concludes, IsTextHeld, RunEnds, auction_texts}
-use Rattle.auction_cmd.specs.Ends.Concludes.{Unfit, StartOpen, Delivered}
-use Rattle.auction_cmd.specs.Ends.IsNotLoaded.{Unloaded, LongText}
-use Rattle.auction_cmd.specs.Ends.RunEnds.{Concluded}
-use Rattle.auction_cmd.specs.Ends.VerifyEnds.{VerifyStopped, VerifyStarved, NotLoaded}
-use Rattle.auction_cmd.specs.Inputs.{file_limit, inputs_of}
-use Rattle.auction_cmd.specs.Outside.{Outside, IsSaid}
-use Rattle.auction_cmd.specs.Promises.{IsSomeRecord}
-use Rattle.auction_cmd.specs.Records.{IsEndedRecordIn, IsRecordIn, StartFits, StartUnfit, done_status, summary_in}
-use Rattle.auction_cmd.specs.Refusals.{refusal_line}
+use Rattle.commands.specs.Delivery.{AllOthersStand, AreStored, named}
+use Rattle.commands.specs.Ends.{AreInputsOf, Concludes, IsTextHeld, RunEnds, auction_texts}
+use Rattle.commands.specs.Ends.Concludes.{Unfit, StartOpen, Delivered}
+use Rattle.commands.specs.Ends.IsNotLoaded.{Unloaded, LongText}
+use Rattle.commands.specs.Ends.RunEnds.{Concluded}
+use Rattle.commands.specs.Ends.VerifyEnds.{VerifyStopped, VerifyStarved, NotLoaded}
+use Rattle.commands.specs.Inputs.{file_limit, inputs_of}
+use Rattle.commands.specs.Outside.{Outside, IsSaid}
+use Rattle.commands.specs.Promises.{IsSomeRecord}
+use Rattle.commands.specs.Records.{IsEndedRecordIn, IsRecordIn, StartFits, StartUnfit, done_status, summary_in}
+use Rattle.commands.specs.Refusals.{refusal_line}
 use Rattle.command_words.specs.Words.{name_of}
-use Rattle.auction_cmd.specs.ResumeEnds.{ResumeEnds}
-use Rattle.auction_cmd.specs.ResumeEnds.ResumeEnds.{ResumeStopped, ResumeStarved, PrefixNotLoaded, NotBegun, WentOn}
+use Rattle.commands.specs.ResumeEnds.{ResumeEnds}
+use Rattle.commands.specs.ResumeEnds.ResumeEnds.{ResumeStopped, ResumeStarved, PrefixNotLoaded, NotBegun, WentOn}
 use Rattle.auction_cmd.specs.ResumePromises.{IsResumed, ResumePromises}
-use Rattle.auction_cmd.specs.Resumption.{GoesOnFrom, begun}
-use Rattle.auction_cmd.specs.Says.{long_line, memory_line, unread_line}
-use Rattle.auction_cmd.specs.Verified.{CanBeNamed, fault_line, verified}
-use Rattle.auction_cmd.specs.VerifyPromises.{AreAllThere, IsGiven, IsOr}
+use Rattle.commands.specs.Resumption.{GoesOnFrom, begun}
+use Rattle.commands.specs.Says.{long_line, memory_line, unread_line}
+use Rattle.commands.specs.Verified.{CanBeNamed, fault_line, verified}
+use Rattle.commands.specs.VerifyPromises.{AreAllThere, IsGiven, IsOr}
 use Rattle.command_words.specs.Words.{ResumeNames, RunNames, begun_names, output_names}
-use Rattle.auction_cmd.proofs.Halts.{halted-held, not-both, same-inputs, stopped-memory, stopped-statuses}
-use Rattle.auction_cmd.proofs.DeliveryLemmas.{Ended, ended-of, for-told}
-use Rattle.auction_cmd.proofs.DeliveryLemmas.Ended.{Both, NotSaid, NotStored, OutOfRoom}
+use Rattle.commands.proofs.Halts.{halted-held, not-both, same-inputs, stopped-memory, stopped-statuses}
+use Rattle.commands.proofs.DeliveryLemmas.{Ended, ended-of, for-told}
+use Rattle.commands.proofs.DeliveryLemmas.Ended.{Both, NotSaid, NotStored, OutOfRoom}
 use Rattle.auction_cmd.proofs.ResumeCutLemmas.{cut-begun, verified-fits, whole-again, whole-begun, whole-started}
-use Rattle.auction_cmd.proofs.ResumeEndLemmas.{no-verdict}
-use Rattle.auction_cmd.proofs.RunLemmas.{absent, run-backed, run-done, run-ended, run-others, run-untouched, run-unwritten, IsOnce}
+use Rattle.commands.proofs.ResumeEndLemmas.{no-verdict}
+use Rattle.commands.proofs.RunLemmas.{absent, run-backed, run-done, run-ended, run-others, run-untouched, run-unwritten, IsOnce}
 use Rattle.auction_cmd.proofs.RunPromiseLemmas.{run-promises}
-use Rattle.auction_cmd.proofs.StartLemmas.{at-end, run-complete, run-memory, run-unfits}
-use Rattle.auction_cmd.proofs.Statuses.{apart-lists, off, one-of, within}
+use Rattle.commands.proofs.StartLemmas.{at-end, run-complete, run-memory, run-unfits}
+use Rattle.commands.proofs.Statuses.{apart-lists, off, one-of, within}
 use Rattle.auction_cmd.proofs.VerifyEndLemmas.{is-given, no-text, not-long, same-text, unloaded-statuses}
 use Rattle.auction_cmd.proofs.VerifyReadings.{all-halted as text-halted, all-missing as text-missing, all-missing_transcript as text-missing_transcript, all-refuses_input as text-refuses_input, all-refuses_long as text-refuses_long, all-surely_read as text-surely_read, all-unread as text-unread, all-unread_says as text-unread_says}
 

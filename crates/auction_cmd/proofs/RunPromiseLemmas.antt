@@ -3,13 +3,13 @@ use Rattle.std.proofs.Common.{◌≡◌, ℕ, List, Option, Some}
 use Rattle.pack_defs.specs.declared.order.Order.{Order}
 use Rattle.outside_io.specs.Files.{StoredFile}
 use Rattle.auction_core.specs.declared.record.Record.{Record}
-use Rattle.auction_cmd.specs.Ends.{RunEnds}
-use Rattle.auction_cmd.specs.Outside.{Outside}
-use Rattle.auction_cmd.specs.RunPromises.{RunPromises, ToldRun}
+use Rattle.commands.specs.Ends.{RunEnds}
+use Rattle.commands.specs.Outside.{Outside}
+use Rattle.commands.specs.RunPromises.{RunPromises, ToldRun}
 use Rattle.command_words.specs.Words.{RunNames}
 use Rattle.auction_cmd.proofs.LiveLemmas.{run-live}
-use Rattle.auction_cmd.proofs.RunLemmas.{run-decided, run-done, run-others, run-part, run-recorded, run-stored, run-summed, run-surely, IsOnce}
-use Rattle.auction_cmd.proofs.StartLemmas.{run-complete, run-nobody, run-open, run-opened, run-refuted, run-unfit, run-unfits}
+use Rattle.commands.proofs.RunLemmas.{run-decided, run-done, run-others, run-part, run-recorded, run-stored, run-summed, run-surely, IsOnce}
+use Rattle.commands.proofs.StartLemmas.{run-complete, run-nobody, run-open, run-opened, run-refuted, run-unfit, run-unfits}
 
 told-run : (order : Order) (files : List StoredFile) (names : RunNames) (before after : Outside) (status : ℕ) (found : Option Record) → RunEnds order names before after status found → IsOnce names found → before.files ≡ Some files → ToldRun order files names before after status found
 told-run order files names before after status found end once told = record {

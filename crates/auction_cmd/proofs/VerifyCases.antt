@@ -4,15 +4,15 @@ use Rattle.std.specs.Prelude.{IsTrue, MatchOption, ⊤}
 use Rattle.pack_defs.specs.Lists.{is_in}
 use Rattle.auction_core.specs.declared.record.Record.{Record}
 use Rattle.auction_core.specs.Backed.{undecided_of}
-use Rattle.auction_cmd.specs.Ends.{VerifyEnds}
-use Rattle.auction_cmd.specs.Ends.VerifyEnds.{VerifyStopped, VerifyStarved, NotLoaded, NotSound, Sound}
-use Rattle.auction_cmd.specs.Outside.{Outside, IsSaid}
-use Rattle.auction_cmd.specs.Promises.{IsSomeRecord}
-use Rattle.auction_cmd.specs.Says.{memory_line}
+use Rattle.commands.specs.Ends.{VerifyEnds}
+use Rattle.commands.specs.Ends.VerifyEnds.{VerifyStopped, VerifyStarved, NotLoaded, NotSound, Sound}
+use Rattle.commands.specs.Outside.{Outside, IsSaid}
+use Rattle.commands.specs.Promises.{IsSomeRecord}
+use Rattle.commands.specs.Says.{memory_line}
 use Rattle.command_words.specs.Words.{VerifyNames}
-use Rattle.auction_cmd.proofs.Halts.{stopped-memory}
-use Rattle.auction_cmd.proofs.RunLemmas.{absent, some-record}
-use Rattle.auction_cmd.proofs.Statuses.{apart-lists, off}
+use Rattle.commands.proofs.Halts.{stopped-memory}
+use Rattle.commands.proofs.RunLemmas.{absent, some-record}
+use Rattle.commands.proofs.Statuses.{apart-lists, off}
 use Rattle.auction_cmd.proofs.VerifyEndLemmas.{printed-statuses, unloaded-statuses}
 
 module _ (names : VerifyNames) (before after : Outside) (status : ℕ) (found : Option Record) where

@@ -5,20 +5,20 @@ use Rattle.pack_defs.specs.ClockRule.{ClockTest}
 use Rattle.pack_defs.specs.Lists.{is_in}
 use Rattle.outside_io.specs.Files.{StoredFile, bytes_of}
 use Rattle.auction_core.specs.declared.record.Record.{Record}
-use Rattle.auction_cmd.specs.declared.fault.TranscriptFault.{TranscriptFault}
-use Rattle.auction_cmd.specs.declared.inputs.Inputs.{Inputs}
-use Rattle.auction_cmd.specs.Delivery.{IsPrinted}
-use Rattle.auction_cmd.specs.Delivery.IsPrinted.{Written, CutShort}
-use Rattle.auction_cmd.specs.Ends.{AreInputsOf, IsNotLoaded, IsTextHeld}
-use Rattle.auction_cmd.specs.Ends.IsNotLoaded.{Unloaded, LongText}
-use Rattle.auction_cmd.specs.Inputs.{file_limit}
-use Rattle.auction_cmd.specs.Outside.{Outside}
-use Rattle.auction_cmd.specs.Records.{done_status}
-use Rattle.auction_cmd.specs.Verified.{verified}
-use Rattle.auction_cmd.specs.VerifyPromises.{IsGiven}
+use Rattle.commands.specs.declared.fault.TranscriptFault.{TranscriptFault}
+use Rattle.commands.specs.declared.inputs.Inputs.{Inputs}
+use Rattle.commands.specs.Delivery.{IsPrinted}
+use Rattle.commands.specs.Delivery.IsPrinted.{Written, CutShort}
+use Rattle.commands.specs.Ends.{AreInputsOf, IsNotLoaded, IsTextHeld}
+use Rattle.commands.specs.Ends.IsNotLoaded.{Unloaded, LongText}
+use Rattle.commands.specs.Inputs.{file_limit}
+use Rattle.commands.specs.Outside.{Outside}
+use Rattle.commands.specs.Records.{done_status}
+use Rattle.commands.specs.Verified.{verified}
+use Rattle.commands.specs.VerifyPromises.{IsGiven}
 use Rattle.command_words.specs.Words.{VerifyNames}
-use Rattle.auction_cmd.proofs.Halts.{same-inputs}
-use Rattle.auction_cmd.proofs.Statuses.{done-within, off, one-of, within}
+use Rattle.commands.proofs.Halts.{same-inputs}
+use Rattle.commands.proofs.Statuses.{done-within, off, one-of, within}
 
 -- ---- the statuses of an end
 

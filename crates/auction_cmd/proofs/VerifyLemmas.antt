@@ -11,22 +11,22 @@ use Rattle.outside_io.specs.Loads.{Writes}
 use Rattle.auction_core.specs.declared.record.Record.{Record}
 use Rattle.auction_core.specs.Backed.{undecided_of}
 use Rattle.transcript_text.specs.Spelling.{transcript_text}
-use Rattle.auction_cmd.specs.declared.fault.TranscriptFault.{TranscriptFault}
-use Rattle.auction_cmd.specs.declared.inputs.Inputs.{Inputs}
-use Rattle.auction_cmd.specs.Delivery.IsPrinted.{Written, CutShort}
-use Rattle.auction_cmd.specs.Ends.{AreInputsOf, VerifyEnds}
-use Rattle.auction_cmd.specs.Ends.IsNotLoaded.{Unloaded, LongText}
-use Rattle.auction_cmd.specs.Ends.VerifyEnds.{VerifyStopped, VerifyStarved, NotLoaded, NotSound, Sound}
-use Rattle.auction_cmd.specs.Inputs.{inputs_of}
-use Rattle.auction_cmd.specs.Outside.{Outside, IsSaid}
-use Rattle.auction_cmd.specs.Records.{IsRecordIn, done_status, outcome, result_of}
-use Rattle.auction_cmd.specs.Verified.{CanBeNamed, fault_line, verified}
-use Rattle.auction_cmd.specs.VerifyPromises.{IsGiven, IsOr, IsVerified, VerifyPromises, verified_text}
+use Rattle.commands.specs.declared.fault.TranscriptFault.{TranscriptFault}
+use Rattle.commands.specs.declared.inputs.Inputs.{Inputs}
+use Rattle.commands.specs.Delivery.IsPrinted.{Written, CutShort}
+use Rattle.commands.specs.Ends.{AreInputsOf, VerifyEnds}
+use Rattle.commands.specs.Ends.IsNotLoaded.{Unloaded, LongText}
+use Rattle.commands.specs.Ends.VerifyEnds.{VerifyStopped, VerifyStarved, NotLoaded, NotSound, Sound}
+use Rattle.commands.specs.Inputs.{inputs_of}
+use Rattle.commands.specs.Outside.{Outside, IsSaid}
+use Rattle.commands.specs.Records.{IsRecordIn, done_status, outcome, result_of}
+use Rattle.commands.specs.Verified.{CanBeNamed, fault_line, verified}
+use Rattle.commands.specs.VerifyPromises.{IsGiven, IsOr, IsVerified, VerifyPromises, verified_text}
 use Rattle.command_words.specs.Words.{VerifyNames}
-use Rattle.auction_cmd.proofs.Halts.{halted-held, same-inputs, stopped-statuses}
-use Rattle.auction_cmd.proofs.ReadAgain.{record-verified}
-use Rattle.auction_cmd.proofs.ReadingLemmas.{accepted-ascend, accepted-values}
-use Rattle.auction_cmd.proofs.Statuses.{apart-lists, off, one-of, within}
+use Rattle.commands.proofs.Halts.{halted-held, same-inputs, stopped-statuses}
+use Rattle.commands.proofs.ReadAgain.{record-verified}
+use Rattle.commands.proofs.ReadingLemmas.{accepted-ascend, accepted-values}
+use Rattle.commands.proofs.Statuses.{apart-lists, off, one-of, within}
 use Rattle.auction_cmd.proofs.VerifyReadings.{all-halted, all-missing, all-missing_transcript, all-refuses_input, all-refuses_long, all-surely_read, all-unread, all-unread_says}
 use Rattle.auction_cmd.proofs.VerifyEndLemmas.{is-given, never-four, no-text, not-both-verified, not-long, printed-files, printed-statuses, same-record, same-verified, unloaded-statuses}
 

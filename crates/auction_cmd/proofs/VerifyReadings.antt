@@ -5,25 +5,25 @@ use Rattle.outside_io.specs.Faults.{HasRisen}
 use Rattle.outside_io.specs.Files.{StoredFile, bytes_of}
 use Rattle.auction_core.specs.declared.record.Record.{Record}
 use Rattle.auction_core.specs.Backed.{undecided_of}
-use Rattle.auction_cmd.specs.declared.inputs.Inputs.{Inputs}
-use Rattle.auction_cmd.specs.declared.inputs.Stop.TheVariants.{CannotRead, Refused}
+use Rattle.commands.specs.declared.inputs.Inputs.{Inputs}
+use Rattle.commands.specs.declared.inputs.Stop.TheVariants.{CannotRead, Refused}
 use Rattle.command_words.specs.declared.run_words.Input.{Input}
-use Rattle.auction_cmd.specs.declared.refusal.Refusal.{Refusal}
-use Rattle.auction_cmd.specs.Ends.{VerifyEnds}
-use Rattle.auction_cmd.specs.Ends.IsNotLoaded.{Unloaded, LongText}
-use Rattle.auction_cmd.specs.Ends.VerifyEnds.{VerifyStopped, VerifyStarved, NotLoaded, NotSound, Sound}
-use Rattle.auction_cmd.specs.Inputs.{file_limit, inputs_of}
-use Rattle.auction_cmd.specs.Outside.{Outside, IsSaid}
-use Rattle.auction_cmd.specs.Promises.{AreThere}
-use Rattle.auction_cmd.specs.Records.{result_of}
-use Rattle.auction_cmd.specs.Refusals.{refusal_line}
+use Rattle.commands.specs.declared.refusal.Refusal.{Refusal}
+use Rattle.commands.specs.Ends.{VerifyEnds}
+use Rattle.commands.specs.Ends.IsNotLoaded.{Unloaded, LongText}
+use Rattle.commands.specs.Ends.VerifyEnds.{VerifyStopped, VerifyStarved, NotLoaded, NotSound, Sound}
+use Rattle.commands.specs.Inputs.{file_limit, inputs_of}
+use Rattle.commands.specs.Outside.{Outside, IsSaid}
+use Rattle.commands.specs.Promises.{AreThere}
+use Rattle.commands.specs.Records.{result_of}
+use Rattle.commands.specs.Refusals.{refusal_line}
 use Rattle.command_words.specs.Words.{name_of}
-use Rattle.auction_cmd.specs.Says.{long_line, unread_line}
-use Rattle.auction_cmd.specs.VerifyPromises.{AreAllThere, IsOr}
+use Rattle.commands.specs.Says.{long_line, unread_line}
+use Rattle.commands.specs.VerifyPromises.{AreAllThere, IsOr}
 use Rattle.command_words.specs.Words.{VerifyNames}
-use Rattle.auction_cmd.proofs.Halts.{halted-held, missing-one, not-both, read-there, refused-cause, stopped-unread, stops-at, unread-line}
-use Rattle.auction_cmd.proofs.Halts.Reading.{Halted}
-use Rattle.auction_cmd.proofs.Statuses.{off}
+use Rattle.commands.proofs.Halts.{halted-held, missing-one, not-both, read-there, refused-cause, stopped-unread, stops-at, unread-line}
+use Rattle.commands.proofs.Halts.Reading.{Halted}
+use Rattle.commands.proofs.Statuses.{off}
 use Rattle.auction_cmd.proofs.VerifyEndLemmas.{is-given, no-text, not-long, printed-statuses}
 
 module _ (names : VerifyNames) (before after : Outside) (status : ℕ) (found : Option Record) where

@@ -10,21 +10,21 @@ use Rattle.batch_list.specs.ListOf.{ListedNames}
 use Rattle.auction_core.specs.declared.record.Ending.TheVariants.{Done}
 use Rattle.auction_core.specs.declared.record.Record.{Record}
 use Rattle.auction_core.specs.Backed.{undecided_of}
-use Rattle.auction_cmd.specs.declared.inputs.Inputs.{Inputs}
-use Rattle.auction_cmd.specs.declared.inputs.Stop.TheVariants.{CannotRead, Refused, NoMemory}
+use Rattle.commands.specs.declared.inputs.Inputs.{Inputs}
+use Rattle.commands.specs.declared.inputs.Stop.TheVariants.{CannotRead, Refused, NoMemory}
 use Rattle.command_words.specs.declared.run_words.Input.{Input}
-use Rattle.auction_cmd.specs.Batch.{BatchStop, Unread, Twice, HeldBatch, batch_of, batch_status, batch_texts, own_status, status_lines}
+use Rattle.commands.specs.Batch.{BatchStop, Unread, Twice, HeldBatch, batch_of, batch_status, batch_texts, own_status, status_lines}
 use Rattle.command_words.specs.Words.{inputs_with}
-use Rattle.auction_cmd.specs.BatchEnds.{AreRecordsOf, EachOf, IsBatchHeld, IsUnderList}
-use Rattle.auction_cmd.specs.Delivery.{AllOthersStand, AreStored, AreStoredUpTo}
-use Rattle.auction_cmd.specs.Inputs.{inputs_of}
-use Rattle.auction_cmd.specs.Outside.{Outside, IsSaid}
-use Rattle.auction_cmd.specs.Records.{IsRecordBy, outcome, result_of, run_order}
-use Rattle.auction_cmd.specs.Refusals.{refusal_line}
+use Rattle.commands.specs.BatchEnds.{AreRecordsOf, EachOf, IsBatchHeld, IsUnderList}
+use Rattle.commands.specs.Delivery.{AllOthersStand, AreStored, AreStoredUpTo}
+use Rattle.commands.specs.Inputs.{inputs_of}
+use Rattle.commands.specs.Outside.{Outside, IsSaid}
+use Rattle.commands.specs.Records.{IsRecordBy, outcome, result_of, run_order}
+use Rattle.commands.specs.Refusals.{refusal_line}
 use Rattle.command_words.specs.Words.{name_of}
-use Rattle.auction_cmd.specs.Says.{memory_line, twice_line, unread_line, unwritten_line}
-use Rattle.auction_cmd.specs.Statuses.{DONE, LEFT_OPEN, UNREAD, UNWRITTEN, REFUSED, NO_MEMORY, SOME_UNSTARTED}
-use Rattle.auction_cmd.specs.VerifyPromises.{IsOr}
+use Rattle.commands.specs.Says.{memory_line, twice_line, unread_line, unwritten_line}
+use Rattle.commands.specs.Statuses.{DONE, LEFT_OPEN, UNREAD, UNWRITTEN, REFUSED, NO_MEMORY, SOME_UNSTARTED}
+use Rattle.commands.specs.VerifyPromises.{IsOr}
 use Rattle.command_words.specs.Words.{BatchNames, InputNames}
 
 -- All auctions of the batch were carried out: there is a record for each line of the list, in order, that of the auction of the

@@ -1,13 +1,13 @@
 -- How the program ends and what may be relied on, whatever the words ask for: an auction that goes on, a batch, or another command.
 use Rattle.std.specs.Prelude.{◌≡◌, ℕ, Bool, true, false, List, [], Option, None, IsFalse, IsTrue}
 use Rattle.auction_core.specs.declared.record.Record.{Record}
-use Rattle.auction_cmd.specs.BatchEnds.{BatchEnds}
+use Rattle.commands.specs.BatchEnds.{BatchEnds}
 use Rattle.auction_cmd.specs.BatchPromises.{BatchPromises}
-use Rattle.auction_cmd.specs.Ends.{Ends}
-use Rattle.auction_cmd.specs.Outside.{Outside}
-use Rattle.auction_cmd.specs.Plan.{Plan, no_command, repeats, runs, checks, verifies, resumes, seeks, batches, makes, exports, imports}
-use Rattle.auction_cmd.specs.Promises.{Promises}
-use Rattle.auction_cmd.specs.ResumeEnds.{ResumeEnds}
+use Rattle.commands.specs.Ends.{Ends}
+use Rattle.commands.specs.Outside.{Outside}
+use Rattle.commands.specs.Plan.{Plan, no_command, repeats, runs, checks, verifies, resumes, seeks, batches, makes, exports, imports}
+use Rattle.commands.specs.Promises.{Promises}
+use Rattle.commands.specs.ResumeEnds.{ResumeEnds}
 use Rattle.auction_cmd.specs.ResumePromises.{ResumePromises}
 use Rattle.command_words.specs.Words.{BatchNames, ResumeNames, repeated_resume}
 

@@ -7,25 +7,25 @@ use Rattle.auction_core.specs.declared.prefix.Prefix.{Prefix}
 use Rattle.auction_core.specs.declared.record.Record.{Record}
 use Rattle.auction_core.specs.Backed.{undecided_of}
 use Rattle.auction_core.specs.NotShown.{order_kept}
-use Rattle.auction_cmd.specs.declared.fault.TranscriptFault.{TranscriptFault}
-use Rattle.auction_cmd.specs.declared.inputs.Inputs.{Inputs}
-use Rattle.auction_cmd.specs.declared.inputs.Stop.TheVariants.{CannotRead, Refused}
+use Rattle.commands.specs.declared.fault.TranscriptFault.{TranscriptFault}
+use Rattle.commands.specs.declared.inputs.Inputs.{Inputs}
+use Rattle.commands.specs.declared.inputs.Stop.TheVariants.{CannotRead, Refused}
 use Rattle.command_words.specs.declared.run_words.Input.{Input}
-use Rattle.auction_cmd.specs.declared.refusal.Refusal.{Refusal}
-use Rattle.auction_cmd.specs.Delivery.{AllOthersStand}
-use Rattle.auction_cmd.specs.Ends.{AreInputsOf, IsTextHeld}
-use Rattle.auction_cmd.specs.Inputs.{file_limit, inputs_of}
-use Rattle.auction_cmd.specs.Outside.{Outside, IsSaid}
-use Rattle.auction_cmd.specs.Promises.{IsSomeRecord}
-use Rattle.auction_cmd.specs.Records.{IsEndedRecordIn, StartFits, StartUnfit, done_status}
-use Rattle.auction_cmd.specs.Refusals.{refusal_line}
+use Rattle.commands.specs.declared.refusal.Refusal.{Refusal}
+use Rattle.commands.specs.Delivery.{AllOthersStand}
+use Rattle.commands.specs.Ends.{AreInputsOf, IsTextHeld}
+use Rattle.commands.specs.Inputs.{file_limit, inputs_of}
+use Rattle.commands.specs.Outside.{Outside, IsSaid}
+use Rattle.commands.specs.Promises.{IsSomeRecord}
+use Rattle.commands.specs.Records.{IsEndedRecordIn, StartFits, StartUnfit, done_status}
+use Rattle.commands.specs.Refusals.{refusal_line}
 use Rattle.command_words.specs.Words.{name_of}
-use Rattle.auction_cmd.specs.Resumption.{GoesOnFrom, begun}
-use Rattle.auction_cmd.specs.RunPromises.{RunPromises}
-use Rattle.auction_cmd.specs.Says.{long_line, memory_line, unread_line}
-use Rattle.auction_cmd.specs.Statuses.{DONE, LEFT_OPEN, UNREAD, UNWRITTEN, REFUSED, START_UNFIT, START_OPEN, NO_MEMORY, NOT_SHOWN}
-use Rattle.auction_cmd.specs.Verified.{fault_line, verified}
-use Rattle.auction_cmd.specs.VerifyPromises.{AreAllThere, IsGiven, IsOr}
+use Rattle.commands.specs.Resumption.{GoesOnFrom, begun}
+use Rattle.commands.specs.RunPromises.{RunPromises}
+use Rattle.commands.specs.Says.{long_line, memory_line, unread_line}
+use Rattle.commands.specs.Statuses.{DONE, LEFT_OPEN, UNREAD, UNWRITTEN, REFUSED, START_UNFIT, START_OPEN, NO_MEMORY, NOT_SHOWN}
+use Rattle.commands.specs.Verified.{fault_line, verified}
+use Rattle.commands.specs.VerifyPromises.{AreAllThere, IsGiven, IsOr}
 use Rattle.command_words.specs.Words.{ResumeNames, begun_names, output_names}
 
 -- The auction went on: from what is kept of the beginning that was read, each step of which is shown. The record is that of the

@@ -214,7 +214,7 @@ rest-roomier : (s : SetupView) (c : CourseView) (room verdicts : ℕ) → IsAtRe
 rest-roomier s c room verdicts (inl over) = inl over
 rest-roomier s c room verdicts (inr query) = inr (record { turn = query.0.turn; active = query.0.active }, query.1)
 
-course-roomier : (s : SetupView) (c : CourseView) (room verdicts : ℕ) → IsCourse s c → IsCourse s (with_room c room verdicts)
+pub course-roomier : (s : SetupView) (c : CourseView) (room verdicts : ℕ) → IsCourse s c → IsCourse s (with_room c room verdicts)
 course-roomier s c room verdicts h = record {
   sound = h.sound;
   clock = h.clock;

@@ -116,16 +116,29 @@ impl Auction {
         ensures state { IfOk result (λ auction. auction.state ≡ clockwork.state) }
         ensures history { IfOk result (λ auction. auction.history ≡ []) }
     {
+        let notes = Notes::of_none(alloc, clockwork.workers().len())?;
+        Ok(Auction::unnoted(alloc, clockwork, notes))
+    }
+
+    // The same, with a place for each worker's receipt, none of which is noted.
+    fn unnoted(alloc: Global, clockwork: Clockwork, notes: Notes) -> Auction
+        requires places { notes.workers ≡ length clockwork.scenario.workers }
+        requires none { notes.noted ≡ [] }
+        ensures scenario { result.scenario ≡ clockwork.scenario }
+        ensures book { result.book ≡ clockwork.book }
+        ensures opened { result.opened ≡ clockwork.state }
+        ensures state { result.state ≡ clockwork.state }
+        ensures history { result.history ≡ [] }
+    {
         // For its clauses alone: that no receipt is noted, and the rule that the state keeps.
         clockwork.keeps_the_rule();
-        let notes = Notes::of_none(alloc, clockwork.workers().len())?;
         let opened = Snapshot::of(&clockwork);
-        Ok(Auction {
+        Auction {
             opened,
             clockwork,
             notes,
             history: Vec::new(alloc),
-        })
+        }
     }
 
     /// The auction of this scenario and book that goes on where what is kept of a transcript ends: its start and each kept step

@@ -19,6 +19,7 @@ use crate::past::Past;
 use crate::record::{Record, Shown, Step};
 use crate::setup::Setup;
 use pack_defs::book::Book;
+use pack_defs::items::Items;
 use pack_defs::scenario::Scenario;
 use std::alloc::{AllocError as NoMemory, Global};
 use std::marker::Model;
@@ -57,21 +58,28 @@ impl Course {
         ensures opening { IfOk result (λ c. core_state setup.now c 1 ≡ before_start setup.now.scenario setup.now.order) }
         ensures room { IfOk result (λ c. is_roomy setup.now c ≡ true) }
     {
+        let mut course = Course::before_start(alloc, setup)?;
+        course.reserve(setup)?;
+        Ok(course)
+    }
+
+    // The course before the start test, before room is made for its steps.
+    fn before_start(alloc: Global, setup: &Setup) -> Result<Course, NoMemory>
+        ensures holds { IfOk result (IsCourse setup.now) }
+        ensures opening { IfOk result (λ c. core_state setup.now c 1 ≡ before_start setup.now.scenario setup.now.order) }
+    {
         let sc = setup.scenario();
         let stations = sc.stations.as_slice();
         let clock = Clock::open(alloc, sc)?;
-        let mut past = Past::none(alloc, stations)?;
-        air_those(&mut past, setup, clock.standings());
-        let mut course = Course {
+        let past = first_past(alloc, setup, clock.standings())?;
+        Ok(Course {
             start: None,
             clock,
             map: AirMap::none(alloc, stations)?,
             past,
             round: 1,
             turn: 0,
-        };
-        course.reserve(setup)?;
-        Ok(course)
+        })
     }
 
     /// How the start test was settled, if it was.
@@ -185,23 +193,29 @@ impl Course {
         requires scenario { scenario ≡ setup.now.scenario }
         ensures { IfOk result (λ rec. rec ≡ record_of scenario (core_state setup.now self 0)) }
     {
-        let Course {
-            start,
-            map,
-            past,
-            clock,
-            ..
-        } = self;
+        let map = self.map.whole(alloc)?;
+        let total = self.clock.total();
+        let (start, steps) = self.into_shown(alloc)?;
         let Some(start) = start else { unreachable!() };
         Ok(Record {
             scenario,
             order: setup.order(),
             ending: start.ending(),
             start,
-            steps: past.into_steps(alloc)?,
-            map: map.whole(alloc)?,
-            total: clock.total(),
+            steps,
+            map,
+            total,
         })
+    }
+
+    // How the start test was settled, if it was, and the steps in one list. The only error is want of memory.
+    fn into_shown(self, alloc: Global) -> Result<(Option<Shown>, Items<Step>), NoMemory>
+        ensures start { IfOk result (λ shown. shown.0 ≡ self.start) }
+        ensures steps { IfOk result (λ shown. shown.1 ≡ self.past.steps) }
+    {
+        let Course { start, past, .. } = self;
+        let steps = past.into_steps(alloc)?;
+        Ok((start, steps))
     }
 
     /// The next test, which is due, is settled so. The clock moves, the step is kept, the map takes the channels of the
@@ -365,6 +379,21 @@ fn air_if(past: &mut Past, book: &Book, station: u32, standing: &Standing)
     if standing.is_on_air() {
         past.air(book, station);
     }
+}
+
+// What is kept before the first test: the stations that stand on air from the start, and no step.
+fn first_past(alloc: Global, setup: &Setup, standings: &[Standing]) -> Result<Past, NoMemory>
+    requires { AreStandings setup.now.scenario (opening_state setup.now.scenario) standings.now }
+    ensures parts { IfOk result (λ p. IsPartsOf setup.now.scenario setup.now.book (opening_state setup.now.scenario) p.parts) }
+    ensures on_air { IfOk result (λ p. p.on_air ≡ length (opening_state setup.now.scenario).on_air) }
+    ensures long { IfOk result (λ p. length p.seen ≡ length setup.now.scenario.stations) }
+    ensures seen { IfOk result (λ p. (i : ℕ) → slice_index p.seen i ≡ 0) }
+    ensures steps { IfOk result (λ p. p.steps ≡ []) }
+{
+    let stations = setup.scenario().stations.as_slice();
+    let mut past = Past::none(alloc, stations)?;
+    air_those(&mut past, setup, standings);
+    Ok(past)
 }
 
 // The stations that stand on air from the start go on air, one after another.

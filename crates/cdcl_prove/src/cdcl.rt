@@ -1,13 +1,16 @@
 //! The solver of a worker that learns, as the layers above see it.
 
-ghost use Rattle.std.specs.Prelude.{◌≡◌, IfOk, IfSome, IsTrue, length, true};
+ghost use Rattle.std.specs.Prelude.{ℕ, ◌≡◌, IfOk, IfSome, IsTrue, length, true};
 ghost use Rattle.pack_defs.specs.Lists.{is_ascending};
+ghost use Rattle.pack_defs.specs.declared.worker.Worker.{Worker};
 ghost use Rattle.cert_types.specs.Query.{AttemptIs, IsQuery};
 ghost use Rattle.cert_types.specs.Refutes.{is_subset};
 ghost use Rattle.cert_types.specs.Valid.{learns};
 ghost use Rattle.cdcl_prove.specs.Formulas.{IsFormulaOf};
+ghost use Rattle.cdcl_prove.specs.Search.{IsModel, SearchEndIs};
 
 use crate::answers::{fit, receipt, refutation};
+use crate::derivation::Derivation;
 use crate::guide::DecisionGuide;
 use crate::kept::{Asked, ask};
 use crate::policy::{STEPS_OF_LAST_CHANNEL, STEPS_WITHOUT_CHANNEL};
@@ -226,12 +229,11 @@ fn attempt_within<P: Poll>(
     ensures said { IfOk result (λ r. IfSome r (λ attempt. AttemptIs book.now task.now worker (P.last poll.new) attempt)) }
     ensures goes { P.goes poll.old poll.new }
 {
-    let mut search = begin(alloc, book, task, part, worker.seed)?;
-    let outcome = solve(alloc, &mut search, worker.budget, task.number, poll)?;
+    let (derivation, outcome) = search_set(alloc, book, task, part, worker, poll)?;
     match outcome {
         SearchEnd::Model | SearchEnd::Spent => Ok(None),
         SearchEnd::Refuted(last) => {
-            let answer = refutation(alloc, part, search.into_derivation(), last)?;
+            let answer = refutation(alloc, part, derivation, last)?;
             Ok(Some(Attempt::Said(answer)))
         }
         SearchEnd::Moved { now } => Ok(Some(Attempt::Moved { now })),
@@ -251,21 +253,52 @@ fn attempt_whole<P: Poll>(
     ensures said { IfOk result (λ attempt. AttemptIs book.now task.now worker (P.last poll.new) attempt) }
     ensures goes { P.goes poll.old poll.new }
 {
-    let mut search = begin(alloc, book, task, task.set.as_slice(), worker.seed)?;
-    let outcome = solve(alloc, &mut search, worker.budget, task.number, poll)?;
+    let set = task.set.as_slice();
+    let (derivation, outcome) = search_set(alloc, book, task, set, worker, poll)?;
     match outcome {
-        SearchEnd::Model => {
-            let answer = fit(alloc, book, task, &search.derivation)?;
-            Ok(Attempt::Said(answer))
-        }
+        SearchEnd::Model => say_fit(alloc, book, task, derivation),
         SearchEnd::Refuted(last) => {
-            let set = task.set.as_slice();
-            let answer = refutation(alloc, set, search.into_derivation(), last)?;
+            let answer = refutation(alloc, set, derivation, last)?;
             Ok(Attempt::Said(answer))
         }
-        SearchEnd::Spent => Ok(Attempt::Said(receipt(search.into_derivation()))),
+        SearchEnd::Spent => Ok(Attempt::Said(receipt(derivation))),
         SearchEnd::Moved { now } => Ok(Attempt::Moved { now }),
     }
+}
+
+// Returns the fit that a model of the whole set's formula says, as an attempt at the query.
+fn say_fit(
+    alloc: Global,
+    book: &Book,
+    task: &Task,
+    derivation: Derivation,
+) -> Result<Attempt, NoMemory>
+    requires query { IsQuery book.now task.now }
+    requires formula { IsFormulaOf book.now task.now.set derivation.formula }
+    requires model { IsModel derivation }
+    ensures { (worker : Worker) (last : ℕ) → IfOk result (λ attempt. AttemptIs book.now task.now worker last attempt) }
+{
+    let answer = fit(alloc, book, task, &derivation)?;
+    Ok(Attempt::Said(answer))
+}
+
+// Searches over the packing formula of a set until the search ends. Returns what it derived, and how it ended.
+fn search_set<P: Poll>(
+    alloc: Global,
+    book: &Book,
+    task: &Task,
+    set: &[u32],
+    worker: Worker,
+    poll: &mut P,
+) -> Result<(Derivation, SearchEnd), NoMemory>
+    requires { IsTrue (is_ascending set.now) }
+    ensures formula { IfOk result (λ r. IsFormulaOf book.now set.now r.0.formula) }
+    ensures outcome { IfOk result (λ r. SearchEndIs r.0 worker.budget task.now.number (P.last poll.new) r.1) }
+    ensures goes { P.goes poll.old poll.new }
+{
+    let mut search = begin(alloc, book, task, set, worker.seed)?;
+    let outcome = solve(alloc, &mut search, worker.budget, task.number, poll)?;
+    Ok((search.into_derivation(), outcome))
 }
 
 // A search over the packing formula of a set, guided by the query's last map and this seed.

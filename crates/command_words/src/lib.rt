@@ -1,6 +1,6 @@
 //! The words of the command line, as `clap` reads them: which command they are, and the names and numbers of its arguments.
 //!
-//! `auction_cmd` calls it, and carries the commands out. Read `words` and `run_words` first; `file_args`
+//! `auction_cmd` calls it, and has `commands` carry the commands out. Read `words` and `run_words` first; `file_args`
 //! has the arguments that name files, and each other module the words of one command, or of two that are alike.
 #![tactic(auto)]
 

@@ -8,7 +8,7 @@ ghost use Rattle.command_words.specs.Words.{is_repeated_among, repeated_resume, 
 use crate::file_args::{
     CHANNELS, DOMAINS, FileArg, RESULT, ROWS, SCENARIO, TRANSCRIPT, file_command,
 };
-use crate::run_words::{RunArgs, input_args, run_args, times_in, value_of};
+use crate::run_words::{RunArgs, plain_run_args, times_in, value_of};
 use clap::{ArgMatches, Command};
 use std::alloc::{AllocError, Global};
 
@@ -77,7 +77,7 @@ pub(crate) fn resume_command<'a>(alloc: Global) -> Result<Command<'a>, AllocErro
 pub(crate) fn resume_args<'a>(matches: &ArgMatches<'a>) -> Option<ResumeArgs<'a>>
     ensures { option_map resume_seen result ≡ resume_names (rows_of (found_of matches.now)) }
 {
-    let run_files = run_args(matches, input_args(matches)?)?;
+    let run_files = plain_run_args(matches)?;
     let prefix = value_of(matches, "PREFIX")?;
     Some(ResumeArgs { run_files, prefix })
 }

@@ -1,7 +1,7 @@
 //! The words of `run`, `live`, `check`, `verify` and `verify-live`: the names of an auction's files, and the arguments that more
 //! commands take.
 
-ghost use Rattle.std.specs.Prelude.{◌≡◌, IfOk, count_by, false, map, option_map};
+ghost use Rattle.std.specs.Prelude.{◌≡◌, IfOk, count_by, false, map, option_and_then, option_map};
 ghost use Rattle.std.specs.Str.{bytes_eq};
 ghost use Rattle.clap.specs.Words.{app_of, first_of, found_of, rows_of};
 ghost use Rattle.clap.specs.declared.builder.command.Command.TheViews.{out-Command};
@@ -227,10 +227,21 @@ pub(crate) fn run_args<'a>(matches: &ArgMatches<'a>, inputs: InputArgs<'a>) -> O
     })
 }
 
-pub(crate) fn shown_args<'a>(
-    matches: &ArgMatches<'a>,
-    inputs: InputArgs<'a>,
-) -> Option<VerifyArgs<'a>>
+// The arguments of `run`.
+pub(crate) fn plain_run_args<'a>(matches: &ArgMatches<'a>) -> Option<RunArgs<'a>>
+    ensures { option_map names_seen result ≡ option_and_then (run_names (rows_of (found_of matches.now))) (input_names (rows_of (found_of matches.now))) }
+{
+    run_args(matches, input_args(matches)?)
+}
+
+// The arguments of `live`.
+pub(crate) fn live_run_args<'a>(matches: &ArgMatches<'a>) -> Option<RunArgs<'a>>
+    ensures { option_map names_seen result ≡ option_and_then (run_names (rows_of (found_of matches.now))) (live_names (rows_of (found_of matches.now))) }
+{
+    run_args(matches, live_args(matches)?)
+}
+
+fn shown_args<'a>(matches: &ArgMatches<'a>, inputs: InputArgs<'a>) -> Option<VerifyArgs<'a>>
     ensures { option_map verify_seen result ≡ shown_by_names (rows_of (found_of matches.now)) (inputs_seen inputs.entry) }
 {
     let transcript = value_of(matches, "TRANSCRIPT")?;
@@ -241,4 +252,11 @@ pub(crate) fn verify_args<'a>(matches: &ArgMatches<'a>) -> Option<VerifyArgs<'a>
     ensures { option_map verify_seen result ≡ verify_names (rows_of (found_of matches.now)) }
 {
     shown_args(matches, input_args(matches)?)
+}
+
+// The arguments of `verify-live`.
+pub(crate) fn verify_live_args<'a>(matches: &ArgMatches<'a>) -> Option<VerifyArgs<'a>>
+    ensures { option_map verify_seen result ≡ option_and_then (shown_by_names (rows_of (found_of matches.now))) (live_names (rows_of (found_of matches.now))) }
+{
+    shown_args(matches, live_args(matches)?)
 }

@@ -1,9 +1,11 @@
 //! The words of the command line, as `clap` reads them: which command they are.
 
-ghost use Rattle.std.specs.Prelude.{◌≡◌, ◌≢◌, IfErr, IfOk, None, Some, false, map, option_and_then, option_map, string_bytes};
-ghost use Rattle.clap.specs.Words.{app_of, kind_of, subcommand_rows_of};
+ghost use Rattle.std.specs.Prelude.{◌≡◌, ◌≢◌, IfErr, IfOk, IsOkAnd, None, Some, codes, false, if◌then◌else◌, map, option_and_then, option_map, string_bytes};
+ghost use Rattle.std.specs.Str.{bytes_eq};
+ghost use Rattle.clap.specs.Words.{app_of, found_of, kind_of, rows_of, subcommand_rows_of, with_subcommand};
 ghost use Rattle.clap.specs.declared.builder.command.Command.TheViews.{out-Command};
 ghost use Rattle.command_words.specs.Words.{IsRefused, bare_app, batching_app, command_of, command_seen, live_reading_app, named_command, program_app, reading_app, resuming_app, seeking_app};
+ghost use Rattle.command_words.specs.Words.{batch, batch_names, export, export_names, import, import_names, make, make_names, resume, resume_names, seek, seek_names};
 
 use crate::batch_words::{BatchArgs, batch_args, batch_command};
 use crate::make_words::{MakeArgs, make_args, make_command};
@@ -12,8 +14,9 @@ use crate::proof_words::{
 };
 use crate::resume_words::{ResumeArgs, resume_args, resume_command};
 use crate::run_words::{
-    InputArgs, RunArgs, VerifyArgs, check_command, input_args, live_args, live_command, run_args,
-    run_command, shown_args, verify_args, verify_command, verify_live_command,
+    InputArgs, RunArgs, VerifyArgs, check_command, input_args, live_command, live_run_args,
+    plain_run_args, run_command, verify_args, verify_command, verify_live_args,
+    verify_live_command,
 };
 use crate::seek_words::{SeekArgs, seek_args, seek_command};
 use clap::error::ErrorKind;
@@ -64,15 +67,28 @@ fn bare_program<'a>(alloc: Global) -> Result<Command<'a>, AllocError>
     command.bin_name("repack")
 }
 
+// The program with this command after its own, where there was memory for the command too. Its callers hold no program while
+// they may return early.
+fn with_command<'a>(
+    program: Command<'a>,
+    command: Result<Command<'a>, AllocError>,
+) -> Result<Command<'a>, AllocError>
+    requires local { (out-Command program).has_globals ≡ false }
+    requires command_local { IfOk command (λ c. (out-Command c).has_globals ≡ false) }
+    ensures app { IfOk result (λ c. IsOkAnd command.entry (λ added. app_of c ≡ with_subcommand (app_of program.entry) (app_of added).top)) }
+    ensures local { IfOk result (λ c. (out-Command c).has_globals ≡ false) }
+{
+    program.subcommand(command?)
+}
+
 // The program with the commands that read an auction's files and ask about no step.
 fn reading_program<'a>(alloc: Global) -> Result<Command<'a>, AllocError>
     ensures app { IfOk result (λ c. app_of c ≡ reading_app) }
     ensures local { IfOk result (λ c. (out-Command c).has_globals ≡ false) }
 {
-    bare_program(alloc)?
-        .subcommand(run_command(alloc)?)?
-        .subcommand(check_command(alloc)?)?
-        .subcommand(verify_command(alloc)?)
+    let running = with_command(bare_program(alloc)?, run_command(alloc))?;
+    let checking = with_command(running, check_command(alloc))?;
+    with_command(checking, verify_command(alloc))
 }
 
 // The same with those of a live auction.
@@ -80,9 +96,8 @@ fn live_reading_program<'a>(alloc: Global) -> Result<Command<'a>, AllocError>
     ensures app { IfOk result (λ c. app_of c ≡ live_reading_app) }
     ensures local { IfOk result (λ c. (out-Command c).has_globals ≡ false) }
 {
-    reading_program(alloc)?
-        .subcommand(live_command(alloc)?)?
-        .subcommand(verify_live_command(alloc)?)
+    let live = with_command(reading_program(alloc)?, live_command(alloc))?;
+    with_command(live, verify_live_command(alloc))
 }
 
 // The same with the one that goes on with an auction.
@@ -90,7 +105,8 @@ fn resuming_program<'a>(alloc: Global) -> Result<Command<'a>, AllocError>
     ensures app { IfOk result (λ c. app_of c ≡ resuming_app) }
     ensures local { IfOk result (λ c. (out-Command c).has_globals ≡ false) }
 {
-    live_reading_program(alloc)?.subcommand(resume_command(alloc)?)
+    let program = live_reading_program(alloc)?;
+    with_command(program, resume_command(alloc))
 }
 
 // The same with the one that seeks the least top channel.
@@ -98,7 +114,8 @@ fn seeking_program<'a>(alloc: Global) -> Result<Command<'a>, AllocError>
     ensures app { IfOk result (λ c. app_of c ≡ seeking_app) }
     ensures local { IfOk result (λ c. (out-Command c).has_globals ≡ false) }
 {
-    resuming_program(alloc)?.subcommand(seek_command(alloc)?)
+    let program = resuming_program(alloc)?;
+    with_command(program, seek_command(alloc))
 }
 
 // The same with the one that runs many auctions.
@@ -106,16 +123,16 @@ fn batching_program<'a>(alloc: Global) -> Result<Command<'a>, AllocError>
     ensures app { IfOk result (λ c. app_of c ≡ batching_app) }
     ensures local { IfOk result (λ c. (out-Command c).has_globals ≡ false) }
 {
-    seeking_program(alloc)?.subcommand(batch_command(alloc)?)
+    let program = seeking_program(alloc)?;
+    with_command(program, batch_command(alloc))
 }
 
 fn program<'a>(alloc: Global) -> Result<Command<'a>, AllocError>
     ensures { IfOk result (λ c. app_of c ≡ program_app) }
 {
-    batching_program(alloc)?
-        .subcommand(make_command(alloc)?)?
-        .subcommand(export_command(alloc)?)?
-        .subcommand(import_command(alloc)?)
+    let making = with_command(batching_program(alloc)?, make_command(alloc))?;
+    let exporting = with_command(making, export_command(alloc))?;
+    with_command(exporting, import_command(alloc))
 }
 
 // The command that `clap` found, with its arguments.
@@ -123,28 +140,62 @@ fn command_args<'a>(matches: &ArgMatches<'a>) -> Option<CommandArgs<'a>>
     ensures { option_map command_seen result ≡ option_and_then named_command (subcommand_rows_of matches.now) }
 {
     let (name, inner) = matches.subcommand()?;
+    named_args(name, inner)
+}
+
+// The command of this name, with its arguments.
+fn named_args<'a>(name: &str, inner: &ArgMatches<'a>) -> Option<CommandArgs<'a>>
+    ensures { option_map command_seen result ≡ named_command (name.now, rows_of (found_of inner.now)) }
+{
     if name == "run" {
-        Some(CommandArgs::Run(run_args(inner, input_args(inner)?)?))
+        plain_run_args(inner).map(CommandArgs::Run)
     } else if name == "check" {
-        Some(CommandArgs::Check(input_args(inner)?))
+        input_args(inner).map(CommandArgs::Check)
     } else if name == "verify" {
-        Some(CommandArgs::Verify(verify_args(inner)?))
+        verify_args(inner).map(CommandArgs::Verify)
     } else if name == "live" {
-        Some(CommandArgs::Run(run_args(inner, live_args(inner)?)?))
+        live_run_args(inner).map(CommandArgs::Run)
     } else if name == "verify-live" {
-        Some(CommandArgs::Verify(shown_args(inner, live_args(inner)?)?))
-    } else if name == "resume" {
-        Some(CommandArgs::Resume(resume_args(inner)?))
+        verify_live_args(inner).map(CommandArgs::Verify)
+    } else {
+        other_args(name, inner)
+    }
+}
+
+// The command of this name, with its arguments, where it is none of those that `named_args` reads itself.
+fn other_args<'a>(name: &str, inner: &ArgMatches<'a>) -> Option<CommandArgs<'a>>
+    ensures { let rows = rows_of (found_of inner.now) in
+        option_map command_seen result ≡ (if bytes_eq name.now (codes "resume") then option_map resume (resume_names rows)
+        else (if bytes_eq name.now (codes "seek") then option_map seek (seek_names rows)
+        else (if bytes_eq name.now (codes "batch") then option_map batch (batch_names rows)
+        else (if bytes_eq name.now (codes "make") then option_map make (make_names rows)
+        else (if bytes_eq name.now (codes "export") then option_map export (export_names rows)
+        else (if bytes_eq name.now (codes "import") then option_map import (import_names rows) else None)))))) }
+{
+    if name == "resume" {
+        resume_args(inner).map(CommandArgs::Resume)
     } else if name == "seek" {
-        Some(CommandArgs::Seek(seek_args(inner)?))
+        seek_args(inner).map(CommandArgs::Seek)
     } else if name == "batch" {
-        Some(CommandArgs::Batch(batch_args(inner)?))
-    } else if name == "make" {
-        Some(CommandArgs::Make(make_args(inner)?))
+        batch_args(inner).map(CommandArgs::Batch)
+    } else {
+        last_args(name, inner)
+    }
+}
+
+// The command of this name, with its arguments, where it is `make` or takes a step of a transcript.
+fn last_args<'a>(name: &str, inner: &ArgMatches<'a>) -> Option<CommandArgs<'a>>
+    ensures { let rows = rows_of (found_of inner.now) in
+        option_map command_seen result ≡ (if bytes_eq name.now (codes "make") then option_map make (make_names rows)
+        else (if bytes_eq name.now (codes "export") then option_map export (export_names rows)
+        else (if bytes_eq name.now (codes "import") then option_map import (import_names rows) else None))) }
+{
+    if name == "make" {
+        make_args(inner).map(CommandArgs::Make)
     } else if name == "export" {
-        Some(CommandArgs::Export(export_args(inner)?))
+        export_args(inner).map(CommandArgs::Export)
     } else if name == "import" {
-        Some(CommandArgs::Import(import_args(inner)?))
+        import_args(inner).map(CommandArgs::Import)
     } else {
         None
     }

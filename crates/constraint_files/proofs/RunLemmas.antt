@@ -8,10 +8,12 @@ use Rattle.csv.specs.declared.parser.State.{State}
 use Rattle.csv.specs.declared.parser.State.TheVariants as st
 use Rattle.pack_defs.specs.Lists.{is_empty}
 use Rattle.constraint_files.specs.Records.{after_lines, after_records, kept_fields, lines_of, onto_first, past_line}
-use Rattle.constraint_files.specs.Runs.{IsRefusedBehind, after_raw, after_raws, is_plain, is_special, line_number_at, raw_records}
+use Rattle.constraint_files.specs.Runs.{IsRefusedBehind, Runs, RunsNext, after_raw, after_raws, is_plain, is_special, line_number_at, raw_records}
 use Rattle.pack_defs.specs.Steps.{◌>>=◌}
 use Rattle.constraint_files.specs.declared.error.ReadErr.TheVariants.{Row}
 use Rattle.constraint_files.specs.declared.error.RowWhy.{RowWhy}
+use Rattle.constraint_files.specs.declared.plain_lines.RunErr.{RunErr}
+use Rattle.constraint_files.specs.declared.plain_lines.RunErr.TheVariants.{NoMemory, Refused}
 use Rattle.constraint_files.proofs.CsvLemmas.{records-rows, rows, rows-next, rows-of-lines, rows_from}
 
 -- two runs of records, one after the other
@@ -30,6 +32,13 @@ pub raws-more : {S : Type 0} (add : S → List (List ℕ) → Result S RowWhy) (
     → after_raws add s done ≡ Ok m → after_raw add m r ≡ Ok t → after_raws add s (done ++ (r ∷ [])) ≡ Ok t
 unfolding after_raws
 raws-more add s m t done r taken is = rw (raws-bind add s done (r ∷ []), taken, is) refl
+
+-- a record that is not added ends the run, as the first that is refused or by want of memory
+pub next-stops : {S : Type 0} (add : S → List (List ℕ) → Result S RowWhy) (s m new : S) (raws done left : List (List (List ℕ))) (r : List (List ℕ)) (before : ℕ) (e : RunErr)
+    → raws ≡ done ++ (r ∷ left) → length done ≡ before → after_raws add s done ≡ Ok m → RunsNext add m r before new (Err e) → Runs add s raws (Err e)
+next-stops add s m new raws done left r before (Refused n why) all count taken h =
+    record { done = done; refused = r; left = left; all = all; count = count ∙ sym h.0; made = m; taken = taken; is = h.1 }
+next-stops add s m new raws done left r before NoMemory all count taken h = tt
 
 raws-refused : {S : Type 0} (add : S → List (List ℕ) → Result S RowWhy) (s m : S) (done left : List (List (List ℕ))) (r : List (List ℕ)) (why : RowWhy)
     → after_raws add s done ≡ Ok m → after_raw add m r ≡ Err why → after_raws add s (done ++ (r ∷ left)) ≡ Err why

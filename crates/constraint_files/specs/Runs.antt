@@ -32,6 +32,13 @@ after_raws add state (r ∷ rs) = do
   next ← after_raw add state r
   after_raws add next rs
 
+-- of one record that has so many before it: what it makes of a state, with how many come before the next one, or that it is
+-- refused, or want of memory
+abbrev pub RunsNext : {S : Type 0} → (S → List (List ℕ) → Result S RowWhy) → S → List (List ℕ) → ℕ → S → Result ℕ RunErr → Type 0
+RunsNext add state r before new (Ok next) = (after_raw add state r ≡ Ok new) × (next ≡ before + 1)
+RunsNext add state r before new (Err (Refused count why)) = (count ≡ before) × (after_raw add state r ≡ Err why)
+RunsNext add state r before new (Err NoMemory) = ⊤
+
 -- the first record that is refused has so many before it
 pub record IsRefusedBehind {S : Type 0} (add : S → List (List ℕ) → Result S RowWhy) (state : S) (raws : List (List (List ℕ))) (before : ℕ) (why : RowWhy) : Type 0 where
   pub done : List (List (List ℕ))

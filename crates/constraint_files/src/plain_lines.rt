@@ -5,7 +5,7 @@ ghost use Rattle.std.specs.Prelude.{◌≡◌, ◌+◌, IfOk, length};
 ghost use Rattle.csv.specs.Records.{fields_of};
 ghost use Rattle.constraint_files.specs.Reads.{Changes};
 ghost use Rattle.constraint_files.specs.Records.{lines_of};
-ghost use Rattle.constraint_files.specs.Runs.{Runs, after_raw, is_plain, is_special, line_number_at, raw_records};
+ghost use Rattle.constraint_files.specs.Runs.{Runs, RunsNext, after_raw, is_plain, is_special, line_number_at, raw_records};
 ghost use Rattle.constraint_files.specs.declared.plain_lines.RunErr.TheVariants.{NoMemory as NoRoom};
 
 use crate::error::{RowErr, RowWhy};
@@ -70,6 +70,22 @@ fn add_row<T: Table>(alloc: Global, table: &mut T, row: ByteRecord) -> Result<()
     table.add_record(alloc, &record)
 }
 
+/// Adds a record that has so many before it, and gives how many come before the next one. After an error the table is lost.
+fn add_next<T: Table>(
+    alloc: Global,
+    table: &mut T,
+    row: ByteRecord,
+    before: u64,
+) -> Result<u64, RunErr>
+    ensures { RunsNext T.add table.old (fields_of row) before table.new result }
+{
+    match add_row(alloc, table, row) {
+        Ok(()) => Ok(one_more(before)?),
+        Err(RowErr::Refused(why)) => Err(RunErr::Refused { before, why }),
+        Err(RowErr::NoMemory) => Err(RunErr::NoMemory),
+    }
+}
+
 /// Adds the records that the reader of `csv` gives of these bytes, and gives the table back.
 pub(crate) fn add_records<T: Table + Drop>(
     alloc: Global,
@@ -88,12 +104,7 @@ pub(crate) fn add_records<T: Table + Drop>(
         let Ok(row) = row else {
             return Err(RunErr::NoMemory);
         };
-        match add_row(alloc, &mut table, row) {
-            Ok(()) => {}
-            Err(RowErr::Refused(why)) => return Err(RunErr::Refused { before, why }),
-            Err(RowErr::NoMemory) => return Err(RunErr::NoMemory),
-        }
-        before = one_more(before)?;
+        before = add_next(alloc, &mut table, row, before)?;
     }
     Ok(table)
 }

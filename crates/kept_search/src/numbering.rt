@@ -1,11 +1,12 @@
 //! From the searcher's variables and lines to a log over the packing formula of some stations, whose clauses are numbered: first
 //! a clause for each station, then for each station its channels two by two, and then the pairs that interfere.
 
-use crate::cells::{filled, part, read, short, write};
+use crate::cells::{part, read, short, write};
 use crate::cone::Cone;
 use crate::engine::Engine;
 use crate::grid::Grid;
 use crate::hint::Hint;
+use crate::literal::Literal;
 use clause_db::lit::Lit;
 use rup_check::line::Log;
 use rup_check::lines::Lines;
@@ -28,56 +29,136 @@ struct Numbering {
     clauses: u64,
 }
 
+/// What a line is read into, kept from one line to the next.
+#[derive(Drop)]
+struct LineParts {
+    literals: Vec<Literal>,
+    hints: Vec<Hint>,
+    // The same as numbers of the formula.
+    lits: Vec<Lit>,
+    numbers: Vec<u64>,
+}
+
+impl LineParts {
+    // No line.
+    fn none(alloc: Global) -> LineParts {
+        LineParts {
+            literals: Vec::new(alloc),
+            hints: Vec::new(alloc),
+            lits: Vec::new(alloc),
+            numbers: Vec::new(alloc),
+        }
+    }
+}
+
 impl Engine {
     /// The log that the cone is, without the literals that say of a station that it is in the set.
     pub(crate) fn log(&self, alloc: Global) -> Result<Log, NoMemory> {
         let numbering = Numbering::of(alloc, &self.grid, &self.cone.places)?;
         let mut lines = Lines::new(alloc);
-        let (mut literals, mut hints) = (Vec::new(alloc), Vec::new(alloc));
-        let (mut lits, mut numbers) = (Vec::new(alloc), Vec::new(alloc));
-        for line in &self.cone.lines {
-            self.lines.literals(*line, &mut literals)?;
-            lits.clear();
-            for literal in &literals {
-                if self.is_channel(literal.var()) {
-                    lits.push(Lit {
-                        var: read(&numbering.vars, literal.var(), 0) as u64,
-                        positive: !literal.is_negated(),
-                    })?;
-                }
-            }
-            self.lines.hints(*line, &mut hints)?;
-            numbers.clear();
-            for hint in &hints {
-                numbers.push(numbering.number(&self.grid, &self.cone, *hint))?;
-            }
-            lines.push(&lits, &numbers)?;
-        }
+        self.add_lines(&numbering, &mut LineParts::none(alloc), &mut lines)?;
         Ok(Log { lines })
+    }
+
+    // Adds each line of the cone to a log.
+    fn add_lines(
+        &self,
+        numbering: &Numbering,
+        parts: &mut LineParts,
+        lines: &mut Lines,
+    ) -> Result<(), NoMemory> {
+        for line in &self.cone.lines {
+            self.number_literals(numbering, *line, parts)?;
+            self.number_hints(numbering, *line, parts)?;
+            lines.push(&parts.lits, &parts.numbers)?;
+        }
+        Ok(())
+    }
+
+    // The literals of a line, without those that say of a station that it is in the set.
+    fn number_literals(
+        &self,
+        numbering: &Numbering,
+        line: u32,
+        parts: &mut LineParts,
+    ) -> Result<(), NoMemory> {
+        self.lines.literals(line, &mut parts.literals)?;
+        parts.lits.clear();
+        for literal in &parts.literals {
+            if self.is_channel(literal.var()) {
+                parts.lits.push(Lit {
+                    var: read(&numbering.vars, literal.var(), 0) as u64,
+                    positive: !literal.is_negated(),
+                })?;
+            }
+        }
+        Ok(())
+    }
+
+    // The hints of a line.
+    fn number_hints(
+        &self,
+        numbering: &Numbering,
+        line: u32,
+        parts: &mut LineParts,
+    ) -> Result<(), NoMemory> {
+        self.lines.hints(line, &mut parts.hints)?;
+        parts.numbers.clear();
+        for hint in &parts.hints {
+            parts
+                .numbers
+                .push(numbering.number(&self.grid, &self.cone, *hint))?;
+        }
+        Ok(())
     }
 }
 
 impl Numbering {
     // The numbers of the packing formula of the stations at these places.
     fn of(alloc: Global, grid: &Grid, places: &[u32]) -> Result<Numbering, NoMemory> {
-        let vars = grid.vars();
-        let mut numbering = Numbering {
-            vars: filled(alloc, vars, 0)?,
-            owns: filled(alloc, grid.stations(), 0)?,
-            twos: filled(alloc, grid.stations(), 0)?,
-            befores: filled(alloc, vars, 0)?,
-            begins: filled(alloc, vars, 0)?,
-            ends: filled(alloc, vars, 0)?,
+        let mut numbering = Numbering::none(alloc);
+        numbering.make_room(grid)?;
+        numbering.number_clauses(grid, places)?;
+        Ok(numbering)
+    }
+
+    // No variable and no clause.
+    fn none(alloc: Global) -> Numbering {
+        Numbering {
+            vars: Vec::new(alloc),
+            owns: Vec::new(alloc),
+            twos: Vec::new(alloc),
+            befores: Vec::new(alloc),
+            begins: Vec::new(alloc),
+            ends: Vec::new(alloc),
             seconds: Vec::new(alloc),
-            clauses: places.len() as u64,
-        };
-        numbering.number_stations(grid, places);
+            clauses: 0,
+        }
+    }
+
+    // Makes room for the numbers of each variable and each station.
+    fn make_room(&mut self, grid: &Grid) -> Result<(), NoMemory> {
+        let vars = grid.vars() as usize;
+        let stations = grid.stations() as usize;
+        self.vars.resize(vars, 0)?;
+        self.owns.resize(stations, 0)?;
+        self.twos.resize(stations, 0)?;
+        self.befores.resize(vars, 0)?;
+        self.begins.resize(vars, 0)?;
+        self.ends.resize(vars, 0)?;
+        Ok(())
+    }
+
+    // Numbers the clauses of the stations at these places, in the formula's order.
+    fn number_clauses(&mut self, grid: &Grid, places: &[u32]) -> Result<(), NoMemory> {
+        self.clauses = places.len() as u64;
+        self.number_stations(grid, places);
         for place in places {
             for var in grid.vars_of(*place) {
-                numbering.number_pairs(grid, var)?;
+                self.number_pairs(grid, var)?;
             }
         }
-        Ok(numbering)
+        Ok(())
     }
 
     fn number_stations(&mut self, grid: &Grid, places: &[u32]) {

@@ -112,41 +112,37 @@ impl Searcher {
         last: &ChannelMap,
         conflicts: u32,
     ) -> Result<Progress, NoMemory> {
-        if let Some(shortening) = self.shortening.take() {
-            return self.shorten(alloc, shortening, conflicts);
-        }
-        let Some(mut engine) = self.engine.take() else {
+        let Some(engine) = self.engine.take() else {
             return Ok(Progress::Lost);
         };
+        match self.shortening.take() {
+            Some(shortening) => self.shorten(alloc, engine, shortening, conflicts),
+            None => self.search(alloc, engine, set, last, conflicts),
+        }
+    }
+
+    // Goes on with the search for a fit or a disproof, for so many conflicts at most.
+    fn search(
+        &mut self,
+        alloc: Global,
+        mut engine: Engine,
+        set: &[u32],
+        last: &ChannelMap,
+        conflicts: u32,
+    ) -> Result<Progress, NoMemory> {
         let conflicts = conflicts.min(self.left);
         match engine.search(alloc, conflicts)? {
-            Found::Open => {
-                self.left = self.left.saturating_sub(conflicts);
-                self.keep_open(engine)
-            }
-            Found::Next => {
-                self.left = self.effort;
-                self.is_patient = false;
-                self.engine = Some(engine);
-                Ok(Progress::Open)
-            }
-            Found::Fits => {
-                let Some(fit) = engine.fit(alloc, set, last)? else {
-                    return Ok(Progress::Lost);
-                };
-                self.engine = Some(engine);
-                Ok(Progress::Ended(Suggestion::Fit(fit)))
-            }
-            Found::Refuted { line } => {
-                engine.gather(alloc, line)?;
-                self.say_unfit(alloc, engine)
-            }
+            Found::Open => self.keep_open(engine, conflicts),
+            Found::Next => Ok(self.begin_next(engine)),
+            Found::Fits => self.say_fit(alloc, engine, set, last),
+            Found::Refuted { line } => self.say_unfit(alloc, engine, line),
             Found::Lost => Ok(Progress::Lost),
         }
     }
 
-    // The search goes on, by the next policy where its effort is spent.
-    fn keep_open(&mut self, mut engine: Engine) -> Result<Progress, NoMemory> {
+    // The search goes on after so many conflicts, by the next policy where its effort is spent.
+    fn keep_open(&mut self, mut engine: Engine, conflicts: u32) -> Result<Progress, NoMemory> {
+        self.left = self.left.saturating_sub(conflicts);
         if self.left == 0 && !self.is_patient {
             self.is_patient = true;
             self.left = self.effort;
@@ -159,18 +155,64 @@ impl Searcher {
         Ok(Progress::Open)
     }
 
-    // The disproof that was gathered is the suggestion, unless a shorter one is worth a search.
-    fn say_unfit(&mut self, alloc: Global, engine: Engine) -> Result<Progress, NoMemory> {
-        let lines = engine.cone.lines.len();
-        if !Shortening::is_worth(lines, self.effort, self.logs) {
-            let disproof = Disproof::of_cone(alloc, &engine)?;
-            self.engine = Some(engine);
-            return Ok(Progress::Ended(Suggestion::Unfit(disproof)));
-        }
-        let crowd = self.crowd.take();
-        self.shortening = Some(Shortening::begin(alloc, &engine, crowd, self.effort)?);
+    // The next tested station has the whole effort, by the first policy.
+    fn begin_next(&mut self, engine: Engine) -> Progress {
+        self.left = self.effort;
+        self.is_patient = false;
         self.engine = Some(engine);
-        Ok(Progress::Open)
+        Progress::Open
+    }
+
+    // The fit that was found is the suggestion.
+    fn say_fit(
+        &mut self,
+        alloc: Global,
+        engine: Engine,
+        set: &[u32],
+        last: &ChannelMap,
+    ) -> Result<Progress, NoMemory> {
+        let Some(fit) = engine.fit(alloc, set, last)? else {
+            return Ok(Progress::Lost);
+        };
+        self.engine = Some(engine);
+        Ok(Progress::Ended(Suggestion::Fit(fit)))
+    }
+
+    // The disproof that ends with this line is the suggestion, unless a shorter one is worth a search.
+    fn say_unfit(
+        &mut self,
+        alloc: Global,
+        mut engine: Engine,
+        line: u32,
+    ) -> Result<Progress, NoMemory> {
+        engine.gather(alloc, line)?;
+        let lines = engine.cone.lines.len();
+        if Shortening::is_worth(lines, self.effort, self.logs) {
+            self.begin_shortening(alloc, engine)
+        } else {
+            self.say_gathered(alloc, engine)
+        }
+    }
+
+    // The disproof that was gathered is the suggestion.
+    fn say_gathered(&mut self, alloc: Global, engine: Engine) -> Result<Progress, NoMemory> {
+        let disproof = Disproof::of_cone(alloc, &engine)?;
+        self.engine = Some(engine);
+        Ok(Progress::Ended(Suggestion::Unfit(disproof)))
+    }
+
+    // Begins the search for a shorter disproof than the one that was gathered.
+    fn begin_shortening(&mut self, alloc: Global, engine: Engine) -> Result<Progress, NoMemory> {
+        let crowd = self.crowd.take();
+        let shortening = Shortening::begin(alloc, &engine, crowd, self.effort)?;
+        Ok(self.keep_shortening(engine, shortening))
+    }
+
+    // The search for a shorter disproof goes on.
+    fn keep_shortening(&mut self, engine: Engine, shortening: Shortening) -> Progress {
+        self.engine = Some(engine);
+        self.shortening = Some(shortening);
+        Progress::Open
     }
 
     // Goes on with the search for a shorter disproof than the one that was gathered. Where memory runs out, what is known is
@@ -178,25 +220,35 @@ impl Searcher {
     fn shorten(
         &mut self,
         alloc: Global,
+        engine: Engine,
         mut shortening: Shortening,
         conflicts: u32,
     ) -> Result<Progress, NoMemory> {
-        let Some(engine) = self.engine.take() else {
-            return Ok(Progress::Lost);
-        };
-        if !shortening.go_on(alloc, conflicts)? {
-            self.engine = Some(engine);
-            self.shortening = Some(shortening);
-            return Ok(Progress::Open);
+        if shortening.go_on(alloc, conflicts)? {
+            return self.say_shortest(alloc, engine, shortening);
         }
+        Ok(self.keep_shortening(engine, shortening))
+    }
+
+    // The search for a shorter disproof is at its end: the shortest one is the suggestion.
+    fn say_shortest(
+        &mut self,
+        alloc: Global,
+        engine: Engine,
+        shortening: Shortening,
+    ) -> Result<Progress, NoMemory> {
         let (shorter, crowd) = shortening.into_ended();
-        let disproof = match shorter {
-            Some(disproof) => disproof,
-            None => Disproof::of_cone(alloc, &engine)?,
-        };
-        self.engine = Some(engine);
         self.crowd = Some(crowd);
-        Ok(Progress::Ended(Suggestion::Unfit(disproof)))
+        match shorter {
+            Some(disproof) => Ok(self.say_shorter(engine, disproof)),
+            None => self.say_gathered(alloc, engine),
+        }
+    }
+
+    // A shorter disproof than the one that was gathered is the suggestion.
+    fn say_shorter(&mut self, engine: Engine, disproof: Disproof) -> Progress {
+        self.engine = Some(engine);
+        Progress::Ended(Suggestion::Unfit(disproof))
     }
 
     // A search for a shorter log that is not at its end is left; what it learnt is kept.

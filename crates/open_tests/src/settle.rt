@@ -3,7 +3,7 @@
 ghost use Rattle.std.specs.Prelude.{◌≡◌, IfErr, IfOk, Ok};
 ghost use Rattle.pack_defs.specs.Scenario.{IsWithinLimits};
 ghost use Rattle.auction_core.specs.Backed.{IsBacked};
-ghost use Rattle.open_tests.specs.Settled.{IsLeftOpen};
+ghost use Rattle.open_tests.specs.Settled.{IsLeftOpen, RefutesStep, settled_by};
 ghost use Rattle.open_tests.specs.Settling.{SettleFails, refused, settled_text, unread};
 
 use crate::cut::up_to_empty;
@@ -11,7 +11,7 @@ use crate::replace::replace_undecided;
 use crate::task::task_at;
 use auction_core::record::Record;
 use cert_types::answer::CertifyWhy;
-use cert_types::outside::certify_outside;
+use cert_types::outside::{OutsideProof, certify_outside};
 use cnf_encode::count::clause_count;
 use lrat_text::LratErr;
 use lrat_text::read::read_log;
@@ -84,14 +84,35 @@ pub fn settle_by_text(
     ensures backed { IfOk result (IsBacked rec.scenario book.now rec.order) }
     ensures why { IfErr result (λ e. SettleFails e (settled_text book.now rec step text.now)) }
 {
-    let task = task_at(alloc, &rec, book, step)?;
+    let proof = proof_by_text(alloc, &rec, book, step, text)?;
+    Ok(replace_undecided(rec, book, step, proof))
+}
+
+// Reads a log from the text, and checks that its lines up to the first empty one refute the set of the record's undecided step
+// of this number. Returns these lines as a proof.
+#[tactic(auto, unfolding(crate::specs::Settling::settled_text))]
+fn proof_by_text(
+    alloc: Global,
+    rec: &Record,
+    book: &Book,
+    step: u32,
+    text: &[u8],
+) -> Result<OutsideProof, SettleErr>
+    requires backed { IsBacked rec.now.scenario book.now rec.now.order rec.now }
+    requires limits { IsWithinLimits rec.now.scenario }
+    requires undecided { IsLeftOpen rec.now step }
+    ensures settles { IfOk result (λ proof. settled_text book.now rec.now step text.now ≡ Ok (settled_by rec.now step proof)) }
+    ensures refutes { IfOk result (RefutesStep book.now rec.now step) }
+    ensures why { IfErr result (λ e. SettleFails e (settled_text book.now rec.now step text.now)) }
+{
+    let task = task_at(alloc, rec, book, step)?;
     let clauses = clause_count(book, task.set.as_slice());
     let log = match read_log(alloc, text, clauses) {
         Ok(log) => up_to_empty(log),
         Err(why) => return Err(unread(why)),
     };
     match certify_outside(alloc, book, &task, log) {
-        Ok(proof) => Ok(replace_undecided(rec, book, step, proof)),
+        Ok(proof) => Ok(proof),
         Err(fault) => Err(refused(fault.why)),
     }
 }

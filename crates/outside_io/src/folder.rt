@@ -1,6 +1,7 @@
 //! What a program asks of the files outside: the trait `Folder`, and why a call of it fails.
-ghost use Rattle.std.specs.Prelude.{◌≡◌, ◌≢◌, ◌<◌, ◌≤◌, ◌+◌, ℕ, [], List, Option, true, Some, OnErr, OnOk, length};
+ghost use Rattle.std.specs.Prelude.{◌≡◌, ◌≢◌, ◌<◌, ◌≤◌, ◌+◌, ℕ, [], List, Option, true, Some, IfErr, OnErr, OnOk, length, map};
 ghost use Rattle.outside_io.specs.Faults.{HasRisen};
+ghost use Rattle.outside_io.specs.Groups.{AreAllStored, StopsAt, stored_file};
 ghost use Rattle.outside_io.specs.Loads.{FindsWhatIsThere, Loads, Stores};
 ghost use Rattle.outside_io.specs.Pieces.{Begins, HandsOut, piece_size};
 ghost use Rattle.outside_io.specs.Told.{FolderTold};
@@ -48,6 +49,30 @@ impl From<AllocError> for StoreErr {
     }
 }
 
+/// A file to store: its name, and the bytes that it is to hold.
+#[derive(Clone, Copy, Debug)]
+pub struct NewFile<'a> {
+    pub name: &'a str,
+    pub bytes: &'a [u8],
+}
+
+/// Which of several files was not stored, by its place among them from 0, and why.
+#[derive(Clone, Copy, Debug, PartialEq, Eq)]
+pub struct Unstored {
+    pub at: usize,
+    pub why: StoreErr,
+}
+
+impl Unstored {
+    /// The file at this place was not stored.
+    pub fn new(at: usize, why: StoreErr) -> Unstored
+        ensures at { result.at ≡ at }
+        ensures why { result.why ≡ why }
+    {
+        Unstored { at, why }
+    }
+}
+
 /// Files by name. One file at a time may be read in pieces: it is begun, and then handed out piece by piece. Loads and stores
 /// leave it as it is.
 pub trait Folder {
@@ -91,6 +116,15 @@ pub trait Folder {
         ensures most { most self.new ≡ most self.old }
         ensures steady { (told self.new).steady ≡ (told self.old).steady }
         ensures surely { (told self.old).steady ≡ true → result ≢ Err StoreErr.Failed };
+
+    /// Stores these files, each as `store` does and in order, up to the first that isn't stored. Where the folder doesn't tell its
+    /// files, nothing is said of when each of them is there.
+    fn store_all(&mut self, files: &[NewFile<'_>]) -> Result<(), Unstored>
+        ensures stored { OnOk result (AreAllStored (map stored_file files.now) (told self.old) (told self.new)) }
+        ensures stopped { IfErr result (λ e. StopsAt (map stored_file files.now) e.at e.why (told self.old) (told self.new)) }
+        ensures left { left self.new ≡ left self.old }
+        ensures come { come self.new ≡ come self.old }
+        ensures most { most self.new ≡ most self.old };
 
     /// Begins a file of at most `limit` bytes, in place of the one that was begun. After an error no file is begun: no bytes
     /// are left. Where the folder doesn't tell its files, it doesn't tell this one either, and that it is too long shows only

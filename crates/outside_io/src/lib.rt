@@ -8,11 +8,12 @@
 //! all bytes of a reader, and give all bytes to a writer, that tells its bytes, and a piece the next ones. That the system's
 //! files and its output are such a reader and such a writer is trusted.
 //!
-//! It calls the standard library alone. `auction_cmd` and what stands on it take the outside from here; no reader, solver or
+//! It calls the standard library alone. `commands` and what stands on it take the outside from here; no reader, solver or
 //! check of answers knows of it. Read `folder` and `sink` first, which have the traits, then `real`, then the two in memory.
 #![tactic(auto)]
 
 mod begun_file;
+mod beside;
 mod fault_plan;
 pub mod folder;
 pub mod memory_folder;

@@ -4,7 +4,7 @@ ghost use Rattle.outside_io.specs.Files.{StoredFile, bytes_of, IsPlace, with_fil
 
 use crate::begun_file::BegunFile;
 use crate::fault_plan::FaultPlan;
-use crate::folder::{Folder, LoadErr, StoreErr};
+use crate::folder::{Folder, LoadErr, NewFile, StoreErr, Unstored};
 use std::alloc::{AllocError as NoMemory, Global};
 use std::marker::Model;
 
@@ -149,6 +149,15 @@ impl Folder for MemoryFolder {
             return Err(StoreErr::Failed);
         }
         put(&mut self.files, name, bytes)?;
+        Ok(())
+    }
+
+    fn store_all(&mut self, files: &[NewFile<'_>]) -> Result<(), Unstored> {
+        for (at, file) in files.iter().enumerate() {
+            if let Err(why) = self.store(file.name, file.bytes) {
+                return Err(Unstored::new(at, why));
+            }
+        }
         Ok(())
     }
 

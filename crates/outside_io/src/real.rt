@@ -3,8 +3,10 @@ ghost use Rattle.std.specs.Prelude.{◌≡◌, ◌<◌, ◌≤◌, [], length, f
 ghost use Rattle.std.specs.Io.KnownBytes.{Appends, Consumes};
 ghost use Rattle.outside_io.specs.Pieces.{piece_size};
 
-use crate::folder::{Folder, LoadErr, PIECE_SIZE, StoreErr};
+use crate::beside::store_together;
+use crate::folder::{Folder, LoadErr, NewFile, PIECE_SIZE, StoreErr, Unstored};
 use crate::sink::{Failed, Sink};
+use std::alloc::Global;
 use std::io::{Read, Write};
 use std::marker::Model;
 use std::rt::Files;
@@ -15,6 +17,7 @@ use std::{fs, io};
 #[derive(Drop)]
 pub struct RealFolder<'r, R: Files> {
     files: &'r R,
+    alloc: Global,
     faults: u64,
     // The file that is begun, until its end was met.
     begun: Option<R::File>,
@@ -35,7 +38,7 @@ impl<'r, R: Files> Model for RealFolder<'r, R> {
 
 impl<'r, R: Files> RealFolder<'r, R> {
     /// A folder with no fault so far. No file is begun.
-    pub fn new(files: &'r R) -> RealFolder<'r, R>
+    pub fn new(files: &'r R, alloc: Global) -> RealFolder<'r, R>
         ensures faults { result.faults ≡ 0 }
         ensures begun { result.begun ≡ false }
         ensures come { result.come ≡ 0 }
@@ -43,6 +46,7 @@ impl<'r, R: Files> RealFolder<'r, R> {
     {
         RealFolder {
             files,
+            alloc,
             faults: 0,
             begun: None,
             come: 0,
@@ -119,8 +123,8 @@ fn read_piece<F: Read>(file: &mut F, room: u64, into: &mut Vec<u8>) -> Result<()
     Ok(())
 }
 
-// A writer that takes nothing fails.
-fn write_all<W: Write>(to: &mut W, bytes: &[u8]) -> Result<(), Failed>
+/// Gives all of these bytes to a writer. One that takes nothing fails.
+pub(crate) fn write_all<W: Write>(to: &mut W, bytes: &[u8]) -> Result<(), Failed>
     ensures nothing { length bytes.now ≡ 0 → IsOk result }
     // Where the writer tells what it holds, it holds all of the bytes then.
     ensures whole { OnOk result (Appends (W.contents to.old) (W.contents to.new) bytes.now) }
@@ -162,15 +166,20 @@ impl<'r, R: Files> Folder for RealFolder<'r, R> {
     }
 
     fn store(&mut self, name: &str, bytes: &[u8]) -> Result<(), StoreErr> {
-        let stored = match fs::create(self.files, name) {
-            Ok(mut file) => write_all(&mut file, bytes),
-            Err(_) => Err(Failed),
-        };
-        if stored.is_err() {
-            self.faults = self.faults.saturating_add(1);
-            return Err(StoreErr::Failed);
+        match self.store_all(&[NewFile { name, bytes }]) {
+            Ok(()) => Ok(()),
+            Err(unstored) => Err(unstored.why),
         }
-        Ok(())
+    }
+
+    fn store_all(&mut self, files: &[NewFile<'_>]) -> Result<(), Unstored> {
+        let Err(unstored) = store_together(self.files, self.alloc, files) else {
+            return Ok(());
+        };
+        if let StoreErr::Failed = unstored.why {
+            self.faults = self.faults.saturating_add(1);
+        }
+        Err(unstored)
     }
 
     fn begin(&mut self, name: &str, limit: u64) -> Result<(), LoadErr> {

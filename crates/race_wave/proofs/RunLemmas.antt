@@ -1,6 +1,6 @@
 -- The workers of a wave, before and after it.
 use Rattle.std.proofs.Common.{◌≡◌, ◌∙◌, ℕ, zero, suc, ◌+◌, ◌<◌, ◌≤◌, List, [], ◌∷◌, ◌++◌, append-nil, length, map, take, drop, get_or, Some, refl, sym, ap, subst, arith, All}
-use Rattle.std.specs.Prelude.{slice_get}
+use Rattle.std.specs.Prelude.{Err, IfOk, Ok, Result, slice_get}
 use Rattle.std.specs.List.{AllZip}
 use Rattle.std.proofs.lemmas.Option.{slice_get-get_or}
 use mathlib.Core.Logic.{dite}
@@ -72,6 +72,11 @@ take-left (x ∷ xs) ys = ap (λ l. x ∷ l) (take-left xs ys)
 -- a list that was changed in place through all of it
 pub spliced : {X : Type 0} (n : ℕ) (xs ys zs : List X) → n ≡ length xs → length ys ≡ length xs → take n (ys ++ zs) ≡ ys
 spliced n xs ys zs e f = ap (λ k. take k (ys ++ zs)) (e ∙ sym f) ∙ take-left ys zs
+
+-- an answer that is this value has what the value has
+pub ok-gives : {A E : Type 0} (v : A) (r : Result A E) (P : A → Type 0) → P v → IfOk r (λ x. x ≡ v) → IfOk r P
+ok-gives v (Ok x) P h is = subst P (sym is) h
+ok-gives v (Err e) P h is = is
 
 -- a list that was lent, whose elements come back as others of the same image
 pub turned-list : {X Y : Type 0} (f : X → Y) (n : ℕ) (xs ys : List X) → n ≡ length xs → map f ys ≡ map f xs → take n (ys ++ drop (length ys) xs) ≡ ys

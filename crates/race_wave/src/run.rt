@@ -1,12 +1,12 @@
 //! A whole auction.
 
-ghost use Rattle.std.specs.Prelude.{◌≡◌, ◌≤◌, IfOk, Some, length, map};
+ghost use Rattle.std.specs.Prelude.{◌≡◌, ◌<◌, ◌≤◌, IfOk, Some, false, length, map, true};
 ghost use Rattle.solver_gate.specs.Racers.{worker_of};
 ghost use Rattle.pack_defs.specs.Scenario.{with_owners};
 ghost use Rattle.auction_core.specs.Backed.{IsBacked};
 ghost use Rattle.auction_core.specs.Postings.{GoesOnIn};
 ghost use Rattle.auction_core.specs.Setup.{IsOfAuction};
-ghost use Rattle.auction_core.specs.State.{opening};
+ghost use Rattle.auction_core.specs.State.{has_ended, opening, queries_left};
 ghost use Rattle.turn_lock.specs.Passes.{IsPassIdle, known_of, standing};
 ghost use Rattle.turn_lock.specs.Turns.{AllOf, StartsWith, each_new};
 ghost use Rattle.answer_board.specs.Boards.{AreAllOn, beginning_of, raised};
@@ -95,6 +95,95 @@ fn waved<R: Racer + Send + Drop, G: Gate + Sync, W: Threads + Wait + Sync>(
     }
 }
 
+// What a race leaves: whether memory ran out for each worker, the auction, which is off the board, and the racers in order.
+#[derive(Drop)]
+struct AfterRace<R> {
+    done: Result<(), NoMemory>,
+    auction: Auction,
+    racers: Vec<R>,
+}
+
+// A wave of the workers of a new board, which is then closed. It returns early nowhere, so that nothing is let go on the way.
+fn raced_on<R: Racer + Send + Drop, G: Gate + Sync, W: Threads + Wait + Sync>(
+    rt: &W,
+    alloc: Global,
+    board: Board,
+    book: &Book,
+    passes: Vec<Pass>,
+    racers: Vec<R>,
+    room: Room<R>,
+    gate: &G,
+) -> AfterRace<R>
+    requires book { book.now ≡ (raised board).book }
+    requires all { AreAllOn board (map standing passes.items) }
+    requires idle { AllOf IsPassIdle passes.items }
+    requires new { map known_of passes.items ≡ each_new (numbered (raised board).history) (length racers.items) }
+    requires racers { map R.worker racers.items ≡ (raised board).scenario.workers }
+    requires room { IsRoomFor (length racers.items) room }
+    ensures beginning { beginning_of result.auction ≡ beginning_of (raised board) }
+    ensures history { StartsWith result.auction.history (raised board).history }
+    ensures racers { map R.worker result.racers.items ≡ map R.worker racers.items }
+{
+    let AfterWave {
+        done,
+        passes,
+        racers,
+    } = waved(rt, alloc, &board, book, passes, racers, room, gate);
+    let auction = board.close(passes);
+    AfterRace {
+        done,
+        auction,
+        racers,
+    }
+}
+
+// The auction and the racers, unless memory ran out for a worker.
+fn if_done<R: Drop>(
+    done: Result<(), NoMemory>,
+    auction: Auction,
+    racers: Vec<R>,
+) -> Result<(Auction, Vec<R>), NoMemory>
+    ensures { IfOk result (λ r. r ≡ (auction, racers)) }
+{
+    match done {
+        Ok(()) => Ok((auction, racers)),
+        Err(error) => Err(error),
+    }
+}
+
+// The same as `raced`, where there is room for the workers.
+fn raced_in<R: Racer + Send + Drop, G: Gate + Sync, W: Threads + Wait + Sync>(
+    rt: &W,
+    alloc: Global,
+    book: &Book,
+    auction: Auction,
+    racers: Vec<R>,
+    room: Room<R>,
+    gate: &G,
+) -> Result<(Auction, Vec<R>), NoMemory>
+    requires book { auction.book ≡ book.now }
+    requires racers { map R.worker racers.items ≡ auction.scenario.workers }
+    requires room { IsRoomFor (length racers.items) room }
+    ensures beginning { IfOk result (λ r. beginning_of r.0 ≡ beginning_of auction) }
+    ensures history { IfOk result (λ r. StartsWith r.0.history auction.history) }
+    ensures nears_end { IfOk result (λ r. NearsEnd auction.scenario auction.state r.0.state) }
+    ensures racers { IfOk result (λ r. map R.worker r.1.items ≡ map R.worker racers.items) }
+{
+    // For its clauses alone: what the history replays to.
+    auction.keeps_the_rule();
+    let count = count_of(&auction);
+    let Ok((board, passes)) = Board::raise(alloc, auction, count) else {
+        return Err(NoMemory);
+    };
+    let AfterRace {
+        done,
+        auction,
+        racers,
+    } = raced_on(rt, alloc, board, book, passes, racers, room, gate);
+    auction.keeps_the_rule();
+    if_done(done, auction, racers)
+}
+
 // The auction after a wave of its workers, and their racers.
 fn raced<R: Racer + Send + Drop, G: Gate + Sync, W: Threads + Wait + Sync>(
     rt: &W,
@@ -111,22 +200,51 @@ fn raced<R: Racer + Send + Drop, G: Gate + Sync, W: Threads + Wait + Sync>(
     ensures nears_end { IfOk result (λ r. NearsEnd auction.scenario auction.state r.0.state) }
     ensures racers { IfOk result (λ r. map R.worker r.1.items ≡ map R.worker racers.items) }
 {
-    // For its clauses alone: what the history replays to.
-    auction.keeps_the_rule();
-    let count = count_of(&auction);
-    let room = room_for(alloc, count)?;
-    let Ok((board, passes)) = Board::raise(alloc, auction, count) else {
-        return Err(NoMemory);
-    };
-    let AfterWave {
-        done,
-        passes,
-        racers,
-    } = waved(rt, alloc, &board, book, passes, racers, room, gate);
-    let auction = board.close(passes);
-    auction.keeps_the_rule();
-    done?;
+    let room = room_for(alloc, count_of(&auction))?;
+    raced_in(rt, alloc, book, auction, racers, room, gate)
+}
+
+// The auction after a wave of its workers and their serial turn behind it, and the racers. Where it hadn't ended, fewer queries
+// are left.
+fn wave_and_turn<R: Racer + Send + Drop, G: Gate + Sync, W: Threads + Wait + Sync>(
+    rt: &W,
+    alloc: Global,
+    book: &Book,
+    auction: Auction,
+    racers: Vec<R>,
+    gate: &G,
+) -> Result<(Auction, Vec<R>), NoMemory>
+    requires book { auction.book ≡ book.now }
+    requires racers { map R.worker racers.items ≡ auction.scenario.workers }
+    ensures beginning { IfOk result (λ r. beginning_of r.0 ≡ beginning_of auction) }
+    ensures history { IfOk result (λ r. StartsWith r.0.history auction.history) }
+    ensures racers { IfOk result (λ r. map R.worker r.1.items ≡ map R.worker racers.items) }
+    ensures fewer { IfOk result (λ r. has_ended auction.state ≡ false → queries_left auction.scenario r.0.state < queries_left auction.scenario auction.state) }
+{
+    let (mut auction, mut racers) = raced(rt, alloc, book, auction, racers, gate)?;
+    serial_turn(alloc, &mut auction, &mut racers)?;
     Ok((auction, racers))
+}
+
+// The auction at its end, to which waves and serial turns carry it.
+fn ended<R: Racer + Send + Drop, G: Gate + Sync, W: Threads + Wait + Sync>(
+    rt: &W,
+    alloc: Global,
+    mut auction: Auction,
+    book: &Book,
+    mut racers: Vec<R>,
+    gate: &G,
+) -> Result<Auction, NoMemory>
+    requires book { book.now ≡ auction.book }
+    requires racers { map R.worker racers.items ≡ auction.scenario.workers }
+    ensures beginning { IfOk result (λ r. beginning_of r ≡ beginning_of auction) }
+    ensures history { IfOk result (λ r. StartsWith r.history auction.history) }
+    ensures ended { IfOk result (λ r. has_ended r.state ≡ true) }
+{
+    'waves: while !auction.ended() {
+        (auction, racers) = wave_and_turn(rt, alloc, book, auction, racers, gate)?;
+    }
+    Ok(auction)
 }
 
 // Goes on with an auction up to its end, and answers its record. The racers, of which each worker has one, in order, race on a
@@ -135,10 +253,10 @@ fn raced<R: Racer + Send + Drop, G: Gate + Sync, W: Threads + Wait + Sync>(
 fn finish_with<R: Racer + Send + Drop, G: Gate + Sync, W: Threads + Wait + Sync>(
     rt: &W,
     alloc: Global,
-    mut auction: Auction,
+    auction: Auction,
     scenario: Scenario,
     book: &Book,
-    mut racers: Vec<R>,
+    racers: Vec<R>,
     gate: &G,
 ) -> Result<Record, NoMemory>
     requires scenario { scenario ≡ auction.scenario }
@@ -149,10 +267,7 @@ fn finish_with<R: Racer + Send + Drop, G: Gate + Sync, W: Threads + Wait + Sync>
 {
     // For its clauses alone: what the history replays to.
     auction.keeps_the_rule();
-    'waves: while !auction.ended() {
-        (auction, racers) = raced(rt, alloc, book, auction, racers, gate)?;
-        serial_turn(alloc, &mut auction, &mut racers)?;
-    }
+    let auction = ended(rt, alloc, auction, book, racers, gate)?;
     auction.keeps_the_rule();
     let record = auction.into_result(alloc, scenario)?;
     Ok(record)

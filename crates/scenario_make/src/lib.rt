@@ -12,7 +12,7 @@
 //!
 //! The price opens at 100, so that no station has a value above its opening offer, and none is on air at the start.
 //!
-//! It may call `scenario_json` and what that stands on; `auction_cmd` alone calls it, and no reader knows of it. Read `make` first,
+//! It may call `scenario_json` and what that stands on; `commands` alone calls it, and no reader knows of it. Read `make` first,
 //! then `stations` and `rows`, with `draws` and `lines`; that what is made is accepted is in `laws`. How large it may be is in
 //! `limits`.
 #![tactic(auto)]

@@ -1,6 +1,6 @@
 //! The least top channel up to which the stations that start on air fit, sought by halving.
 //!
-//! It may call `pack_defs` alone, and runs no auction: `auction_cmd` drives it and says what each top came to. Read `seek` first,
+//! It may call `pack_defs` alone, and runs no auction: `commands` drives it and says what each top came to. Read `seek` first,
 //! then `search` and `top_test`; `laws` says why halving finds the least.
 #![tactic(auto)]
 

@@ -2,12 +2,13 @@
 //! says which stations are on air when a step's test is asked, hence over how many clauses the step's logs are
 //! numbered.
 
-ghost use Rattle.std.specs.Prelude.{◌≡◌, ◌≤◌, ◌+◌, ◌<◌, ◌^◌, IfOk, IsTrue, length};
-ghost use Rattle.pack_defs.specs.ClockRule.{ClockState};
+ghost use Rattle.std.specs.Prelude.{◌≡◌, ◌≤◌, ◌+◌, ◌<◌, ◌^◌, [], IfOk, IsTrue, OnOk, length};
+ghost use Rattle.pack_defs.specs.ClockRule.{ClockState, opening_state};
 ghost use Rattle.pack_defs.specs.Lists.{is_in};
+ghost use Rattle.pack_defs.specs.Prices.{prices};
 ghost use Rattle.pack_defs.specs.Scenario.{IsWithinLimits, StationsAscend, facilities};
 ghost use Rattle.auction_core.specs.Backed.{IsBacked};
-ghost use Rattle.auction_core.specs.Clock.{AreStandings};
+ghost use Rattle.auction_core.specs.Clock.{AreStandings, IsClockOf};
 ghost use Rattle.auction_core.specs.State.{tested_set};
 ghost use Rattle.auction_core.specs.LogNumbers.{clauses_in, firsts_of};
 ghost use Rattle.transcript_text.specs.Fields.{most_counted};
@@ -77,23 +78,45 @@ pub fn write_transcript(alloc: Global, rec: &Record, book: &Book) -> Result<Vec<
     requires limits { IsWithinLimits rec.now.scenario }
     ensures { IfOk result (λ text. text.items ≡ transcript_text rec.now.scenario book.now rec.now) }
 {
-    book.keeps_order();
     let sc = &rec.scenario;
     let prices = schedule(alloc, sc)?;
     let mut clock = Clock::open(alloc, sc)?;
     let mut text = Vec::new(alloc);
-    push_version(&mut text, rec.order)?;
-    push_start(&mut text, &rec.start)?;
+    push_transcript(alloc, &mut text, rec, book, &prices, &mut clock)?;
+    Ok(text)
+}
+
+// Adds the transcript to an empty text, by the prices of the rounds and a clock before its first round.
+fn push_transcript(
+    alloc: Global,
+    text: &mut Vec<u8>,
+    rec: &Record,
+    book: &Book,
+    offers: &[u32],
+    clock: &mut Clock,
+) -> Result<(), NoMemory>
+    requires empty { text.old.items ≡ [] }
+    requires backed { IsBacked rec.now.scenario book.now rec.now.order rec.now }
+    requires done { rec.now.ending ≡ Ending.Done }
+    requires limits { IsWithinLimits rec.now.scenario }
+    requires prices { offers.now ≡ prices rec.now.scenario }
+    requires clock { IsClockOf rec.now.scenario (opening_state rec.now.scenario) clock.old }
+    ensures { OnOk result (text.new.items ≡ transcript_text rec.now.scenario book.now rec.now) }
+{
+    book.keeps_order();
+    let sc = &rec.scenario;
+    push_version(text, rec.order)?;
+    push_start(text, &rec.start)?;
     for step in rec.steps.as_slice() {
         match place_of(sc.stations.as_slice(), step.station) {
             Some(i) => {
-                let clauses = log_clauses(alloc, sc, book, &clock, step)?;
-                push_step(&mut text, book, clauses, step)?;
-                clock.settle(sc, &prices, i, step.round, step.shown.shows_room());
+                let clauses = log_clauses(alloc, sc, book, clock, step)?;
+                push_step(text, book, clauses, step)?;
+                clock.settle(sc, offers, i, step.round, step.shown.shows_room());
             }
             None => unreachable!(),
         }
     }
-    push_end(&mut text, rec.steps.as_slice().len() as u64)?;
-    Ok(text)
+    push_end(text, rec.steps.as_slice().len() as u64)?;
+    Ok(())
 }

@@ -35,7 +35,18 @@ impl<'a> Tables<'a> {
         entries: &[(u32, u8)],
     ) -> Result<Tables<'a>, NoMemory> {
         let width = book.top() as usize + 1;
-        let mut tables = Tables {
+        let mut tables = Tables::uncounted(alloc, width, entries)?;
+        tables.count_all(book, entries)?;
+        Ok(tables)
+    }
+
+    // The tables of a map, of so many channels, before its stations are counted.
+    fn uncounted(
+        alloc: Global,
+        width: usize,
+        entries: &[(u32, u8)],
+    ) -> Result<Tables<'a>, NoMemory> {
+        Ok(Tables {
             places: Places::new(alloc, entries)?,
             from: Vec::with_capacity(alloc, entries.len())?,
             to: Vec::with_capacity(alloc, entries.len())?,
@@ -43,17 +54,20 @@ impl<'a> Tables<'a> {
             width,
             counts: Vec::new(alloc),
             trouble: Trouble::new(alloc, entries.len())?,
-        };
-        tables
-            .counts
-            .resize(entries.len().saturating_mul(width), 0)?;
+        })
+    }
+
+    // Counts each station of the map, and keeps its pairs.
+    fn count_all(&mut self, book: &'a Book, entries: &[(u32, u8)]) -> Result<(), NoMemory> {
+        self.counts
+            .resize(entries.len().saturating_mul(self.width), 0)?;
         for x in entries {
             let (from, to) = (book.pairs_from(x.0), book.pairs_to(x.0));
-            tables.arrive(from, to, x.1);
-            tables.from.push(from)?;
-            tables.to.push(to)?;
+            self.arrive(from, to, x.1);
+            self.from.push(from)?;
+            self.to.push(to)?;
         }
-        Ok(tables)
+        Ok(())
     }
 
     /// The number of cells.

@@ -1,6 +1,6 @@
 //! Tests of both folders and both sinks, each through its trait.
 
-use outside_io::folder::{Folder, LoadErr, PIECE_SIZE, StoreErr};
+use outside_io::folder::{Folder, LoadErr, NewFile, PIECE_SIZE, StoreErr, Unstored};
 use outside_io::memory_folder::{MemoryFile, MemoryFolder};
 use outside_io::memory_sink::MemorySink;
 use outside_io::real::{RealFolder, RealSink};
@@ -286,7 +286,7 @@ fn the_system_gives_back_what_is_stored(rt: HostRuntime) -> Result<(), Fail> {
     // More than one piece.
     let bytes = counted(rt.alloc(), 70_000)?;
     let mut into = Vec::new(rt.alloc());
-    let mut folder = RealFolder::new(&rt);
+    let mut folder = RealFolder::new(&rt, rt.alloc());
     assert_eq!(rt; folder.store("stored", &bytes), Ok(()));
     for (name, limit, want) in [
         ("stored", 70_000, Ok(())),
@@ -304,6 +304,52 @@ fn the_system_gives_back_what_is_stored(rt: HostRuntime) -> Result<(), Fail> {
     }
     assert_eq!(rt; folder.store(".", b"a"), Err(StoreErr::Failed));
     fs::remove_file(&rt, "stored")?;
+    Ok(())
+}
+
+// A file to store.
+fn new<'a>(name: &'a str, bytes: &'a [u8]) -> NewFile<'a> {
+    NewFile { name, bytes }
+}
+
+#[test]
+fn several_files_are_stored_up_to_the_first_that_fails(rt: HostRuntime) -> Result<(), Fail> {
+    let files = [
+        new("domains", b"four"),
+        new("answers", b"yes"),
+        new("rows", b"1"),
+    ];
+    let mut folder = folder_of_two(rt.alloc(), &[])?;
+    assert_eq!(rt; folder.store_all(&files), Ok(()));
+    assert!(rt; is_held(&folder, "domains", b"four"));
+    assert!(rt; is_held(&folder, "answers", b"yes"));
+    assert!(rt; is_held(&folder, "rows", b"1"));
+    let mut folder = folder_of_two(rt.alloc(), &[2])?;
+    let unstored = Unstored::new(1, StoreErr::Failed);
+    assert_eq!(rt; folder.store_all(&files), Err(unstored));
+    assert!(rt; is_held(&folder, "domains", b"four"));
+    assert!(rt; folder.bytes("answers").is_none());
+    assert!(rt; is_held(&folder, "rows", b""));
+    assert_eq!(rt; folder.store_all(&[]), Ok(()));
+    Ok(())
+}
+
+#[test]
+fn the_system_stores_all_files_or_none(rt: HostRuntime) -> Result<(), Fail> {
+    let mut folder = RealFolder::new(&rt, rt.alloc());
+    let mut into = Vec::new(rt.alloc());
+    assert_eq!(rt; folder.store("first", b"old"), Ok(()));
+    let unstored = Unstored::new(1, StoreErr::Failed);
+    assert_eq!(rt; folder.store_all(&[new("first", b"new"), new(".", b"a")]), Err(unstored));
+    assert_eq!(rt; folder.load("first", 9, &mut into), Ok(()));
+    assert_eq!(rt; into.as_slice(), b"old".as_slice());
+    assert_eq!(rt; folder.store_all(&[new("first", b"new"), new("second", b"")]), Ok(()));
+    assert_eq!(rt; folder.load("first", 9, &mut into), Ok(()));
+    assert_eq!(rt; into.as_slice(), b"new".as_slice());
+    assert_eq!(rt; folder.load("second", 9, &mut into), Ok(()));
+    assert_eq!(rt; into.as_slice(), b"".as_slice());
+    fs::remove_file(&rt, "first")?;
+    fs::remove_file(&rt, "second")?;
     Ok(())
 }
 
@@ -326,7 +372,7 @@ fn begun_and_read<F: Folder>(
 #[test]
 fn the_system_gives_a_file_in_pieces(rt: HostRuntime) -> Result<(), Fail> {
     let bytes = counted(rt.alloc(), 70_000)?;
-    let mut folder = RealFolder::new(&rt);
+    let mut folder = RealFolder::new(&rt, rt.alloc());
     assert_eq!(rt; folder.store("pieces", &bytes), Ok(()));
     assert!(rt; is_whole(rt.alloc(), &mut folder, "pieces", &bytes));
     assert_eq!(rt;

@@ -1,6 +1,6 @@
 -- The plan that the words are, and how it ends.
 use Rattle.std.proofs.Common.{map, refl, string_bytes, sym}
-use Rattle.auction_cmd.specs.Ends.Ends.{Usage, Repeated, Ran, Checked, Verified, Sought, Made, Exported, Imported}
+use Rattle.commands.specs.Ends.Ends.{Usage, Repeated, Ran, Checked, Verified, Sought, Made, Exported, Imported}
 use Rattle.auction_cmd.specs.Program.ProgramEnds.{Single, Resumed, Batched}
 use Rattle.command_words.specs.Words.{batch_seen, export_seen, import_seen, inputs_seen, make_seen, names_seen, resume_seen, seek_seen, verify_seen}
 use Rattle.command_words.proofs.NumberLemmas.{command-sized, import-valued, resume-valued}

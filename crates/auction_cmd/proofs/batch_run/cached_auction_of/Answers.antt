@@ -1,8 +1,0 @@
--- The record is that of the inputs' auction, by how it ended.
-use Rattle.auction_core.proofs.AuctionLemmas.{is-auction}
-use Rattle.auction_cmd.proofs.EndLemmas.{record-by}
-use Rattle.auction_cmd.proofs.batch_run.cached_auction_of.Goals as goal
-
-pub returns : goal.returns
-returns g c =
-    record-by c.args.inputs.now c.in_ok-record.record (is-auction c.args.inputs.now.scenario c.args.inputs.now.book c.requires c.keeps_order.ensures) c.in_ok-record.ensures.backed

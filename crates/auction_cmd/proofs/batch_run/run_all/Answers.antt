@@ -1,6 +1,0 @@
--- None of the auctions wanted memory.
-use Rattle.auction_cmd.proofs.BatchEndLemmas.{none-wants}
-use Rattle.auction_cmd.proofs.batch_run.run_all.Goals as goal
-
-pub returns : goal.returns
-returns g c = none-wants c.args.auctions.items c.in_ok-rans.rans.items c.all_of.result (λ v. v.items) c.all_of.ensures (c.in_ok-rans.ensures)

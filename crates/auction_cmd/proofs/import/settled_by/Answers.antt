@@ -1,9 +1,0 @@
--- The record that is left is one of the inputs' auction.
-use Rattle.auction_core.proofs.AuctionLemmas.{is-auction}
-use Rattle.auction_cmd.proofs.ImportEndLemmas.{settling}
-use Rattle.auction_cmd.proofs.import.settled_by.Goals as goal
-
-pub returns : goal.returns
-returns c =
-    settling c.args.inputs.now c.args.rec c.args.step c.args.text.now c.settle_by_text.result (is-auction c.args.inputs.now.scenario c.args.inputs.now.book c.requires.auction c.keeps_order.ensures)
-    c.requires.own c.settle_by_text.ensures.settled c.settle_by_text.ensures.backed c.settle_by_text.ensures.why

@@ -1,6 +1,0 @@
--- The book is of the scenario's stations.
-use Rattle.auction_cmd.proofs.ReadingLemmas.{joined-stations}
-use Rattle.auction_cmd.proofs.make.inputs_in.Goals as goal
-
-pub returns-clause-stations : goal.returns-clause-stations
-returns-clause-stations c = joined-stations c.in-Ok-read_scenario.scenario _ _ c.in-Ok-join.book c.in-Ok-join.ensures

@@ -1,9 +1,0 @@
--- What is made of what was read is what is made of the text.
-use Rattle.auction_cmd.proofs.ResumeEndLemmas.{read-begun, unread-begun}
-use Rattle.auction_cmd.proofs.resume.begun.Goals as goal
-
-pub returns-in-Ok : goal.returns-in-Ok
-returns-in-Ok c = read-begun c.args.inputs.now c.args.text.now c.in-Ok.kept c.auction_behind.result c.in-Ok.ensures c.auction_behind.ensures
-
-pub returns-in-Err : goal.returns-in-Err
-returns-in-Err c = rw c.not_read.ensures (unread-begun c.args.inputs.now c.args.text.now c.in-Err.why c.in-Err.ensures)

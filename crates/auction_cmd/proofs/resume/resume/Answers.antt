@@ -1,8 +1,0 @@
--- The auction went on, and concludes.
-use Rattle.command_words.specs.Words.{resume_seen}
-use Rattle.auction_cmd.proofs.ResumeEndLemmas.{went-on}
-use Rattle.auction_cmd.proofs.resume.resume.Goals as goal
-
-pub returns-clause-ends : goal.returns-clause-ends
-returns-clause-ends g c =
-    went-on (resume_seen c.args.files.now) _ _ _ _ _ c.in-Ok.found.inputs c.in-Ok.found.auction c.in-Ok-carried_on.rec c.in-Ok.ensures.resumable c.in-Ok.ensures.same c.in-Ok-carried_on.ensures.goes_on c.conclude.ensures.ends

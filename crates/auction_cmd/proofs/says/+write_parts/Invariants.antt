@@ -1,6 +1,0 @@
-use Rattle.std.proofs.Common.{length}
-use Rattle.auction_cmd.proofs.says.+write_parts.Given as goal
-
--- proposed from what the function passes where it calls itself
-abbrev pub decreases-write_parts : goal.decreases-write_parts
-decreases-write_parts g l = length l.parts.now

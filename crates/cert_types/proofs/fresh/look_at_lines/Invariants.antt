@@ -1,0 +1,14 @@
+-- The clauses and the lines up to here are filed, and the first line at fault is the first of those that are left.
+use Rattle.std.proofs.Common.{◌≡◌, ◌+◌, [], take, drop}
+use Rattle.rup_check.specs.Follows.{clauses_before}
+use Rattle.cert_types.specs.Filing.{AreFiled}
+use Rattle.cert_types.specs.Uses.{is_used}
+use Rattle.cert_types.specs.Fresh.{first_stale}
+use Rattle.cert_types.proofs.fresh.look_at_lines.Given as goal
+
+abbrev pub invariant-loop-i : goal.invariant-loop-i
+invariant-loop-i l = record {
+  filed : AreFiled (is_used l.uses) (clauses_before l.clauses.list l.lines) l.files (clauses_before l.clauses.list (take l.i l.lines));
+  unmarked : l.marks.lits ≡ [];
+  first : first_stale (clauses_before l.clauses.list (take l.i l.lines)) (l.i + 1) (drop l.i l.lines) ≡ first_stale l.clauses.list 1 l.lines;
+}

@@ -1,0 +1,185 @@
+-- How `resume` ends, from what its parts did; and what a beginning that is gone on from says of the start.
+use Rattle.std.proofs.Common.{◌≡◌, ◌⊎◌, ◌≤◌, ◌∙◌, ◌++◌, ℕ, Bool, true, false, inl, inr, List, if◌then◌else◌, refl, sym, ap, subst, append_assoc, arith}
+use Rattle.std.specs.Prelude.{Option, Some, None, Ok, Err, Result, MatchOption, nat_le, ⊤}
+use Rattle.std.specs.List.{list_any}
+use Rattle.std.proofs.lemmas.Bool.Decides.{nat_tests}
+use Rattle.std.proofs.lemmas.List.Folds.{list_any-append}
+use Rattle.std.proofs.lemmas.Bool.{or_from}
+use Rattle.outside_io.specs.Files.{StoredFile}
+use Rattle.outside_io.specs.declared.folder.LoadErr.{LoadErr}
+use Rattle.outside_io.specs.declared.folder.LoadErr.TheVariants.{Failed, TooLong, NoMemory as NoLoad}
+use Rattle.pack_defs.specs.Book.{BookView}
+use Rattle.pack_defs.specs.declared.order.Order.{Order}
+use Rattle.pack_defs.specs.declared.scenario.Scenario.{Scenario}
+use Rattle.cert_types.specs.declared.answer.Place.{Place}
+use Rattle.auction_core.specs.declared.prefix.Prefix.{Prefix}
+use Rattle.auction_core.specs.declared.prefix.ShownWhy.{ShownWhy}
+use Rattle.auction_core.specs.declared.record.Ending.{Ending}
+use Rattle.auction_core.specs.declared.record.Ending.TheVariants.{Done}
+use Rattle.auction_core.specs.declared.record.Record.{Record}
+use Rattle.auction_core.specs.declared.record.Shown.{Shown}
+use Rattle.auction_core.specs.declared.record.Shown.TheVariants.{Empty, Fits, Same, NoChannel, Refuted, Outside as ByProof, Undecided}
+use Rattle.auction_core.specs.declared.record.Step.{Step}
+use Rattle.auction_core.specs.Auction.{AuctionView}
+use Rattle.auction_core.specs.Backed.{IsBacked, ending_of, is_outside}
+use Rattle.auction_core.specs.LogNumbers.{steps_in}
+use Rattle.auction_core.specs.NotShown.{NotShown, kept_as, not_kept, not_shown, order_kept, start_fault, started_fault, step_fault_or, within_steps}
+use Rattle.auction_core.specs.Postings.{GoesOnIn}
+use Rattle.auction_core.specs.Prefix.{resumed}
+use Rattle.auction_core.specs.Rule.{IsAuction}
+use Rattle.auction_core.proofs.Prefixes.{resumed-goes}
+use Rattle.transcript_text.specs.declared.error.TextErr.{TextErr}
+use Rattle.transcript_text.specs.declared.error.TextErr.TheVariants.{Version, BadLine, Truncated, NoMemory as NoRoom}
+use Rattle.transcript_text.specs.PrefixReading.{prefix_of}
+use Rattle.transcript_text.specs.Steps.{Fails}
+use Rattle.commands.specs.declared.fault.TranscriptFault.TheVariants.{Unshown}
+use Rattle.commands.specs.declared.inputs.Inputs.{Inputs}
+use Rattle.commands.specs.declared.shown.Denied.{Denied}
+use Rattle.commands.specs.declared.shown.Denied.TheVariants.{Fault, NoMemory}
+use Rattle.commands.specs.Ends.{AreInputsOf, Concludes, IsStarved, IsTextHeld}
+use Rattle.commands.specs.Ends.IsNotLoaded.{Unloaded, LongText}
+use Rattle.commands.specs.Outside.{Outside}
+use Rattle.commands.specs.ResumeEnds.{IsResumable, ResumeEnds}
+use Rattle.commands.specs.ResumeEnds.ResumeEnds.{ResumeStarved, PrefixNotLoaded, NotBegun, WentOn}
+use Rattle.commands.specs.Resumption.{GoesOnFrom, IsResumption, StandsBehind, begun, begun_by, kept_or}
+use Rattle.commands.specs.Transcripts.{ExplainsDenied, ExplainsLoad, IsFileRead, not_read}
+use Rattle.commands.specs.Verified.{CanBeNamed}
+use Rattle.command_words.specs.Words.{ResumeNames, begun_names}
+use Rattle.commands.proofs.SaysLemmas.{rises-before}
+
+-- ---- the beginning
+
+-- the auction that stands behind what was kept
+pub stands-behind : (inputs : Inputs) (kept : Prefix) (auction : AuctionView) → not_kept inputs.scenario inputs.book kept ≡ None → StandsBehind inputs kept auction → IsResumption inputs (begun_by inputs (Ok kept)) (Ok auction)
+stands-behind inputs kept auction none behind = (kept, ap (λ o. kept_or o kept) none, behind)
+
+-- the first kept step that isn't shown
+pub not-behind : (inputs : Inputs) (kept : Prefix) (step : ℕ) (why : ShownWhy) → not_kept inputs.scenario inputs.book kept ≡ Some (record { step = step; why = why }) → IsResumption inputs (begun_by inputs (Ok kept)) (Err (Fault (Unshown step why)))
+not-behind inputs kept step why is = ap (λ o. kept_or o kept) is
+
+-- what was made of what was read is what is made of the text
+pub read-begun : (inputs : Inputs) (text : List ℕ) (kept : Prefix) (result : Result AuctionView Denied) → prefix_of inputs.scenario inputs.book text ≡ Ok kept →
+    IsResumption inputs (begun_by inputs (Ok kept)) result → IsResumption inputs (begun inputs text) result
+unfolding begun
+read-begun inputs text kept result is h = subst (λ o. IsResumption inputs (begun_by inputs o) result) (sym is) h
+
+-- a text that was not read
+pub unread-begun : (inputs : Inputs) (text : List ℕ) (why : TextErr) → Fails why (prefix_of inputs.scenario inputs.book text) → IsResumption inputs (begun inputs text) (Err (not_read why))
+unfolding begun
+unread-begun inputs text Version is = ap (begun_by inputs) is
+unread-begun inputs text (BadLine n) is = ap (begun_by inputs) is
+unread-begun inputs text Truncated is = ap (begun_by inputs) is
+unread-begun inputs text NoRoom is = tt
+
+-- ---- the ends before an auction goes on
+
+-- the end where the beginning was not loaded
+pub prefix-unloaded : (names : ResumeNames) (before after : Outside) (status : ℕ) (found : Option Record) (inputs : Inputs) (why : LoadErr) (told : Option (List StoredFile)) (steady : Bool) (faults : ℕ) →
+    AreInputsOf names.run_files.inputs before inputs → told ≡ before.files → steady ≡ before.steady → before.faults ≤ faults →
+    IsFileRead told steady faults after.faults names.prefix (Err why) →
+    ExplainsLoad names.prefix why before.held after.held before.cuts after.cuts status →
+    found ≡ None → after.files ≡ before.files → ResumeEnds names before after status found
+prefix-unloaded names before after status found inputs Failed told steady faults are is same kept h e none files =
+    PrefixNotLoaded inputs are (Unloaded e.0 (rises-before before.faults faults after.faults kept h.0) (λ own at still. h.1 own (is ∙ at) (same ∙ still)) e.1) none files
+prefix-unloaded names before after status found inputs TooLong told steady faults are is same kept h e none files =
+    PrefixNotLoaded inputs are (LongText e.0 (λ own at. h own (is ∙ at)) e.1) none files
+prefix-unloaded names before after status found inputs NoLoad told steady faults are is same kept h e none files =
+    ResumeStarved (record { status_is = e.0; found_is = none; line = e.1; files = files })
+
+-- the end where no auction goes on from it
+pub not-begun : (names : ResumeNames) (before after : Outside) (status : ℕ) (found : Option Record) (inputs : Inputs) (text : List ℕ) (why : Denied) →
+    AreInputsOf names.run_files.inputs before inputs → CanBeNamed inputs → IsTextHeld (begun_names names) before text → IsResumption inputs (begun inputs text) (Err why) →
+    ExplainsDenied names.prefix why before.held after.held before.cuts after.cuts status →
+    found ≡ None → after.files ≡ before.files → ResumeEnds names before after status found
+not-begun names before after status found inputs text (Fault fault) are can held is e none files = NotBegun inputs text fault are can held is e.0 none e.1 files
+not-begun names before after status found inputs text NoMemory are can held is e none files =
+    ResumeStarved (record { status_is = e.0; found_is = none; line = e.1; files = files })
+
+-- ---- the auction that goes on
+
+start-kept : (o : Option Shown) (rec : Record) → ((shown : Shown) → o ≡ Some shown → rec.start ≡ shown) → MatchOption o ⊤ (λ shown. rec.start ≡ shown)
+start-kept None rec h = tt
+start-kept (Some shown) rec h = h shown refl
+
+-- a record that goes on from where the auction stood goes on from what was kept
+pub goes-from : (inputs : Inputs) (kept : Prefix) (auction : AuctionView) (rec : Record) → IsAuction inputs.scenario inputs.book → StandsBehind inputs kept auction → GoesOnIn auction.state rec → GoesOnFrom kept rec
+goes-from inputs kept auction rec a behind goes =
+    let sc = inputs.scenario in
+    let book = inputs.book in
+    let order = order_kept kept in
+    let steps : List Step = steps_in kept.steps in
+    let outside_step : Step → Bool = λ x. is_outside x.shown in
+    let g = resumed-goes sc book order kept.start steps a behind.is_prefix in
+    let h : GoesOnIn (resumed sc book order kept.start steps) rec = subst (λ state. GoesOnIn state rec) behind.state goes in
+    record {
+      order = h.order ∙ g.order;
+      start = start-kept kept.start rec (λ shown is. h.start shown (g.start shown is));
+      more = g.more ++ h.more;
+      steps = h.steps ∙ (ap (λ xs. xs ++ h.more) g.steps ∙ append_assoc steps g.more h.more);
+      own = list_any-append outside_step g.more h.more ∙ or_from (list_any outside_step g.more) (list_any outside_step h.more) g.own h.own;
+    }
+
+-- the end where the auction goes on
+pub went-on : (names : ResumeNames) (before between after : Outside) (status : ℕ) (found : Option Record) (inputs : Inputs) (auction : AuctionView) (rec : Record) →
+    IsResumable names before inputs auction → between ≡ before → ((kept : Prefix) → StandsBehind inputs kept auction → GoesOnFrom kept rec) →
+    IsStarved between after status found ⊎ Concludes rec.order names.run_files inputs rec between after status found → ResumeEnds names before after status found
+went-on names before between after status found inputs auction rec r same goes (inl s) = ResumeStarved (subst (λ (b : Outside). IsStarved b after status found) same s)
+went-on names before between after status found inputs auction rec r same goes (inr c) =
+    let from : GoesOnFrom r.kept rec = goes r.kept r.behind in
+    WentOn inputs r.text r.kept rec r.accepted r.named r.held r.sound from
+    (subst (λ (b : Outside). Concludes (order_kept r.kept) names.run_files inputs rec b after status found) same
+    (subst (λ o. Concludes o names.run_files inputs rec between after status found) from.order c))
+
+-- ---- what a beginning says of the start
+
+-- what is kept has no fault
+none-of-kept : (o : Option NotShown) (own kept : Prefix) → kept_or o own ≡ Ok kept → (o ≡ None) × (own ≡ kept)
+none-of-kept None own kept e = (refl, cc)
+none-of-kept (Some first) own kept e = cc
+
+kept-read : (inputs : Inputs) (r : Result Prefix TextErr) (kept : Prefix) → begun_by inputs r ≡ Ok kept → not_kept inputs.scenario inputs.book kept ≡ None
+kept-read inputs (Ok own) kept e =
+    let both = none-of-kept (not_kept inputs.scenario inputs.book own) own kept e in
+    subst (λ p. not_kept inputs.scenario inputs.book p ≡ None) both.1 both.0
+kept-read inputs (Err why) kept e = cc
+
+pub begun-none : (inputs : Inputs) (text : List ℕ) (kept : Prefix) → begun inputs text ≡ Ok kept → not_kept inputs.scenario inputs.book kept ≡ None
+unfolding begun
+begun-none inputs text kept e = kept-read inputs (prefix_of inputs.scenario inputs.book text) kept e
+
+-- a start that is kept fits
+start-fits : (sc : Scenario) (book : BookView) (shown : Shown) → start_fault sc book shown ≡ None → ending_of shown ≡ Done
+start-fits sc book Empty none = refl
+start-fits sc book (Fits delta) none = refl
+start-fits sc book Same none = cc
+start-fits sc book (NoChannel s) none = cc
+start-fits sc book (Refuted w how) none = cc
+start-fits sc book (ByProof proof) none = cc
+start-fits sc book (Undecided xs) none = cc
+
+-- where no fault is found up to some step, the start has none
+no-start-fault : (o : Option Place) (rest : Option NotShown) (ended : Bool) (n : ℕ) → (if ended then step_fault_or 0 o rest else within_steps n (step_fault_or 0 o rest)) ≡ None → o ≡ None
+no-start-fault None rest ended n e = refl
+no-start-fault (Some place) rest true n e = cc
+no-start-fault (Some place) rest false n e =
+    let first : nat_le 0 n ≡ true = grind (arith, nat_tests) in
+    cc (rw first at e)
+
+kept-start : (sc : Scenario) (book : BookView) (kept : Prefix) (o : Option Shown) (shown : Shown) → kept.start ≡ o → not_kept sc book kept ≡ None → o ≡ Some shown → ending_of shown ≡ Done
+unfolding not_kept not_shown
+kept-start sc book kept None shown is none e = cc
+kept-start sc book kept (Some own) shown is none e =
+    let same : own ≡ shown = cc in
+    let fault : started_fault sc book kept.ended (kept_as kept own) ≡ None = rw is at none in
+    subst (λ s. ending_of s ≡ Done) same (start-fits sc book own (no-start-fault (start_fault sc book own) _ kept.ended _ fault))
+
+-- an auction that ended at its start was not kept with a verdict on it
+pub no-verdict : (inputs : Inputs) (text : List ℕ) (kept : Prefix) (rec : Record) (order : Order) (ending : Ending) → begun inputs text ≡ Ok kept → GoesOnFrom kept rec → IsBacked inputs.scenario inputs.book order rec → rec.ending ≡ ending → (ending ≡ Done → ⊥) →
+    kept.start ≡ None
+no-verdict inputs text kept rec order ending is goes backed ends other = by kept.start refl goes.start
+  where
+    by : (o : Option Shown) → kept.start ≡ o → MatchOption o ⊤ (λ shown. rec.start ≡ shown) → kept.start ≡ None
+    by None e h = e
+    by (Some shown) e h =
+        let done : ending_of shown ≡ Done = kept-start inputs.scenario inputs.book kept (Some shown) shown e (begun-none inputs text kept is) refl in
+        absurd (other (sym ends ∙ (backed.ending ∙ (ap ending_of h ∙ done))))

@@ -1,0 +1,86 @@
+-- A transcript's file, read piece by piece: the reader has read what was handed out.
+use Rattle.std.proofs.Common.{◌≡◌, ◌≢◌, ◌∙◌, ◌≤◌, ◌<◌, ◌+◌, ◌++◌, [], ℕ, Bool, true, List, length, refl, sym, ap, subst, arith}
+use Rattle.std.proofs.lemmas.List.{length-append}
+use Rattle.std.specs.Prelude.{Option, Some, None, Result, Ok, Err}
+use Rattle.outside_io.specs.Faults.{HasRisen}
+use Rattle.outside_io.specs.Files.{StoredFile, bytes_of}
+use Rattle.outside_io.specs.Pieces.{Begins, BeginsFile, HandedAll, HandedSoFar, HandsOut}
+use Rattle.outside_io.specs.declared.folder.LoadErr.{LoadErr}
+use Rattle.outside_io.specs.declared.folder.LoadErr.TheVariants.{Failed, TooLong, NoMemory as NoLoad}
+use Rattle.outside_io.proofs.PieceLaws.{begun-none, handed-all, handed-more}
+use Rattle.transcript_text.specs.Pieces.{HasRead, ReadSoFar}
+use Rattle.commands.specs.declared.inputs.Inputs.{Inputs}
+use Rattle.commands.specs.Inputs.{file_limit}
+use Rattle.commands.specs.Transcripts.{IsTextRead}
+use Rattle.commands.proofs.SaysLemmas.{rises-before}
+
+-- the bytes that the reader has read are those that were handed out of the file of this name, so many
+pub record IsReading (inputs : Inputs) (told : Option (List StoredFile)) (name : List ℕ) (left : Option (List ℕ)) (come : ℕ) (read : ReadSoFar) : Type 0 where
+  pub bytes : List ℕ
+  pub has_read : HasRead inputs.scenario inputs.book bytes read
+  pub handed : HandedSoFar told name bytes left
+  pub so_many : come ≡ length bytes
+
+-- where the file is begun
+pub reading-begins : (inputs : Inputs) (told : Option (List StoredFile)) (name : List ℕ) (left : Option (List ℕ)) (come : ℕ) (read : ReadSoFar) (u : Unit {0}) → HasRead inputs.scenario inputs.book [] read
+    → Begins told name file_limit (Ok u) left → come ≡ 0 → IsReading inputs told name left come read
+reading-begins inputs told name left come read u empty begun none =
+    record { bytes = []; has_read = empty; handed = begun-none told name file_limit u left begun; so_many = none }
+
+-- each piece is read
+pub reading-goes-on : (inputs : Inputs) (told : Option (List StoredFile)) (name : List ℕ) (left after : Option (List ℕ)) (come now : ℕ) (piece : List ℕ) (read more : ReadSoFar) (u : Unit {0}) → IsReading inputs told name left come read
+    → HandsOut left after (Ok u) piece → now ≡ come + length piece
+    → ((bytes : List ℕ) → HasRead inputs.scenario inputs.book bytes read → HasRead inputs.scenario inputs.book (bytes ++ piece) more)
+    → IsReading inputs told name after now more
+reading-goes-on inputs told name left after come now piece read more u r hands counts feeds = record {
+  bytes = r.bytes ++ piece;
+  has_read = feeds r.bytes r.has_read;
+  handed = handed-more told name r.bytes piece left after u r.handed hands;
+  so_many = counts ∙ ap (λ n. n + length piece) r.so_many ∙ sym (length-append r.bytes piece);
+}
+
+-- a piece of no bytes ends the file
+pub reading-ends : (inputs : Inputs) (told : Option (List StoredFile)) (name : List ℕ) (left after : Option (List ℕ)) (come now most : ℕ) (piece : List ℕ) (read : ReadSoFar) (u : Unit {0}) (steady : Bool) (before faults : ℕ) → IsReading inputs told name left come read
+    → HandsOut left after (Ok u) piece → length piece ≡ 0 → now ≡ come + length piece → now ≤ most → most ≡ file_limit
+    → IsTextRead inputs told steady before faults name (Ok read)
+reading-ends inputs told name left after come now most piece read u steady before faults r hands none counts within limit =
+    let all = handed-all told name r.bytes piece left after u r.handed hands none in
+    (r.bytes, r.has_read, λ files at. (subst (λ o. HandedAll o name r.bytes) at all, omega (arith, r.so_many, none, counts, within, limit)))
+
+-- ---- the file that isn't read to its end
+
+is-absent : (held : Option (List ℕ)) → ((bytes : List ℕ) → held ≡ Some bytes → ⊥) → held ≡ None
+is-absent None h = refl
+is-absent (Some bytes) h = absurd (h bytes refl)
+
+is-long : (held : Option (List ℕ)) (limit : ℕ) (left : Option (List ℕ)) → BeginsFile held limit (Err TooLong) left → (bytes : List ℕ) × (held ≡ Some bytes) × (limit < length bytes)
+is-long None limit left h = absurd h
+is-long (Some bytes) limit left h = (bytes, refl, h)
+
+abbrev failing : LoadErr → Result (Unit {0}) LoadErr
+failing why = Err why
+
+-- it isn't begun
+pub begin-fails : (inputs : Inputs) (told : Option (List StoredFile)) (name : List ℕ) (left : Option (List ℕ)) (steady : Bool) (before now : ℕ) (why : LoadErr) → Begins told name file_limit (Err why) left
+    → (failing why ≡ Err Failed → HasRisen before now)
+    → ((files : List StoredFile) (bytes : List ℕ) → steady ≡ true → told ≡ Some files → bytes_of files name ≡ Some bytes → failing why ≢ Err Failed)
+    → IsTextRead inputs told steady before now name (Err why)
+begin-fails inputs told name left steady before now Failed begun rises surely =
+    (rises refl, λ files at still. is-absent (bytes_of files name) (λ bytes is. surely files bytes still at is refl))
+begin-fails inputs told name left steady before now TooLong begun rises surely =
+    λ files at. is-long (bytes_of files name) file_limit left (subst (λ o. Begins o name file_limit (Err TooLong) left) at begun)
+begin-fails inputs told name left steady before now NoLoad begun rises surely = tt
+
+never-long : (files : List StoredFile) (name done : List ℕ) (left after : Option (List ℕ)) (piece : List ℕ) → HandedSoFar (Some files) name done left → HandsOut left after (Err TooLong) piece → ⊥
+never-long files name done left after piece so_far hands = subst (λ o. HandsOut o after (Err TooLong) piece) so_far.1 hands
+
+-- a piece of it isn't handed out
+pub reading-fails : (inputs : Inputs) (told : Option (List StoredFile)) (name : List ℕ) (left after : Option (List ℕ)) (come : ℕ) (piece : List ℕ) (read : ReadSoFar) (steady still : Bool) (before middle now : ℕ) (why : LoadErr) → IsReading inputs told name left come read
+    → HandsOut left after (Err why) piece → before ≤ middle → (failing why ≡ Err Failed → HasRisen middle now)
+    → still ≡ steady → (still ≡ true → failing why ≢ Err Failed)
+    → IsTextRead inputs told steady before now name (Err why)
+reading-fails inputs told name left after come piece read steady still before middle now Failed r hands kept rises same surely =
+    (rises-before before middle now kept (rises refl), λ files at is. absurd (surely (same ∙ is) refl))
+reading-fails inputs told name left after come piece read steady still before middle now TooLong r hands kept rises same surely =
+    λ files at. absurd (never-long files name r.bytes left after piece (subst (λ o. HandedSoFar o name r.bytes left) at r.handed) hands)
+reading-fails inputs told name left after come piece read steady still before middle now NoLoad r hands kept rises same surely = tt

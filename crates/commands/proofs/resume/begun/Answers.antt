@@ -1,0 +1,9 @@
+-- What is made of what was read is what is made of the text.
+use Rattle.commands.proofs.ResumeEndLemmas.{read-begun, unread-begun}
+use Rattle.commands.proofs.resume.begun.Goals as goal
+
+pub returns-in-Ok : goal.returns-in-Ok
+returns-in-Ok c = read-begun c.args.inputs.now c.args.text.now c.in-Ok.kept c.auction_behind.result c.in-Ok.ensures c.auction_behind.ensures
+
+pub returns-in-Err : goal.returns-in-Err
+returns-in-Err c = rw c.not_read.ensures (unread-begun c.args.inputs.now c.args.text.now c.in-Err.why c.in-Err.ensures)

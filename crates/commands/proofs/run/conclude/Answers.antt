@@ -1,0 +1,31 @@
+-- Each end, by how the auction ended.
+use Rattle.std.proofs.Common.{inr, refl, subst}
+use Rattle.commands.specs.Ends.Concludes.{Unfit, StartOpen, Delivered}
+use Rattle.commands.specs.Records.{IsEndedRecordIn, IsOpenRecordIn, IsRecordIn, IsRefutedRecordIn}
+use Rattle.commands.proofs.run.conclude.Goals as goal
+
+pub returns-in-StartRefuted-clause-ends : goal.returns-in-StartRefuted-clause-ends
+returns-in-StartRefuted-clause-ends g c =
+    let inputs = c.args.inputs.now in
+    let rec = c.args.rec in
+    let of : IsRefutedRecordIn rec.order inputs rec = subst (IsEndedRecordIn rec.order inputs rec) c.in-StartRefuted.is c.requires.of in
+    inr (Unfit of c.with_record.ensures.status c.with_record.ensures.kept c.say.ensures.says refl)
+
+pub returns-in-StartUndecided-clause-ends : goal.returns-in-StartUndecided-clause-ends
+returns-in-StartUndecided-clause-ends g c =
+    let inputs = c.args.inputs.now in
+    let rec = c.args.rec in
+    let of : IsOpenRecordIn rec.order inputs rec = subst (IsEndedRecordIn rec.order inputs rec) c.in-StartUndecided.is c.requires.of in
+    inr (StartOpen of c.with_record-in-StartUndecided.ensures.status c.with_record-in-StartUndecided.ensures.kept c.say-in-StartUndecided.ensures.says refl)
+
+pub texts_of-requires-clause-of : goal.texts_of-requires-clause-of
+texts_of-requires-clause-of g c = subst (IsEndedRecordIn c.args.rec.order c.args.inputs.now c.args.rec) c.in-Done.is c.requires.of
+
+pub returns-clause-ends : goal.returns-clause-ends
+returns-clause-ends g c =
+    let inputs = c.args.inputs.now in
+    let rec = c.args.rec in
+    let of : IsRecordIn rec.order inputs rec = subst (IsEndedRecordIn rec.order inputs rec) c.in-Done.is c.requires.of in
+    inr (Delivered of c.keeps_named_numbers.ensures c.keeps_ascending_fits.ensures c.with_record-2.ensures.kept
+    (rw c.with_record-2.ensures.status
+    (rw (c.deref.ensures.value, c.deref-2.ensures.value, c.deref-3.ensures.value, c.deref-4.ensures.value, c.in-Ok.ensures.result, c.in-Ok.ensures.channels, c.in-Ok.ensures.transcript, c.in-Ok.ensures.summary, c.done_status-done.ensures) at c.deliver-status.ensures.delivers)))

@@ -1,0 +1,32 @@
+-- Each end, from what its steps did.
+use Rattle.std.proofs.Common.{◌∙◌}
+use Rattle.command_words.specs.Words.{verify_seen}
+use Rattle.commands.proofs.TranscriptLemmas.{denied-ends, unloaded-ends}
+use Rattle.commands.proofs.shown.shown_by.Goals as goal
+
+pub returns-in-Err-read_text-clause-ends : goal.returns-in-Err-read_text-clause-ends
+returns-in-Err-read_text-clause-ends g c =
+    rw c.without_record-in-Err-read_text.ensures.status
+    (unloaded-ends (verify_seen c.args.files.now) _ _ _ _ c.in-Ok.inputs c.in-Err-read_text.why _ _ _ c.in-Ok.ensures.told c.in-Ok.ensures.files c.in-Ok.ensures.steady c.in-Ok.ensures.counted.kept
+    c.in-Err-read_text.ensures.read c.say_unloaded.ensures c.without_record-in-Err-read_text.ensures.none (c.in-Err-read_text.ensures.files ∙ c.in-Ok.ensures.files))
+
+pub returns-in-Ok-record_of-clause-shown : goal.returns-in-Ok-record_of-clause-shown
+returns-in-Ok-record_of-clause-shown g c =
+    let (text, read, is) = c.in-Ok-read_text.ensures.read in
+    let (sound, own) = c.in-Ok-record_of.ensures text read in
+    record {
+      accepted = c.in-Ok.ensures.told;
+      named = c.keeps_named_numbers.ensures;
+      text = text;
+      held = λ files at. is files (c.in-Ok.ensures.files ∙ at);
+      sound = sound;
+      own = own;
+    }
+
+pub returns-in-Err-record_of-clause-ends : goal.returns-in-Err-record_of-clause-ends
+returns-in-Err-record_of-clause-ends g c =
+    let (text, read, is) = c.in-Ok-read_text.ensures.read in
+    rw c.without_record-in-Err-record_of.ensures.status
+    (denied-ends (verify_seen c.args.files.now) _ _ _ _ c.in-Ok.inputs text c.in-Err-record_of.why c.in-Ok.ensures.told c.keeps_named_numbers.ensures
+    (λ files at. is files (c.in-Ok.ensures.files ∙ at))
+    (c.in-Err-record_of.ensures text read) c.say_denied.ensures c.without_record-in-Err-record_of.ensures.none (c.in-Ok-read_text.ensures.files ∙ c.in-Ok.ensures.files))

@@ -1,0 +1,77 @@
+-- The line that says which input is refused, and why.
+use Rattle.std.specs.Prelude.{ℕ, ◌==◌, if◌then◌else◌, List, ◌++◌, codes, decimal}
+use Rattle.constraint_files.specs.declared.error.RowWhy.{RowWhy}
+use Rattle.constraint_files.specs.declared.error.RowWhy.TheVariants.{ShortRow, BadKey, BadNumber, ChannelRange, BadOffset, SecondDomain, TooMany}
+use Rattle.scenario_json.specs.declared.error.ScenarioErr.{ScenarioErr}
+use Rattle.scenario_json.specs.declared.error.ScenarioErr.TheVariants.{Syntax, MissingField, WrongKind, OutOfLimit, RepeatedStation, SumOverOpening, NoProver, NoMemory}
+use Rattle.scenario_json.specs.declared.name.Name.{Name}
+use Rattle.scenario_json.specs.Name.{name_text}
+use Rattle.command_words.specs.declared.run_words.Input.{Input}
+use Rattle.command_words.specs.declared.run_words.Input.TheVariants.{Domains, Rows, Scenario as ScenarioFile, Owners as OwnersFile, List as ListFile}
+use Rattle.commands.specs.declared.refusal.Refusal.{Refusal}
+use Rattle.commands.specs.declared.refusal.Refusal.TheVariants.{TooLong, Row, Scenario, MissingDomain, Owners, BadLine, EmptyList}
+use Rattle.owner_line.specs.declared.error.OwnerWhy.{OwnerWhy}
+use Rattle.owner_line.specs.declared.error.OwnerWhy.TheVariants as owner
+use Rattle.command_words.specs.Words.{InputNames, name_of}
+
+-- the file that is refused
+abbrev pub input_of : Refusal → Input
+input_of (TooLong input) = input
+input_of (Row input line why) = input
+input_of (Scenario error) = ScenarioFile
+input_of (MissingDomain s) = Domains
+input_of (Owners line why) = OwnersFile
+input_of (BadLine line) = ListFile
+input_of EmptyList = ListFile
+
+-- the words for the refusal of a record
+unfoldable pub row_text : RowWhy → List ℕ
+row_text ShortRow = codes "short row"
+row_text BadKey = codes "unknown key"
+row_text BadNumber = codes "bad number"
+row_text ChannelRange = codes "channel out of range"
+row_text BadOffset = codes "channels do not fit the key"
+row_text SecondDomain = codes "second domain row"
+row_text TooMany = codes "too many"
+
+-- the words for the refusal of an owner's line
+unfoldable pub owner_text : OwnerWhy → List ℕ
+owner_text owner.Fields = codes "not three fields"
+owner_text owner.BadNumber = codes "bad number"
+owner_text owner.RoundRange = codes "round out of range"
+owner_text owner.UnknownStation = codes "unknown station"
+owner_text owner.BadWord = codes "bad word"
+owner_text owner.Repeated = codes "repeated"
+
+-- the place in a list, where there is one, and the line's end
+abbrev pub place_text : ℕ → List ℕ
+place_text at = if at == 0 then codes "\n" else codes " at " ++ decimal at ++ codes "\n"
+
+-- a member of the scenario, the place in its list where it has one, and the line's end
+abbrev pub member_text : Name → ℕ → List ℕ
+member_text name at = name_text name ++ place_text at
+
+-- what the line says of a scenario, behind the name of its file
+unfoldable pub scenario_text : ScenarioErr → List ℕ
+scenario_text Syntax = codes ": not JSON\n"
+scenario_text (MissingField name at) = codes ": missing " ++ member_text name at
+scenario_text (WrongKind name at) = codes ": wrong kind " ++ member_text name at
+scenario_text (OutOfLimit name at) = codes ": out of limit " ++ member_text name at
+scenario_text (RepeatedStation s) = codes ": repeated station " ++ decimal s ++ codes "\n"
+scenario_text SumOverOpening = codes ": decrements exceed the opening\n"
+scenario_text NoProver = codes ": no cdcl worker\n"
+scenario_text NoMemory = codes ": out of memory\n"
+
+-- what the line says of an input, behind the name of its file
+unfoldable pub refusal_text : Refusal → List ℕ
+refusal_text (TooLong input) = codes ": too long\n"
+refusal_text (Row input line why) = codes ": line " ++ decimal line ++ codes ": " ++ row_text why ++ codes "\n"
+refusal_text (Scenario error) = scenario_text error
+refusal_text (MissingDomain s) = codes ": no domain row for station " ++ decimal s ++ codes "\n"
+refusal_text (Owners line why) = codes ": line " ++ decimal line ++ codes ": " ++ owner_text why ++ codes "\n"
+refusal_text (BadLine line) = codes ": line " ++ decimal line ++ codes ": " ++ codes "bad list" ++ codes "\n"
+refusal_text EmptyList = codes ": empty list\n"
+
+-- the line of a refusal, of these input files
+abbrev pub refusal_line : InputNames → Refusal → List ℕ
+refusal_line names refusal = name_of names (input_of refusal) ++ refusal_text refusal

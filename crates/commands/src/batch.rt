@@ -1,0 +1,248 @@
+//! The command `batch`: the auctions of many scenarios over the same constraint files, carried out as many at a time as there
+//! are processors.
+
+ghost use Rattle.std.specs.Prelude.{◌≡◌, ◌==◌, ◌++◌, ◌∷◌, [], All, IfOk, None, OnOk, length, map, option_map};
+ghost use Rattle.std.specs.List.{list_any};
+ghost use Rattle.auction_core.specs.Setup.{IsOfAuction};
+ghost use Rattle.commands.specs.Batch.{batch_status, ends_at_start, own_status, own_texts, status_lines, texts_under};
+ghost use Rattle.commands.specs.BatchEnds.{AreRecordsOf, BatchEnds};
+ghost use Rattle.commands.specs.Delivery.{Delivers};
+ghost use Rattle.commands.specs.Faults.{AreFaultsCounted};
+ghost use Rattle.commands.specs.Outside.{outside};
+ghost use Rattle.commands.specs.Statuses.{LEFT_OPEN};
+ghost use Rattle.command_words.specs.Words.{batch_seen};
+
+use crate::batch_inputs::{ReadBatch, read_each, read_listed};
+use crate::batch_run::{Ran, run_all};
+use crate::delivery::store;
+use crate::explain::{explain, starve};
+use crate::finish::Finish;
+use crate::inputs::Inputs;
+use crate::run::done_status;
+use crate::says::say;
+use crate::status::{DONE, LEFT_OPEN, REFUSED, SOME_UNSTARTED, START_OPEN, START_UNFIT, UNWRITTEN};
+use auction_core::record::{Ending, Record};
+use batch_list::line::BatchLine;
+use batch_list::repeated::first_repeated;
+use command_words::batch_words::BatchArgs;
+use outside_io::folder::Folder;
+use outside_io::sink::Sink;
+use result_text::counts::push_count;
+use solver_gate::gate::Gate;
+use std::alloc::{AllocError as NoMemory, Global};
+use std::sync::Wait;
+use std::thread::Threads;
+
+/// The auctions of a batch that were carried out: their records and, of each that was carried through, the text of its result.
+#[derive(Drop)]
+struct Results {
+    records: Vec<Record>,
+    texts: Vec<Option<Vec<u8>>>,
+}
+
+impl Results {
+    // With one auction more. The only error is want of memory.
+    fn push(&mut self, ran: Ran) -> Result<(), NoMemory>
+        ensures records { OnOk result (self.new.records.items ≡ self.old.records.items ++ ran.record ∷ []) }
+        ensures texts { OnOk result (self.new.texts.items ≡ self.old.texts.items ++ ran.result ∷ []) }
+    {
+        let Ran { record, result } = ran;
+        self.records.push(record)?;
+        self.texts.push(result)?;
+        Ok(())
+    }
+}
+
+// The records and the texts of these auctions apart.
+fn parted(alloc: Global, rans: Vec<Ran>) -> Result<Results, NoMemory>
+    ensures records { IfOk result (λ r. r.records.items ≡ map (λ ran. ran.record) rans.items) }
+    ensures texts { IfOk result (λ r. r.texts.items ≡ map (λ ran. ran.result) rans.items) }
+{
+    let mut results = Results {
+        records: Vec::new(alloc),
+        texts: Vec::new(alloc),
+    };
+    for ran in rans {
+        results.push(ran)?;
+    }
+    Ok(results)
+}
+
+// Whether the auction ended at its start.
+fn ends_at_start(ending: Ending) -> bool
+    ensures { result ≡ ends_at_start ending }
+{
+    match ending {
+        Ending::Done => false,
+        Ending::StartRefuted | Ending::StartUndecided => true,
+    }
+}
+
+// The status of an auction of the batch, as `run` has it: by how it ended and whether a test of it was left open.
+fn own_status(rec: &Record) -> u8
+    ensures { result ≡ own_status rec.now }
+{
+    match rec.ending {
+        Ending::Done => done_status(rec),
+        Ending::StartRefuted => START_UNFIT,
+        Ending::StartUndecided => START_OPEN,
+    }
+}
+
+// Whether an auction ended at its start.
+fn any_at_start(records: &[Record]) -> bool
+    ensures { result ≡ list_any (λ rec. ends_at_start rec.ending) records.now }
+{
+    records.iter().any(|rec| ends_at_start(rec.ending))
+}
+
+// Whether a test of an auction was left open that was carried through.
+fn any_left_open(records: &[Record]) -> bool
+    ensures { result ≡ list_any (λ rec. own_status rec == LEFT_OPEN) records.now }
+{
+    records.iter().any(|rec| own_status(rec) == LEFT_OPEN)
+}
+
+// The status of the batch.
+fn batch_status(records: &[Record]) -> u8
+    ensures { result ≡ batch_status records.now }
+{
+    if any_at_start(records) {
+        return SOME_UNSTARTED;
+    }
+    if any_left_open(records) {
+        return LEFT_OPEN;
+    }
+    DONE
+}
+
+// Puts the lines of these scenarios' names and their auctions' statuses to the text.
+fn push_lines(text: &mut Vec<u8>, lines: &[BatchLine], records: &[Record]) -> Result<(), NoMemory>
+    ensures { OnOk result (text.new.items ≡ text.old.items ++ status_lines lines.now records.now) }
+{
+    let Some((line, lines_left)) = lines.split_first() else {
+        return Ok(());
+    };
+    let Some((rec, records_left)) = records.split_first() else {
+        return Ok(());
+    };
+    push_count(text, line.scenario(), u64::from(own_status(rec)))?;
+    push_lines(text, lines_left, records_left)
+}
+
+// The lines of the scenarios' names and their auctions' statuses.
+fn status_lines(alloc: Global, lines: &[BatchLine], records: &[Record]) -> Result<Vec<u8>, NoMemory>
+    ensures { IfOk result (λ text. text.items ≡ status_lines lines.now records.now) }
+{
+    let mut text = Vec::new(alloc);
+    push_lines(&mut text, lines, records)?;
+    Ok(text)
+}
+
+// Stores each text that there is under the name that its line has for it, in order, and prints the lines. It gives the status, which
+// is `done` where all is done.
+fn deliver<F: Folder, K: Sink>(
+    folder: &mut F,
+    out: &mut K,
+    lines: &[BatchLine],
+    texts: &[Option<Vec<u8>>],
+    printed: &[u8],
+    done: u8,
+) -> u8
+    requires { length texts.now ≡ length lines.now }
+    ensures delivers { Delivers (texts_under lines.now (map (option_map (λ v. v.items)) texts.now)) printed.now done
+        (outside (F.told folder.old) (K.told out.old)) (outside (F.told folder.new) (K.told out.new)) result }
+    ensures counted { AreFaultsCounted
+        (outside (F.told folder.old) (K.told out.old)) (outside (F.told folder.new) (K.told out.new)) result }
+{
+    let Some((line, lines_left)) = lines.split_first() else {
+        return match out.write(printed) {
+            Ok(()) => done,
+            Err(_) => UNWRITTEN,
+        };
+    };
+    let Some((text, texts_left)) = texts.split_first() else {
+        unreachable!();
+    };
+    if let Some(text) = text {
+        if let Err(status) = store(folder, out, line.result(), text) {
+            return status;
+        }
+    }
+    deliver(folder, out, lines_left, texts_left, printed, done)
+}
+
+/// The auctions of a batch that were carried out: their records, the texts of the results of those that were carried through, and
+/// what is printed.
+#[derive(Drop)]
+struct CarriedBatch {
+    records: Vec<Record>,
+    texts: Vec<Option<Vec<u8>>>,
+    printed: Vec<u8>,
+}
+
+// Carries all auctions out, and makes all texts. Of the outside it calls the gate alone.
+fn carry_all_out<G: Gate + Sync, W: Threads + Wait + Sync>(
+    rt: &W,
+    alloc: Global,
+    lines: &[BatchLine],
+    auctions: Vec<Inputs>,
+    gate: &G,
+) -> Result<CarriedBatch, NoMemory>
+    requires auctions { All (λ i. IsOfAuction i.scenario i.book) auctions.items }
+    requires many { length auctions.items ≡ length lines.now }
+    ensures auctions { IfOk result (λ c. AreRecordsOf (record { lines = lines.now; inputs = auctions.items }) c.records.items) }
+    ensures texts { IfOk result (λ c. map (option_map (λ v. v.items)) c.texts.items ≡ own_texts auctions.items c.records.items) }
+    ensures printed { IfOk result (λ c. c.printed.items ≡ status_lines lines.now c.records.items) }
+    ensures long { IfOk result (λ c. length c.texts.items ≡ length lines.now) }
+{
+    let rans = run_all(rt, alloc, auctions, gate)?;
+    let Results { records, texts } = parted(alloc, rans)?;
+    let printed = status_lines(alloc, lines, &records)?;
+    Ok(CarriedBatch {
+        records,
+        texts,
+        printed,
+    })
+}
+
+/// Reads the constraint files, the list, and the scenario of each of its lines, and carries all their auctions out, as many at a
+/// time as the machine has processors: each as `run` does, by solvers that share what they answered. The results of those that
+/// were carried through are stored, in the list's order, and a line is printed for each scenario with its auction's own status:
+/// `DONE`, `LEFT_OPEN`, `START_UNFIT` or `START_OPEN` of `status`, as those of `run`. Nothing is stored before all auctions are
+/// done.
+pub fn batch<F: Folder, K: Sink, G: Gate + Sync, W: Threads + Wait + Sync>(
+    rt: &W,
+    alloc: Global,
+    files: &BatchArgs<'_>,
+    folder: &mut F,
+    out: &mut K,
+    gate: &G,
+) -> Finish
+    ensures ends { BatchEnds (batch_seen files.now)
+        (outside (F.told folder.old) (K.told out.old)) (outside (F.told folder.new) (K.told out.new)) result.status result.batch }
+    ensures none { result.result ≡ None }
+    ensures no_other { result.below ≡ None }
+    ensures counted { AreFaultsCounted
+        (outside (F.told folder.old) (K.told out.old)) (outside (F.told folder.new) (K.told out.new)) result.status }
+{
+    let names = files.inputs_with(files.list);
+    let listed = match read_listed(alloc, folder, &names) {
+        Ok(listed) => listed,
+        Err(stop) => return Finish::without_record(explain(out, &names, stop)),
+    };
+    if let Some(name) = first_repeated(&[files.domains, files.rows, files.list], &listed.lines) {
+        say(out, &[name, ": given twice\n"]);
+        return Finish::without_record(REFUSED);
+    }
+    let ReadBatch { lines, inputs } = match read_each(alloc, folder, out, files, listed) {
+        Ok(read) => read,
+        Err(status) => return Finish::without_record(status),
+    };
+    let Ok(carried) = carry_all_out(rt, alloc, &lines, inputs, gate) else {
+        return starve(out);
+    };
+    let done = batch_status(&carried.records);
+    let status = deliver(folder, out, &lines, &carried.texts, &carried.printed, done);
+    Finish::with_batch(status, carried.records)
+}

@@ -1,0 +1,194 @@
+//! What a batch reads: the constraint files once, the list, and the scenario of each of its lines with the book that it makes.
+
+ghost use Rattle.std.specs.Prelude.{◌≡◌, ◌≤◌, All, IfErr, IfOk, List, None, Ok, OnOk, Some, length};
+ghost use Rattle.outside_io.specs.Files.{StoredFile};
+ghost use Rattle.batch_list.specs.ListOf.{list_limit};
+ghost use Rattle.pack_defs.specs.Book.{stations_of};
+ghost use Rattle.pack_defs.specs.Scenario.{IsWithinLimits, facilities};
+ghost use Rattle.auction_core.specs.Setup.{IsOfAuction};
+ghost use Rattle.commands.specs.Batch.{constraints_of, each_inputs, inputs_beside, list_named, listing_of, listed_seen};
+ghost use Rattle.commands.specs.BatchEnds.{IsReadingStopped, IsUnderOneOf};
+ghost use Rattle.commands.specs.Ends.{ExplainsHalt};
+ghost use Rattle.commands.specs.Inputs.{Agrees, CountsFault};
+ghost use Rattle.commands.specs.Outside.{outside};
+ghost use Rattle.command_words.specs.Words.{batch_seen, inputs_seen};
+
+use crate::constraints::{domains_from, pairs_from};
+use crate::explain::explain;
+use crate::inputs::{Inputs, Stop, load, scenario_from};
+use crate::refusal::Refusal;
+use batch_list::error::ListErr;
+use batch_list::line::BatchLine;
+use batch_list::read::read_list;
+use command_words::batch_words::BatchArgs;
+use command_words::run_words::{Input, InputArgs};
+use constraint_files::domains::Domains;
+use constraint_files::pairs::Pairs;
+use outside_io::folder::Folder;
+use outside_io::sink::Sink;
+use scenario_json::join::{JoinErr, join};
+use std::alloc::Global;
+
+/// What the constraint files hold, before a scenario cuts them to a book.
+#[derive(Drop)]
+pub struct Constraints {
+    pub domains: Domains,
+    pub pairs: Pairs,
+}
+
+/// What the constraint files hold, and the lines of a batch's list.
+#[derive(Drop)]
+pub struct Listed {
+    pub constraints: Constraints,
+    pub lines: Vec<BatchLine>,
+}
+
+// What the domains and the rows hold, read in this order.
+#[tactic(auto, unfolding(crate::specs::Batch::constraints_of))]
+fn read_constraints<F: Folder>(
+    alloc: Global,
+    folder: &mut F,
+    names: &InputArgs<'_>,
+) -> Result<Constraints, Stop>
+    ensures told { (files : List StoredFile) → (F.told folder.old).files ≡ Some files →
+        Agrees (λ c. c) (F.told folder.old).steady (constraints_of files (inputs_seen names.now)) result }
+    ensures files { (F.told folder.new).files ≡ (F.told folder.old).files }
+    ensures steady { (F.told folder.new).steady ≡ (F.told folder.old).steady }
+    ensures counted { CountsFault (F.told folder.old).faults (F.told folder.new).faults result }
+{
+    let domains = domains_from(alloc, folder, names.domains)?;
+    let pairs = pairs_from(alloc, folder, names.rows, &domains)?;
+    Ok(Constraints { domains, pairs })
+}
+
+// The lines of the list of this name.
+fn list_from<F: Folder>(alloc: Global, folder: &mut F, name: &str) -> Result<Vec<BatchLine>, Stop>
+    ensures told { (files : List StoredFile) → (F.told folder.old).files ≡ Some files →
+        Agrees (λ v. v.items) (F.told folder.old).steady (list_named files name.now) result }
+    ensures few { IfOk result (λ v. length v.items ≤ list_limit) }
+    ensures files { (F.told folder.new).files ≡ (F.told folder.old).files }
+    ensures steady { (F.told folder.new).steady ≡ (F.told folder.old).steady }
+    ensures counted { CountsFault (F.told folder.old).faults (F.told folder.new).faults result }
+{
+    let bytes = load(alloc, folder, name, Input::List)?;
+    match read_list(alloc, &bytes) {
+        Ok(lines) => Ok(lines),
+        Err(ListErr::BadLine { line }) => Err(Stop::Refused(Refusal::BadLine { line })),
+        Err(ListErr::Empty) => Err(Stop::Refused(Refusal::EmptyList)),
+        Err(ListErr::NoMemory) => Err(Stop::NoMemory),
+    }
+}
+
+/// What the constraint files and the list hold, read in this order. The list's name stands in the place of a scenario's.
+/// The error is the first of these files that can't be read or is refused, one that is too long among the latter, or want of
+/// memory.
+#[tactic(auto, unfolding(crate::specs::Batch::listing_of))]
+pub fn read_listed<F: Folder>(
+    alloc: Global,
+    folder: &mut F,
+    names: &InputArgs<'_>,
+) -> Result<Listed, Stop>
+    ensures told { (files : List StoredFile) → (F.told folder.old).files ≡ Some files →
+        Agrees listed_seen (F.told folder.old).steady (listing_of files (inputs_seen names.now)) result }
+    ensures few { IfOk result (λ l. length l.lines.items ≤ list_limit) }
+    ensures files { (F.told folder.new).files ≡ (F.told folder.old).files }
+    ensures steady { (F.told folder.new).steady ≡ (F.told folder.old).steady }
+    ensures counted { CountsFault (F.told folder.old).faults (F.told folder.new).faults result }
+{
+    let constraints = read_constraints(alloc, folder, names)?;
+    let lines = list_from(alloc, folder, names.scenario)?;
+    Ok(Listed { constraints, lines })
+}
+
+// The inputs of the scenario of this name, with the book that it makes beside these constraint files.
+#[tactic(auto, unfolding(crate::specs::Batch::inputs_beside))]
+fn inputs_beside<F: Folder>(
+    alloc: Global,
+    folder: &mut F,
+    constraints: &Constraints,
+    name: &str,
+) -> Result<Inputs, Stop>
+    ensures told { (files : List StoredFile) → (F.told folder.old).files ≡ Some files →
+        Agrees (λ i. i) (F.told folder.old).steady (inputs_beside files constraints.now name.now) result }
+    ensures limits { IfOk result (λ i. IsWithinLimits i.scenario) }
+    ensures stations { IfOk result (λ i. stations_of i.book ≡ facilities i.scenario) }
+    ensures files { (F.told folder.new).files ≡ (F.told folder.old).files }
+    ensures steady { (F.told folder.new).steady ≡ (F.told folder.old).steady }
+    ensures counted { CountsFault (F.told folder.old).faults (F.told folder.new).faults result }
+{
+    let scenario = scenario_from(alloc, folder, name)?;
+    match join(alloc, &scenario, &constraints.domains, &constraints.pairs) {
+        Ok(book) => Ok(Inputs {
+            scenario,
+            book,
+            self_pairs: constraints.pairs.self_pairs(),
+            strangers: constraints.pairs.strangers(),
+        }),
+        Err(JoinErr::MissingDomain(station)) => Err(Stop::Refused(Refusal::MissingDomain(station))),
+        Err(JoinErr::NoMemory) => Err(Stop::NoMemory),
+    }
+}
+
+// Says why the reading of this scenario stopped, beside these constraint files, and gives the status for it.
+fn explain_beside<'p, K: Sink>(
+    out: &mut K,
+    domains: &'p str,
+    rows: &'p str,
+    scenario: &'p str,
+    stop: Stop,
+) -> u8
+    ensures explains { ExplainsHalt (record { domains = domains.now; rows = rows.now; scenario = scenario.now; owners = None }) stop
+        (K.told out.old).held (K.told out.new).held (K.told out.old).faults (K.told out.new).faults result }
+    ensures counted { (K.told out.old).faults ≤ (K.told out.new).faults }
+{
+    let names = InputArgs {
+        domains,
+        rows,
+        scenario,
+        owners: None,
+    };
+    explain(out, &names, stop)
+}
+
+/// The lines of a batch's list, and the inputs that the scenario of each makes.
+#[derive(Drop)]
+pub struct ReadBatch {
+    pub lines: Vec<BatchLine>,
+    pub inputs: Vec<Inputs>,
+}
+
+/// The inputs of the scenarios of these lines, read one after the other. Where one stops the reading, a line says why, and the
+/// error is the status. What the constraint files held is let go.
+pub fn read_each<F: Folder, K: Sink>(
+    alloc: Global,
+    folder: &mut F,
+    out: &mut K,
+    files: &BatchArgs<'_>,
+    listed: Listed,
+) -> Result<ReadBatch, u8>
+    ensures told { IfOk result (λ b. (held : List StoredFile) → (F.told folder.old).files ≡ Some held →
+        each_inputs held (batch_seen files.now) listed.constraints listed.lines.items ≡ Ok b.inputs.items) }
+    ensures lines { IfOk result (λ b. b.lines ≡ listed.lines) }
+    ensures many { IfOk result (λ b. length b.inputs.items ≡ length listed.lines.items) }
+    ensures auctions { IfOk result (λ b. All (λ i. IsOfAuction i.scenario i.book) b.inputs.items) }
+    ensures same { OnOk result (outside (F.told folder.new) (K.told out.new) ≡ outside (F.told folder.old) (K.told out.old)) }
+    ensures stopped { IfErr result (IsReadingStopped (λ held. each_inputs held (batch_seen files.now) listed.constraints listed.lines.items) (IsUnderOneOf (batch_seen files.now) listed.lines.items)
+        (outside (F.told folder.old) (K.told out.old)) (outside (F.told folder.new) (K.told out.new))) }
+{
+    let Ok(mut inputs) = Vec::with_capacity(alloc, listed.lines.len()) else {
+        return Err(explain(out, &files.inputs_with(files.list), Stop::NoMemory));
+    };
+    for line in &listed.lines {
+        match inputs_beside(alloc, folder, &listed.constraints, line.scenario()) {
+            Ok(read) => inputs.push_reserved(read),
+            Err(stop) => {
+                return Err(explain_beside(out, files.domains, files.rows, line.scenario(), stop));
+            }
+        }
+    }
+    let Listed {
+        constraints: _,
+        lines,
+    } = listed;
+    Ok(ReadBatch { lines, inputs })
+}

@@ -1,0 +1,182 @@
+//! The auctions of a batch, as many at a time as there are processors. Their solvers share a cache of answers, which says nothing
+//! but what is valid for the query and the worker that ask. So it decides how long an auction takes, and which of its tests are
+//! left open: one on which a worker's budget would be spent may be answered. Where none is left open it decides no result.
+//!
+//! Auctions that go on side by side come to the same hard query at the same time, and each answers it for itself; those that begin
+//! later find it answered. So more of them at a time would spend more, and end no sooner.
+
+ghost use Rattle.std.specs.Prelude.{◌≡◌, All, IfOk, map, option_map};
+ghost use Rattle.std.specs.List.{AllZip};
+ghost use Rattle.std.specs.Thread.{IsSync};
+ghost use Rattle.auction_core.specs.Setup.{IsOfAuction};
+ghost use Rattle.commands.specs.Batch.{own_text};
+ghost use Rattle.commands.specs.BatchRuns.{IsRun};
+ghost use Rattle.commands.specs.Records.{IsRecordBy};
+
+use crate::inputs::Inputs;
+use auction_core::record::{Ending, Record};
+use batch_cache::cache::Cache;
+use race_wave::cached::run_cached;
+use result_text::rows::result_csv;
+use solver_gate::gate::Gate;
+use std::alloc::{AllocError as NoMemory, Global};
+use std::sync::{Condvar, Mutex, Wait};
+use std::thread;
+use std::thread::Threads;
+
+/// How many channel maps, and how many refutations, the cache keeps. A query that none of them answers has looked at all of one
+/// kind and then of the other (`benchmarks/cache`).
+const CACHE_ROOM: u32 = 1024;
+
+// An auction waits for a permit before it begins, and holds it until it has ended.
+#[derive(Drop)]
+struct Permits {
+    left: Mutex<usize>,
+    one_more: Condvar,
+}
+
+impl Permits {
+    // As many as the machine has processors, or one where that isn't told.
+    fn make(rt: &impl Threads) -> Permits {
+        let processors = match thread::available_parallelism(rt) {
+            Ok(processors) => processors.get(),
+            Err(_) => 1,
+        };
+        Permits {
+            left: Mutex::new(processors),
+            one_more: Condvar::new(),
+        }
+    }
+
+    fn take(&self, rt: &impl Wait) {
+        let left = self.left.lock(rt);
+        let mut left = self.one_more.wait_while(rt, left, |left| *left == 0);
+        *left = left.saturating_sub(1);
+    }
+
+    fn give_back(&self, rt: &impl Wait) {
+        let mut left = self.left.lock(rt);
+        *left = left.saturating_add(1);
+        drop(left);
+        self.one_more.notify_one();
+    }
+}
+
+/// An auction that was carried out: its record, and the text of its result, unless it ended at its start.
+#[derive(Drop)]
+pub struct Ran {
+    pub record: Record,
+    pub result: Option<Vec<u8>>,
+}
+
+// The record of the auction of these inputs. Of the outside it calls the gate alone.
+fn cached_auction_of<G: Gate + Sync, W: Threads + Wait + Sync>(
+    rt: &W,
+    alloc: Global,
+    inputs: &Inputs,
+    cache: &Mutex<Cache>,
+    gate: &G,
+) -> Result<Record, NoMemory>
+    requires { IsOfAuction inputs.now.scenario inputs.now.book }
+    ensures { IfOk result (λ rec. IsRecordBy inputs.now rec rec.ending) }
+{
+    inputs.book.keeps_order();
+    let record = run_cached(rt, alloc, &inputs.scenario, &inputs.book, cache, gate)?;
+    Ok(record)
+}
+
+// The text of the result of this auction, unless it ended at its start.
+fn result_of(alloc: Global, inputs: &Inputs, rec: &Record) -> Result<Option<Vec<u8>>, NoMemory>
+    requires auction { IsOfAuction inputs.now.scenario inputs.now.book }
+    requires of { IsRecordBy inputs.now rec.now rec.now.ending }
+    ensures { IfOk result (λ text. option_map (λ v. v.items) text ≡ own_text inputs.now rec.now) }
+{
+    match rec.ending {
+        Ending::Done => {
+            let text = result_csv(alloc, rec, &inputs.book)?;
+            Ok(Some(text))
+        }
+        Ending::StartRefuted | Ending::StartUndecided => Ok(None),
+    }
+}
+
+// Carries one auction out.
+fn carry_out<G: Gate + Sync, W: Threads + Wait + Sync>(
+    rt: &W,
+    alloc: Global,
+    inputs: Inputs,
+    cache: &Mutex<Cache>,
+    gate: &G,
+) -> Result<Ran, NoMemory>
+    requires { IsOfAuction inputs.scenario inputs.book }
+    ensures { IfOk result (IsRun inputs) }
+{
+    let record = cached_auction_of(rt, alloc, &inputs, cache, gate)?;
+    let result = result_of(alloc, &inputs, &record)?;
+    Ok(Ran { record, result })
+}
+
+// Carries one auction out, once there is a permit for it.
+fn carry_out_in_turn<G: Gate + Sync, W: Threads + Wait + Sync>(
+    rt: &W,
+    alloc: Global,
+    inputs: Inputs,
+    cache: &Mutex<Cache>,
+    permits: &Permits,
+    gate: &G,
+) -> Result<Ran, NoMemory>
+    requires { IsOfAuction inputs.scenario inputs.book }
+    ensures { IfOk result (IsRun inputs) }
+{
+    permits.take(rt);
+    let ran = carry_out(rt, alloc, inputs, cache, gate);
+    permits.give_back(rt);
+    ran
+}
+
+/// Carries these auctions out, each in a thread of its own where one can be made, beside those of its workers, and as many at a
+/// time as the machine has processors. The only error is want of memory, of any of them.
+pub fn run_all<G: Gate + Sync, W: Threads + Wait + Sync>(
+    rt: &W,
+    alloc: Global,
+    auctions: Vec<Inputs>,
+    gate: &G,
+) -> Result<Vec<Ran>, NoMemory>
+    requires { All (λ i. IsOfAuction i.scenario i.book) auctions.items }
+    ensures { IfOk result (λ rans. AllZip IsRun auctions.items rans.items) }
+{
+    let cache = Mutex::new(Cache::make(alloc, CACHE_ROOM)?);
+    let permits = Permits::make(rt);
+    let rans = run_each(rt, alloc, auctions, &cache, &permits, gate)?;
+    all_of(alloc, rans)
+}
+
+// Carries these auctions out by a cache and permits that are given, and tells of each what came of it.
+fn run_each<G: Gate + Sync, W: Threads + Wait + Sync>(
+    rt: &W,
+    alloc: Global,
+    auctions: Vec<Inputs>,
+    cache: &Mutex<Cache>,
+    permits: &Permits,
+    gate: &G,
+) -> Result<Vec<Result<Ran, NoMemory>>, NoMemory>
+    requires { All (λ i. IsOfAuction i.scenario i.book) auctions.items }
+    ensures { IfOk result (λ rans. AllZip (λ i ran. IfOk ran (IsRun i)) auctions.items rans.items) }
+{
+    let part = |inputs: Inputs| -> Result<Ran, NoMemory>
+        requires { IsSync W.row × IsSync G.row × IsOfAuction inputs.scenario inputs.book }
+        ensures { IfOk result (IsRun inputs) }
+    { carry_out_in_turn(rt, alloc, inputs, cache, permits, gate) };
+    thread::map_vec(rt, auctions, &part)
+}
+
+// All that came of these auctions, or want of memory of one of them.
+fn all_of(alloc: Global, rans: Vec<Result<Ran, NoMemory>>) -> Result<Vec<Ran>, NoMemory>
+    ensures { IfOk result (λ all. map (λ ran. Ok ran) all.items ≡ rans.items) }
+{
+    let mut all = Vec::new(alloc);
+    for ran in rans {
+        all.push(ran?)?;
+    }
+    Ok(all)
+}

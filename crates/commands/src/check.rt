@@ -1,0 +1,59 @@
+//! The command `check`: the inputs are read and counted.
+
+ghost use Rattle.std.specs.Prelude.{◌≡◌, [], IfOk, None};
+ghost use Rattle.commands.specs.Counts.{counts_text};
+ghost use Rattle.commands.specs.Ends.{CheckEnds};
+ghost use Rattle.commands.specs.Faults.{AreFaultsCounted};
+ghost use Rattle.commands.specs.Outside.{outside};
+ghost use Rattle.command_words.specs.Words.{inputs_seen};
+
+use crate::explain::{explain, starve};
+use crate::finish::Finish;
+use crate::inputs::{Inputs, read_inputs};
+use crate::status::{DONE, UNWRITTEN};
+use command_words::run_words::InputArgs;
+use outside_io::folder::Folder;
+use outside_io::sink::Sink;
+use result_text::counts::push_count;
+use std::alloc::{AllocError as NoMemory, Global};
+
+// The counts of the inputs, each on a line of its own.
+#[tactic(auto, unfolding(crate::specs::Counts::counts_text))]
+fn counts(alloc: Global, inputs: &Inputs) -> Result<Vec<u8>, NoMemory>
+    ensures { IfOk result (λ text. text.items ≡ counts_text inputs.now) }
+{
+    let mut text = Vec::new(alloc);
+    push_count(&mut text, "stations", u64::from(inputs.book.len()))?;
+    push_count(&mut text, "pairs", inputs.book.pairs().len() as u64)?;
+    push_count(&mut text, "self-pairs", inputs.self_pairs)?;
+    push_count(&mut text, "strangers", inputs.strangers)?;
+    Ok(text)
+}
+
+/// Reads the inputs and writes how many stations and pairs the book has, and how many fields of the rows file pair a
+/// station with itself, and how many others are of a pair one of whose stations has no domain row. It stores nothing.
+pub fn check<F: Folder, K: Sink>(
+    alloc: Global,
+    files: &InputArgs<'_>,
+    folder: &mut F,
+    out: &mut K,
+) -> Finish
+    ensures ends { CheckEnds (inputs_seen files.now)
+        (outside (F.told folder.old) (K.told out.old)) (outside (F.told folder.new) (K.told out.new)) result.status result.result }
+    ensures no_other { result.below ≡ None }
+    ensures no_batch { result.batch ≡ [] }
+    ensures counted { AreFaultsCounted
+        (outside (F.told folder.old) (K.told out.old)) (outside (F.told folder.new) (K.told out.new)) result.status }
+{
+    let inputs = match read_inputs(alloc, folder, files) {
+        Ok(inputs) => inputs,
+        Err(stop) => return Finish::without_record(explain(out, files, stop)),
+    };
+    let Ok(text) = counts(alloc, &inputs) else {
+        return starve(out);
+    };
+    match out.write(&text) {
+        Ok(()) => Finish::without_record(DONE),
+        Err(_) => Finish::without_record(UNWRITTEN),
+    }
+}

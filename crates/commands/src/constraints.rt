@@ -1,0 +1,157 @@
+//! The constraint files, read in pieces: whatever the length of a file, no more of it is held than one piece and the line
+//! that a piece's end cuts.
+
+ghost use Rattle.std.specs.Prelude.{◌≡◌, ◌≤◌, ◌+◌, ◌++◌, ℕ, List, Ok, Some, length};
+ghost use Rattle.outside_io.specs.Files.{StoredFile};
+ghost use Rattle.constraint_files.specs.Domains.{domains_fed, domains_of};
+ghost use Rattle.constraint_files.specs.Rows.{pairs_fed, pairs_of};
+ghost use Rattle.pack_defs.specs.declared.domain.Domain.{Domain};
+ghost use Rattle.commands.specs.Inputs.{Agrees, CountsFault, and_then, file_of, refused_by, rows_read};
+ghost use Rattle.commands.specs.Pieces.{IsBegun, IsFed, IsHandedOut};
+
+use crate::inputs::{FILE_LIMIT, Stop, stop_of};
+use crate::refusal::Refusal;
+use command_words::run_words::Input;
+use constraint_files::domains::{DomainReader, Domains};
+use constraint_files::error::ReadErr;
+use constraint_files::pairs::{PairReader, Pairs};
+use outside_io::folder::Folder;
+use std::alloc::Global;
+
+// Why the reading of a constraint file stops, where its reader answers so.
+fn refused_by(input: Input, why: ReadErr) -> Stop
+    ensures { result ≡ refused_by input why }
+{
+    match why {
+        ReadErr::Row { line, why } => Stop::Refused(Refusal::Row { input, line, why }),
+        ReadErr::NoMemory => Stop::NoMemory,
+    }
+}
+
+// Begins an input file.
+fn begin<F: Folder>(folder: &mut F, name: &str, input: Input) -> Result<(), Stop>
+    ensures told { (files : List StoredFile) → (F.told folder.old).files ≡ Some files →
+        IsBegun (F.told folder.old).steady (file_of files name.now input) (F.left folder.new) result }
+    ensures files { (F.told folder.new).files ≡ (F.told folder.old).files }
+    ensures steady { (F.told folder.new).steady ≡ (F.told folder.old).steady }
+    ensures counted { CountsFault (F.told folder.old).faults (F.told folder.new).faults result }
+{
+    match folder.begin(name, FILE_LIMIT) {
+        Ok(()) => Ok(()),
+        Err(why) => Err(stop_of(why, input)),
+    }
+}
+
+// Puts the next piece of the file that is begun in the place of the last one.
+fn next_piece<F: Folder>(folder: &mut F, input: Input, piece: &mut Vec<u8>) -> Result<(), Stop>
+    ensures told { (rest : List ℕ) → F.left folder.old ≡ Some rest →
+        IsHandedOut (F.told folder.old).steady rest (F.left folder.new) piece.new.items result }
+    ensures come { F.come folder.new ≡ F.come folder.old + length piece.new.items }
+    ensures most { F.most folder.new ≡ F.most folder.old }
+    ensures within { F.come folder.new ≤ F.most folder.new }
+    ensures files { (F.told folder.new).files ≡ (F.told folder.old).files }
+    ensures steady { (F.told folder.new).steady ≡ (F.told folder.old).steady }
+    ensures counted { CountsFault (F.told folder.old).faults (F.told folder.new).faults result }
+{
+    match folder.piece(piece) {
+        Ok(()) => Ok(()),
+        Err(why) => Err(stop_of(why, input)),
+    }
+}
+
+// Feeds a reader of domains all that is left of the file that is begun.
+fn feed_domains<F: Folder>(
+    alloc: Global,
+    folder: &mut F,
+    reader: DomainReader,
+) -> Result<DomainReader, Stop>
+    ensures told { (done rest : List ℕ) → F.left folder.old ≡ Some rest → domains_fed done ≡ Ok reader →
+        IsFed (F.told folder.old).steady (domains_fed (done ++ rest)) (rows_read Input.Domains (domains_of (done ++ rest))) result }
+    ensures files { (F.told folder.new).files ≡ (F.told folder.old).files }
+    ensures steady { (F.told folder.new).steady ≡ (F.told folder.old).steady }
+    ensures counted { CountsFault (F.told folder.old).faults (F.told folder.new).faults result }
+{
+    let mut reader = reader;
+    let mut piece = Vec::new(alloc);
+    loop {
+        next_piece(folder, Input::Domains, &mut piece)?;
+        if piece.is_empty() {
+            return Ok(reader);
+        }
+        match reader.feed(&piece) {
+            Ok(fed) => reader = fed,
+            Err(why) => return Err(refused_by(Input::Domains, why)),
+        }
+    }
+}
+
+/// The domains that a file holds.
+pub(crate) fn domains_from<F: Folder>(
+    alloc: Global,
+    folder: &mut F,
+    name: &str,
+) -> Result<Domains, Stop>
+    ensures told { (files : List StoredFile) → (F.told folder.old).files ≡ Some files → Agrees (λ d. d) (F.told folder.old).steady
+        (and_then (file_of files name.now Input.Domains) (λ bytes. rows_read Input.Domains (domains_of bytes))) result }
+    ensures files { (F.told folder.new).files ≡ (F.told folder.old).files }
+    ensures steady { (F.told folder.new).steady ≡ (F.told folder.old).steady }
+    ensures counted { CountsFault (F.told folder.old).faults (F.told folder.new).faults result }
+{
+    let Ok(reader) = DomainReader::make(alloc) else {
+        return Err(Stop::NoMemory);
+    };
+    begin(folder, name, Input::Domains)?;
+    match feed_domains(alloc, folder, reader)?.finish() {
+        Ok(domains) => Ok(domains),
+        Err(why) => Err(refused_by(Input::Domains, why)),
+    }
+}
+
+// Feeds a reader of pairs all that is left of the file that is begun.
+fn feed_pairs<'a, F: Folder>(
+    alloc: Global,
+    folder: &mut F,
+    reader: PairReader<'a>,
+) -> Result<PairReader<'a>, Stop>
+    ensures told { (done rest : List ℕ) (domains : List Domain) → F.left folder.old ≡ Some rest → pairs_fed done domains ≡ Ok reader.entry →
+        IsFed (F.told folder.old).steady (pairs_fed (done ++ rest) domains) (rows_read Input.Rows (pairs_of (done ++ rest) domains)) result }
+    ensures files { (F.told folder.new).files ≡ (F.told folder.old).files }
+    ensures steady { (F.told folder.new).steady ≡ (F.told folder.old).steady }
+    ensures counted { CountsFault (F.told folder.old).faults (F.told folder.new).faults result }
+{
+    let mut reader = reader;
+    let mut piece = Vec::new(alloc);
+    loop {
+        next_piece(folder, Input::Rows, &mut piece)?;
+        if piece.is_empty() {
+            return Ok(reader);
+        }
+        match reader.feed(&piece) {
+            Ok(fed) => reader = fed,
+            Err(why) => return Err(refused_by(Input::Rows, why)),
+        }
+    }
+}
+
+/// The pairs that a file holds, over these domains.
+pub(crate) fn pairs_from<F: Folder>(
+    alloc: Global,
+    folder: &mut F,
+    name: &str,
+    domains: &Domains,
+) -> Result<Pairs, Stop>
+    ensures told { (files : List StoredFile) → (F.told folder.old).files ≡ Some files → Agrees (λ p. p) (F.told folder.old).steady
+        (and_then (file_of files name.now Input.Rows) (λ bytes. rows_read Input.Rows (pairs_of bytes domains.now))) result }
+    ensures files { (F.told folder.new).files ≡ (F.told folder.old).files }
+    ensures steady { (F.told folder.new).steady ≡ (F.told folder.old).steady }
+    ensures counted { CountsFault (F.told folder.old).faults (F.told folder.new).faults result }
+{
+    let Ok(reader) = PairReader::make(alloc, domains) else {
+        return Err(Stop::NoMemory);
+    };
+    begin(folder, name, Input::Rows)?;
+    match feed_pairs(alloc, folder, reader)?.finish() {
+        Ok(pairs) => Ok(pairs),
+        Err(why) => Err(refused_by(Input::Rows, why)),
+    }
+}

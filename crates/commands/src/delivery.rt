@@ -1,0 +1,94 @@
+//! How texts are delivered: each is stored under its name, and then another is printed.
+
+ghost use Rattle.std.specs.Prelude.{◌≡◌, IfErr, OnOk, map};
+ghost use Rattle.commands.specs.Delivery.{AreAllStored, Delivers, ExplainsStore, IsNotStored, IsStored, StopsAtOne, named, named_text};
+ghost use Rattle.commands.specs.Faults.{AreFaultsCounted};
+ghost use Rattle.commands.specs.Outside.{outside};
+
+use crate::explain::say_memory;
+use crate::says::say;
+use crate::status::{NO_MEMORY, UNWRITTEN};
+use outside_io::folder::{Folder, NewFile, StoreErr};
+use outside_io::sink::Sink;
+
+/// Stores a text under this name. Where it can't, a line says so, and the error is the status.
+pub fn store<F: Folder, K: Sink>(
+    folder: &mut F,
+    out: &mut K,
+    name: &str,
+    text: &[u8],
+) -> Result<(), u8>
+    ensures stored { OnOk result (IsStored (named name.now text.now)
+        (outside (F.told folder.old) (K.told out.old)) (outside (F.told folder.new) (K.told out.new))) }
+    ensures uncounted { OnOk result ((F.told folder.new).faults ≡ (F.told folder.old).faults) }
+    ensures counted { IfErr result (AreFaultsCounted
+        (outside (F.told folder.old) (K.told out.old)) (outside (F.told folder.new) (K.told out.new))) }
+    ensures not_stored { IfErr result (IsNotStored (named name.now text.now)
+        (outside (F.told folder.old) (K.told out.old)) (outside (F.told folder.new) (K.told out.new))) }
+{
+    match folder.store(name, text) {
+        Ok(()) => Ok(()),
+        Err(why) => Err(say_unstored(out, name, why)),
+    }
+}
+
+/// Stores these texts under their names, in order: over the system's files none is in its place before all are written. Where one
+/// can't be stored, a line says so, and the error is the status.
+pub fn store_all<F: Folder, K: Sink>(
+    folder: &mut F,
+    out: &mut K,
+    texts: &[NewFile<'_>],
+) -> Result<(), u8>
+    ensures stored { OnOk result (AreAllStored (map named_text texts.now)
+        (outside (F.told folder.old) (K.told out.old)) (outside (F.told folder.new) (K.told out.new))) }
+    ensures uncounted { OnOk result ((F.told folder.new).faults ≡ (F.told folder.old).faults) }
+    ensures unsaid { OnOk result ((K.told out.new).faults ≡ (K.told out.old).faults) }
+    ensures counted { IfErr result (AreFaultsCounted
+        (outside (F.told folder.old) (K.told out.old)) (outside (F.told folder.new) (K.told out.new))) }
+    ensures stopped { IfErr result (StopsAtOne (map named_text texts.now)
+        (outside (F.told folder.old) (K.told out.old)) (outside (F.told folder.new) (K.told out.new))) }
+{
+    match folder.store_all(texts) {
+        Ok(()) => Ok(()),
+        Err(unstored) => Err(say_unstored(out, texts[unstored.at].name, unstored.why)),
+    }
+}
+
+// Says why the text under this name was not stored. It gives the status, and takes no memory.
+fn say_unstored<K: Sink>(out: &mut K, name: &str, why: StoreErr) -> u8
+    ensures { ExplainsStore name.now why
+        (K.told out.old).held (K.told out.new).held (K.told out.old).faults (K.told out.new).faults result }
+{
+    match why {
+        StoreErr::Failed => {
+            say(out, &["cannot write ", name, "\n"]);
+            UNWRITTEN
+        }
+        StoreErr::NoMemory => {
+            say_memory(out);
+            NO_MEMORY
+        }
+    }
+}
+
+/// Stores these texts under their names, in order, and prints the summary. It gives the status, which is `done` where all is done.
+pub fn deliver<F: Folder, K: Sink>(
+    folder: &mut F,
+    out: &mut K,
+    texts: &[NewFile<'_>],
+    summary: &[u8],
+    done: u8,
+) -> u8
+    ensures delivers { Delivers (map named_text texts.now) summary.now done
+        (outside (F.told folder.old) (K.told out.old)) (outside (F.told folder.new) (K.told out.new)) result }
+    ensures counted { AreFaultsCounted
+        (outside (F.told folder.old) (K.told out.old)) (outside (F.told folder.new) (K.told out.new)) result }
+{
+    if let Err(status) = store_all(folder, out, texts) {
+        return status;
+    }
+    match out.write(summary) {
+        Ok(()) => done,
+        Err(_) => UNWRITTEN,
+    }
+}

@@ -1,0 +1,56 @@
+//! Why a transcript is refused, and the line that says so.
+
+ghost use Rattle.std.specs.Prelude.{◌≡◌, ◌≤◌, ◌++◌};
+ghost use Rattle.commands.specs.Outside.{IsSaidTo};
+ghost use Rattle.commands.specs.Verified.{fault_line, unread_text, why_text};
+
+use crate::says::{say, say_at};
+use outside_io::sink::Sink;
+use transcript_check::ShownWhy;
+use transcript_text::TextErr;
+
+/// Why a transcript is refused.
+#[derive(Clone, Copy, Debug, PartialEq, Eq)]
+pub enum TranscriptFault {
+    /// Its text is none of a transcript.
+    Unread(TextErr),
+    /// A step of it is not shown: the first one, where the start is step 0.
+    Unshown { step: u64, why: ShownWhy },
+}
+
+// Why a step is not shown, and the line's end.
+#[tactic(auto, unfolding(crate::specs::Verified::why_text))]
+fn why_text(why: ShownWhy) -> &'static str
+    ensures { result.now ≡ why_text why }
+{
+    match why {
+        ShownWhy::Order => ": order\n",
+        ShownWhy::NotValid(_) => ": not valid\n",
+    }
+}
+
+// Says why the text of this name is none of a transcript.
+#[tactic(auto, unfolding(crate::specs::Verified::unread_text))]
+fn say_unread<K: Sink>(out: &mut K, name: &str, why: TextErr)
+    ensures says { IsSaidTo (K.told out.old) (K.told out.new) (name.now ++ unread_text why) }
+    ensures counted { (K.told out.old).faults ≤ (K.told out.new).faults }
+{
+    match why {
+        TextErr::Version => say(out, &[name, ": version\n"]),
+        TextErr::BadLine { n } => say_at(out, name, ": line ", n, ": bad line\n"),
+        TextErr::Truncated => say(out, &[name, ": truncated\n"]),
+        TextErr::NoMemory => say(out, &[name, ": out of memory\n"]),
+    }
+}
+
+/// Says why the transcript of this name is refused. It takes no memory.
+#[tactic(auto, unfolding(crate::specs::Verified::fault_text))]
+pub fn say_fault<K: Sink>(out: &mut K, name: &str, fault: TranscriptFault)
+    ensures says { IsSaidTo (K.told out.old) (K.told out.new) (fault_line name.now fault) }
+    ensures counted { (K.told out.old).faults ≤ (K.told out.new).faults }
+{
+    match fault {
+        TranscriptFault::Unread(why) => say_unread(out, name, why),
+        TranscriptFault::Unshown { step, why } => say_at(out, name, ": step ", step, why_text(why)),
+    }
+}

@@ -1,0 +1,185 @@
+//! The command `make`: the files of an auction that is made from a number are stored, and it is carried out.
+
+ghost use Rattle.std.specs.Prelude.{◌≡◌, ◌≤◌, [], IfErr, IfOk, Ok, OnOk, None};
+ghost use Rattle.pack_defs.specs.Book.{stations_of};
+ghost use Rattle.pack_defs.specs.Prices.{start_set};
+ghost use Rattle.pack_defs.specs.Scenario.{IsWithinLimits, facilities};
+ghost use Rattle.auction_core.specs.Backed.{undecided_of};
+ghost use Rattle.auction_core.specs.Setup.{IsOfAuction};
+ghost use Rattle.scenario_make.specs.declared.limits.TheConstants.{MOST_MADE};
+ghost use Rattle.scenario_make.specs.Accepted.{AreAccepted};
+ghost use Rattle.commands.specs.Delivery.{AreAllStored, StopsAtOne};
+ghost use Rattle.commands.specs.Ends.{MakeEnds};
+ghost use Rattle.commands.specs.Faults.{AreFaultsCounted};
+ghost use Rattle.commands.specs.Made.{HasRun, input_texts_under, inputs_in};
+ghost use Rattle.commands.specs.Outside.{outside};
+ghost use Rattle.commands.specs.Records.{IsRecordOf, summary_of};
+ghost use Rattle.command_words.specs.Words.{inputs_seen, make_seen};
+
+use crate::delivery::store_all;
+use crate::explain::starve;
+use crate::finish::Finish;
+use crate::inputs::Inputs;
+use crate::run::{auction_of, done_status};
+use crate::status::UNWRITTEN;
+use auction_core::record::Record;
+use command_words::make_words::MakeArgs;
+use command_words::run_words::InputArgs;
+use constraint_files::domains::read_domains;
+use constraint_files::pairs::read_pairs;
+use outside_io::folder::{Folder, NewFile};
+use outside_io::sink::Sink;
+use result_text::counts::summary;
+use scenario_json::join::join;
+use scenario_json::scenario::read_scenario;
+use scenario_make::make::{Made, make as make_files};
+use solver_gate::gate::Gate;
+use std::alloc::{AllocError as NoMemory, Global};
+use std::sync::Wait;
+use std::thread::Threads;
+
+// An auction that was carried out.
+#[derive(Drop)]
+struct Carried {
+    record: Record,
+    summary: Vec<u8>,
+}
+
+// The inputs that made files hold. They are accepted, so that the only error is want of memory.
+#[tactic(auto, unfolding(crate::specs::Made::inputs_in))]
+fn inputs_in(alloc: Global, made: &Made) -> Result<Inputs, NoMemory>
+    requires { AreAccepted made.now.domains.items made.now.rows.items made.now.scenario.items }
+    ensures held { IfOk result (λ i. inputs_in made.now.domains.items made.now.rows.items made.now.scenario.items ≡ Ok i) }
+    ensures limits { IfOk result (λ i. IsWithinLimits i.scenario) }
+    ensures stations { IfOk result (λ i. stations_of i.book ≡ facilities i.scenario) }
+    ensures nobody { IfOk result (λ i. start_set i.scenario ≡ []) }
+{
+    let Ok(domains) = read_domains(alloc, &made.domains) else {
+        return Err(NoMemory);
+    };
+    let Ok(pairs) = read_pairs(alloc, &made.rows, &domains) else {
+        return Err(NoMemory);
+    };
+    let Ok(scenario) = read_scenario(alloc, &made.scenario) else {
+        return Err(NoMemory);
+    };
+    let Ok(book) = join(alloc, &scenario, &domains, &pairs) else {
+        return Err(NoMemory);
+    };
+    Ok(Inputs {
+        scenario,
+        book,
+        self_pairs: pairs.self_pairs(),
+        strangers: pairs.strangers(),
+    })
+}
+
+// The record of the auction of these inputs, where nobody starts on air: so it is carried through.
+fn record_of<G: Gate + Sync, W: Threads + Wait + Sync>(
+    rt: &W,
+    alloc: Global,
+    inputs: &Inputs,
+    gate: &G,
+) -> Result<Record, NoMemory>
+    requires auction { IsOfAuction inputs.now.scenario inputs.now.book }
+    requires nobody { start_set inputs.now.scenario ≡ [] }
+    ensures { IfOk result (λ rec. IsRecordOf inputs.now rec) }
+{
+    let record = auction_of(rt, alloc, inputs, gate)?;
+    Ok(record)
+}
+
+// The summary of the record, which is that of the inputs.
+fn summary_of(alloc: Global, inputs: &Inputs, rec: &Record) -> Result<Vec<u8>, NoMemory>
+    requires limits { IsWithinLimits inputs.now.scenario }
+    requires of { IsRecordOf inputs.now rec.now }
+    ensures { IfOk result (λ text. text.items ≡ summary_of inputs.now (undecided_of rec.now.steps)) }
+{
+    let text = summary(alloc, rec, &inputs.book)?;
+    Ok(text)
+}
+
+// Carries out the auction of made files. Of the outside it calls the gate alone.
+fn carry_out<G: Gate + Sync, W: Threads + Wait + Sync>(
+    rt: &W,
+    alloc: Global,
+    made: &Made,
+    gate: &G,
+) -> Result<Carried, NoMemory>
+    requires { AreAccepted made.now.domains.items made.now.rows.items made.now.scenario.items }
+    ensures { IfOk result (λ carried. HasRun (inputs_in made.now.domains.items made.now.rows.items made.now.scenario.items) carried.record carried.summary.items) }
+{
+    let inputs = inputs_in(alloc, made)?;
+    let record = record_of(rt, alloc, &inputs, gate)?;
+    let summary = summary_of(alloc, &inputs, &record)?;
+    Ok(Carried { record, summary })
+}
+
+// Stores made files under these names, in order. Where it can't, a line says so, and the error is the status.
+fn store_files<F: Folder, K: Sink>(
+    folder: &mut F,
+    out: &mut K,
+    names: &InputArgs<'_>,
+    made: &Made,
+) -> Result<(), u8>
+    ensures stored { OnOk result (AreAllStored (input_texts_under (inputs_seen names.now) made.now.domains.items made.now.rows.items made.now.scenario.items)
+        (outside (F.told folder.old) (K.told out.old)) (outside (F.told folder.new) (K.told out.new))) }
+    ensures uncounted { OnOk result ((F.told folder.new).faults ≡ (F.told folder.old).faults) }
+    ensures unsaid { OnOk result ((K.told out.new).faults ≡ (K.told out.old).faults) }
+    ensures counted { IfErr result (AreFaultsCounted
+        (outside (F.told folder.old) (K.told out.old)) (outside (F.told folder.new) (K.told out.new))) }
+    ensures stopped { IfErr result (StopsAtOne (input_texts_under (inputs_seen names.now) made.now.domains.items made.now.rows.items made.now.scenario.items)
+        (outside (F.told folder.old) (K.told out.old)) (outside (F.told folder.new) (K.told out.new))) }
+{
+    let files = [
+        NewFile {
+            name: names.domains,
+            bytes: &made.domains,
+        },
+        NewFile {
+            name: names.rows,
+            bytes: &made.rows,
+        },
+        NewFile {
+            name: names.scenario,
+            bytes: &made.scenario,
+        },
+    ];
+    store_all(folder, out, &files)
+}
+
+/// Makes the files of the auction of a seed and a size, stores them, carries the auction out and writes the summary. The
+/// files are accepted, and nobody is on air at the start: so want of memory aside, all is done, unless a store or the write
+/// fails.
+pub fn make<F: Folder, K: Sink, G: Gate + Sync, W: Threads + Wait + Sync>(
+    rt: &W,
+    alloc: Global,
+    files: &MakeArgs<'_>,
+    folder: &mut F,
+    out: &mut K,
+    gate: &G,
+) -> Finish
+    requires some { 1 ≤ files.now.size }
+    requires most { files.now.size ≤ MOST_MADE }
+    ensures ends { MakeEnds (make_seen files.now)
+        (outside (F.told folder.old) (K.told out.old)) (outside (F.told folder.new) (K.told out.new)) result.status result.result }
+    ensures no_other { result.below ≡ None }
+    ensures no_batch { result.batch ≡ [] }
+    ensures counted { AreFaultsCounted
+        (outside (F.told folder.old) (K.told out.old)) (outside (F.told folder.new) (K.told out.new)) result.status }
+{
+    let Ok(made) = make_files(alloc, files.seed, files.size) else {
+        return starve(out);
+    };
+    if let Err(status) = store_files(folder, out, &files.outputs, &made) {
+        return Finish::without_record(status);
+    }
+    let Ok(carried) = carry_out(rt, alloc, &made, gate) else {
+        return starve(out);
+    };
+    let done = done_status(&carried.record);
+    match out.write(&carried.summary) {
+        Ok(()) => Finish::with_record(done, carried.record),
+        Err(_) => Finish::with_record(UNWRITTEN, carried.record),
+    }
+}

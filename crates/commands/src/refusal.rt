@@ -1,0 +1,190 @@
+//! Why an input is refused, and the line that says so.
+
+ghost use Rattle.std.specs.Prelude.{◌≡◌, ◌≤◌, ◌++◌, codes, decimal};
+ghost use Rattle.commands.specs.Outside.{IsSaidTo};
+ghost use Rattle.commands.specs.Refusals.{input_of, refusal_line, owner_text, place_text, refusal_text, row_text, scenario_text};
+ghost use Rattle.command_words.specs.Words.{inputs_seen};
+
+use crate::says::say;
+use command_words::run_words::{Input, InputArgs};
+use constraint_files::error::RowWhy;
+use itoa::Buffer;
+use outside_io::sink::Sink;
+use owner_line::error::OwnerWhy;
+use scenario_json::error::ScenarioErr;
+
+/// Why the inputs are refused.
+#[derive(Clone, Copy, Debug, PartialEq, Eq)]
+pub enum Refusal {
+    /// The file is longer than the limit.
+    TooLong(Input),
+    /// A record of a constraint file is refused. It stands in this line, where the first line is 1.
+    Row {
+        input: Input,
+        line: u64,
+        why: RowWhy,
+    },
+    /// The scenario is refused.
+    Scenario(ScenarioErr),
+    /// The least station of the scenario that has no row in the domains file.
+    MissingDomain(u32),
+    /// A record of the owners' file is refused. It stands in this line, where the first line is 1.
+    Owners {
+        line: u64,
+        why: OwnerWhy,
+    },
+    /// A record of a batch's list is refused. It stands in this line, where the first line is 1.
+    BadLine {
+        line: u64,
+    },
+    /// A batch's list has no record.
+    EmptyList,
+}
+
+impl Refusal {
+    /// The file that is refused.
+    pub fn input(&self) -> Input
+        ensures { result ≡ input_of self.now }
+    {
+        match self {
+            Refusal::TooLong(input) => *input,
+            Refusal::Row { input, .. } => *input,
+            Refusal::Scenario(_) => Input::Scenario,
+            Refusal::MissingDomain(_) => Input::Domains,
+            Refusal::Owners { .. } => Input::Owners,
+            Refusal::BadLine { .. } | Refusal::EmptyList => Input::List,
+        }
+    }
+}
+
+// The words for the refusal of a record.
+#[tactic(auto, unfolding(crate::specs::Refusals::row_text))]
+fn row_text(why: RowWhy) -> &'static str
+    ensures { result.now ≡ row_text why }
+{
+    match why {
+        RowWhy::ShortRow => "short row",
+        RowWhy::BadKey => "unknown key",
+        RowWhy::BadNumber => "bad number",
+        RowWhy::ChannelRange => "channel out of range",
+        RowWhy::BadOffset => "channels do not fit the key",
+        RowWhy::SecondDomain => "second domain row",
+        RowWhy::TooMany => "too many",
+    }
+}
+
+// The words for the refusal of an owner's line.
+#[tactic(auto, unfolding(crate::specs::Refusals::owner_text))]
+fn owner_text(why: OwnerWhy) -> &'static str
+    ensures { result.now ≡ owner_text why }
+{
+    match why {
+        OwnerWhy::Fields => "not three fields",
+        OwnerWhy::BadNumber => "bad number",
+        OwnerWhy::RoundRange => "round out of range",
+        OwnerWhy::UnknownStation => "unknown station",
+        OwnerWhy::BadWord => "bad word",
+        OwnerWhy::Repeated => "repeated",
+    }
+}
+
+// Says of a member of the scenario, in the file of this name, what is wrong, and the place in its list, if it has one.
+fn say_member<'p, K: Sink>(out: &mut K, file: &'p str, what: &'p str, member: &'p str, at: u64)
+    ensures says { IsSaidTo (K.told out.old) (K.told out.new) (file.now ++ (what.now ++ (member.now ++ place_text at))) }
+    ensures counted { (K.told out.old).faults ≤ (K.told out.new).faults }
+{
+    if at == 0 {
+        say(out, &[file, what, member, "\n"]);
+        return;
+    }
+    let mut place = Buffer::new();
+    say(out, &[file, what, member, " at ", place.format(at), "\n"]);
+}
+
+// Says why a record in this line of the file of this name is refused.
+fn say_row<'p, K: Sink>(out: &mut K, file: &'p str, line: u64, why: &'p str)
+    ensures says { IsSaidTo (K.told out.old) (K.told out.new)
+        (file.now ++ codes ": line " ++ decimal line ++ codes ": " ++ why.now ++ codes "\n") }
+    ensures counted { (K.told out.old).faults ≤ (K.told out.new).faults }
+{
+    let mut number = Buffer::new();
+    say(
+        out,
+        &[file, ": line ", number.format(line), ": ", why, "\n"],
+    );
+}
+
+// Says why the scenario, in the file of this name, is refused.
+#[tactic(auto, unfolding(crate::specs::Refusals::scenario_text))]
+fn say_scenario<K: Sink>(out: &mut K, file: &str, error: ScenarioErr)
+    ensures says { IsSaidTo (K.told out.old) (K.told out.new) (file.now ++ scenario_text error) }
+    ensures counted { (K.told out.old).faults ≤ (K.told out.new).faults }
+{
+    match error {
+        ScenarioErr::Syntax => say(out, &[file, ": not JSON\n"]),
+        ScenarioErr::MissingField { name, at } => say_member(
+            out,
+            file,
+            ": missing ",
+            name.text(),
+            at,
+        ),
+        ScenarioErr::WrongKind { name, at } => say_member(
+            out,
+            file,
+            ": wrong kind ",
+            name.text(),
+            at,
+        ),
+        ScenarioErr::OutOfLimit { name, at } => say_member(
+            out,
+            file,
+            ": out of limit ",
+            name.text(),
+            at,
+        ),
+        ScenarioErr::RepeatedStation(id) => {
+            let mut number = Buffer::new();
+            say(out, &[file, ": repeated station ", number.format(id), "\n"]);
+        }
+        ScenarioErr::SumOverOpening => say(out, &[file, ": decrements exceed the opening\n"]),
+        ScenarioErr::NoProver => say(out, &[file, ": no cdcl worker\n"]),
+        ScenarioErr::NoMemory => say(out, &[file, ": out of memory\n"]),
+    }
+}
+
+// Says why the file of this name is refused.
+#[tactic(auto, unfolding(crate::specs::Refusals::refusal_text))]
+fn say_refusal<K: Sink>(out: &mut K, file: &str, refusal: Refusal)
+    ensures says { IsSaidTo (K.told out.old) (K.told out.new) (file.now ++ refusal_text refusal) }
+    ensures counted { (K.told out.old).faults ≤ (K.told out.new).faults }
+{
+    match refusal {
+        Refusal::TooLong(_) => say(out, &[file, ": too long\n"]),
+        Refusal::Row { line, why, .. } => say_row(out, file, line, row_text(why)),
+        Refusal::Owners { line, why } => say_row(out, file, line, owner_text(why)),
+        Refusal::BadLine { line } => say_row(out, file, line, "bad list"),
+        Refusal::EmptyList => say(out, &[file, ": empty list\n"]),
+        Refusal::Scenario(error) => say_scenario(out, file, error),
+        Refusal::MissingDomain(id) => {
+            let mut number = Buffer::new();
+            say(
+                out,
+                &[
+                    file,
+                    ": no domain row for station ",
+                    number.format(id),
+                    "\n",
+                ],
+            );
+        }
+    }
+}
+
+/// Says which of these files is refused, and why. It takes no memory.
+pub fn say_refused<K: Sink>(out: &mut K, files: &InputArgs<'_>, refusal: Refusal)
+    ensures says { IsSaidTo (K.told out.old) (K.told out.new) (refusal_line (inputs_seen files.now) refusal) }
+    ensures counted { (K.told out.old).faults ≤ (K.told out.new).faults }
+{
+    say_refusal(out, files.of(refusal.input()), refusal);
+}

@@ -1,0 +1,187 @@
+//! The command `run`: the auction from files to result.
+
+ghost use Rattle.std.specs.Prelude.{◌≡◌, [], IfOk, None};
+ghost use Rattle.std.specs.List.{list_any};
+ghost use Rattle.pack_defs.specs.Scenario.{IsWithinLimits};
+ghost use Rattle.auction_core.specs.Backed.{is_undecided, undecided_of};
+ghost use Rattle.auction_core.specs.Setup.{IsOfAuction};
+ghost use Rattle.result_text.specs.ChannelsText.{channels_text};
+ghost use Rattle.transcript_text.specs.Spelling.{transcript_text};
+ghost use Rattle.commands.specs.Ends.{ConcludesUnlessStarved, RunEnds};
+ghost use Rattle.commands.specs.Faults.{AreFaultsCounted};
+ghost use Rattle.commands.specs.Outside.{outside};
+ghost use Rattle.commands.specs.Records.{IsEndedRecordIn, IsRecordBy, IsRecordIn, done_status, result_of, run_order, summary_in};
+ghost use Rattle.command_words.specs.Words.{names_seen};
+
+use crate::delivery::deliver;
+use crate::explain::{explain, starve};
+use crate::finish::Finish;
+use crate::inputs::{Inputs, read_inputs};
+use crate::says::say;
+use crate::status::{DONE, LEFT_OPEN, START_OPEN, START_UNFIT};
+use auction_core::record::{Ending, Record, Shown, Step};
+use command_words::run_words::RunArgs;
+use outside_io::folder::{Folder, NewFile};
+use outside_io::sink::Sink;
+use race_wave::run::run_auction;
+use result_text::channels::channels_csv;
+use result_text::counts::summary;
+use result_text::rows::result_csv;
+use solver_gate::gate::Gate;
+use std::alloc::{AllocError as NoMemory, Global};
+use std::sync::Wait;
+use std::thread::Threads;
+use transcript_text::again::{keeps_ascending_fits, keeps_named_numbers};
+use transcript_text::write::write_transcript;
+
+// The texts of a finished auction.
+#[derive(Drop)]
+struct Texts {
+    result: Vec<u8>,
+    channels: Vec<u8>,
+    transcript: Vec<u8>,
+    summary: Vec<u8>,
+}
+
+/// The record of the auction of these inputs. Of the outside it calls the gate alone. The only error is want of memory.
+pub fn auction_of<G: Gate + Sync, W: Threads + Wait + Sync>(
+    rt: &W,
+    alloc: Global,
+    inputs: &Inputs,
+    gate: &G,
+) -> Result<Record, NoMemory>
+    requires { IsOfAuction inputs.now.scenario inputs.now.book }
+    ensures { IfOk result (λ rec. IsRecordBy inputs.now rec rec.ending) }
+{
+    inputs.book.keeps_order();
+    let record = run_auction(rt, alloc, &inputs.scenario, &inputs.book, gate)?;
+    Ok(record)
+}
+
+// Whether the step's test was left open.
+fn is_undecided(step: &Step) -> bool
+    ensures { result ≡ is_undecided step.now.shown }
+{
+    matches!(step.shown, Shown::Undecided(_))
+}
+
+// Whether some step's test was left open.
+fn any_undecided(steps: &[Step]) -> bool
+    ensures { result ≡ list_any (λ x. is_undecided x.shown) steps.now }
+{
+    steps.iter().any(is_undecided)
+}
+
+// The status of an auction that was carried through: whether a test of it was left open.
+pub fn done_status(rec: &Record) -> u8
+    ensures { result ≡ done_status (undecided_of rec.now.steps) }
+{
+    if any_undecided(rec.steps.as_slice()) {
+        return LEFT_OPEN;
+    }
+    DONE
+}
+
+// The texts of this record, which is one of the inputs' auction. It touches nothing outside.
+fn texts_of(alloc: Global, inputs: &Inputs, rec: &Record) -> Result<Texts, NoMemory>
+    requires limits { IsWithinLimits inputs.now.scenario }
+    requires of { IsRecordIn rec.now.order inputs.now rec.now }
+    ensures result { IfOk result (λ texts. texts.result.items ≡ result_of rec.now.order inputs.now (undecided_of rec.now.steps)) }
+    ensures channels { IfOk result (λ texts. texts.channels.items ≡ channels_text rec.now.map) }
+    ensures transcript { IfOk result (λ texts. texts.transcript.items ≡ transcript_text inputs.now.scenario inputs.now.book rec.now) }
+    ensures summary { IfOk result (λ texts. texts.summary.items ≡ summary_in rec.now.order inputs.now (undecided_of rec.now.steps)) }
+{
+    let result = result_csv(alloc, rec, &inputs.book)?;
+    let channels = channels_csv(alloc, rec)?;
+    let transcript = write_transcript(alloc, rec, &inputs.book)?;
+    let summary = summary(alloc, rec, &inputs.book)?;
+    Ok(Texts {
+        result,
+        channels,
+        transcript,
+        summary,
+    })
+}
+
+/// Concludes the auction of which this is the record: stores the result, the channels and the transcript, and writes the summary.
+/// Where the start set doesn't fit, or its test was left open, a line says so, and nothing is stored.
+pub fn conclude<F: Folder, K: Sink>(
+    alloc: Global,
+    inputs: &Inputs,
+    rec: Record,
+    names: &RunArgs<'_>,
+    folder: &mut F,
+    out: &mut K,
+) -> Finish
+    requires limits { IsWithinLimits inputs.now.scenario }
+    requires of { IsEndedRecordIn rec.order inputs.now rec rec.ending }
+    ensures ends { ConcludesUnlessStarved rec.order (names_seen names.now) inputs.now rec
+        (outside (F.told folder.old) (K.told out.old)) (outside (F.told folder.new) (K.told out.new)) result.status result.result }
+    ensures no_other { result.below ≡ None }
+    ensures no_batch { result.batch ≡ [] }
+    ensures counted { AreFaultsCounted
+        (outside (F.told folder.old) (K.told out.old)) (outside (F.told folder.new) (K.told out.new)) result.status }
+{
+    match rec.ending {
+        Ending::Done => {}
+        Ending::StartRefuted => {
+            say(out, &["the start set does not fit\n"]);
+            return Finish::with_record(START_UNFIT, rec);
+        }
+        Ending::StartUndecided => {
+            say(out, &["the start set is undecided\n"]);
+            return Finish::with_record(START_OPEN, rec);
+        }
+    }
+    let Ok(texts) = texts_of(alloc, inputs, &rec) else {
+        return starve(out);
+    };
+    keeps_named_numbers(&inputs.scenario, &inputs.book);
+    keeps_ascending_fits(&rec);
+    let done = done_status(&rec);
+    let files = [
+        NewFile {
+            name: names.result,
+            bytes: &texts.result,
+        },
+        NewFile {
+            name: names.channels,
+            bytes: &texts.channels,
+        },
+        NewFile {
+            name: names.transcript,
+            bytes: &texts.transcript,
+        },
+    ];
+    let status = deliver(folder, out, &files, &texts.summary, done);
+    Finish::with_record(status, rec)
+}
+
+/// Reads the inputs, carries the auction out, stores the result, the channels and the transcript, and writes the summary. The
+/// solvers of all the scenario's workers try each query at once, each in a thread of its own, and, by turns, one after another
+/// on this thread. Where the start set doesn't fit, or no worker decides whether it does, there is no auction, and nothing is
+/// stored.
+pub fn run<F: Folder, K: Sink, G: Gate + Sync, W: Threads + Wait + Sync>(
+    rt: &W,
+    alloc: Global,
+    files: &RunArgs<'_>,
+    folder: &mut F,
+    out: &mut K,
+    gate: &G,
+) -> Finish
+    ensures ends { RunEnds run_order (names_seen files.now)
+        (outside (F.told folder.old) (K.told out.old)) (outside (F.told folder.new) (K.told out.new)) result.status result.result }
+    ensures no_other { result.below ≡ None }
+    ensures no_batch { result.batch ≡ [] }
+    ensures counted { AreFaultsCounted
+        (outside (F.told folder.old) (K.told out.old)) (outside (F.told folder.new) (K.told out.new)) result.status }
+{
+    let inputs = match read_inputs(alloc, folder, &files.inputs) {
+        Ok(inputs) => inputs,
+        Err(stop) => return Finish::without_record(explain(out, &files.inputs, stop)),
+    };
+    let Ok(record) = auction_of(rt, alloc, &inputs, gate) else {
+        return starve(out);
+    };
+    conclude(alloc, &inputs, record, files, folder, out)
+}

@@ -1,0 +1,40 @@
+//! The lines that the program writes at its end.
+
+ghost use Rattle.std.specs.Prelude.{◌≤◌, ◌++◌, OnErr, decimal};
+ghost use Rattle.std.specs.List.{flat_map};
+ghost use Rattle.outside_io.specs.Faults.{HasRisen};
+ghost use Rattle.outside_io.specs.Loads.{Writes};
+ghost use Rattle.commands.specs.Outside.{IsSaidTo};
+
+use itoa::Buffer;
+use outside_io::sink::{Failed, Sink};
+
+// Writes these parts, up to the first that fails, as one write of them all would. It takes no memory.
+fn write_parts<K: Sink>(out: &mut K, parts: &[&str]) -> Result<(), Failed>
+    ensures told { Writes (K.told out.old).held (K.told out.new).held (flat_map (λ part. part.now) parts.now) result }
+    ensures counted { (K.told out.old).faults ≤ (K.told out.new).faults }
+    ensures failed { OnErr result (HasRisen (K.told out.old).faults (K.told out.new).faults) }
+{
+    let Some((first, rest)) = parts.split_first() else {
+        return Ok(());
+    };
+    out.write(first.as_bytes())?;
+    write_parts(out, rest)
+}
+
+/// Writes a line of these parts, as far as the sink takes it. It takes no memory.
+pub fn say<K: Sink>(out: &mut K, parts: &[&str])
+    ensures says { IsSaidTo (K.told out.old) (K.told out.new) (flat_map (λ part. part.now) parts.now) }
+    ensures counted { (K.told out.old).faults ≤ (K.told out.new).faults }
+{
+    let _ = write_parts(out, parts);
+}
+
+/// Says of the file of this name what is wrong with it at this place. It takes no memory.
+pub fn say_at<'p, K: Sink>(out: &mut K, name: &'p str, what: &'p str, at: u64, why: &'p str)
+    ensures says { IsSaidTo (K.told out.old) (K.told out.new) (name.now ++ (what.now ++ (decimal at ++ why.now))) }
+    ensures counted { (K.told out.old).faults ≤ (K.told out.new).faults }
+{
+    let mut place = Buffer::new();
+    say(out, &[name, what, place.format(at), why]);
+}

@@ -1,0 +1,202 @@
+//! What a transcript shows: the inputs and the transcript are read, each of its steps is checked, and its record comes of it. So
+//! `verify`, `export` and `import` begin.
+
+ghost use Rattle.std.specs.Prelude.{◌≡◌, ◌≢◌, ◌≤◌, [], ℕ, IfErr, IfOk, List, None, Ok, Err, OnOk};
+ghost use Rattle.pack_defs.specs.Scenario.{IsWithinLimits};
+ghost use Rattle.auction_core.specs.Setup.{IsOfAuction};
+ghost use Rattle.transcript_text.specs.Pieces.{HasRead};
+ghost use Rattle.commands.specs.Ends.{IsShown, VerifyEnds};
+ghost use Rattle.commands.specs.Faults.{AreFaultsCounted};
+ghost use Rattle.commands.specs.Outside.{outside};
+ghost use Rattle.commands.specs.Transcripts.{ExplainsDenied, ExplainsLoad, IsFileRead, IsTextRead, IsVerdict, not_read};
+ghost use Rattle.commands.specs.Verified.{record_by, verified};
+ghost use Rattle.command_words.specs.Words.{verify_seen};
+
+use crate::explain::{explain, say_memory};
+use crate::fault::{TranscriptFault, say_fault};
+use crate::finish::Finish;
+use crate::inputs::{FILE_LIMIT, Inputs, read_inputs};
+use crate::says::say;
+use crate::status::{NO_MEMORY, NOT_SHOWN, REFUSED, UNREAD};
+use auction_core::record::Record;
+use auction_core::transcript::Transcript;
+use command_words::run_words::VerifyArgs;
+use outside_io::folder::{Folder, LoadErr};
+use outside_io::sink::Sink;
+use std::alloc::Global;
+use transcript_check::VerifyErr;
+use transcript_check::verify::verify as check_transcript;
+use transcript_text::TextErr;
+use transcript_text::again::keeps_named_numbers;
+use transcript_text::reader::TranscriptReader;
+
+/// The inputs, and the record that a transcript of their auction shows.
+#[derive(Drop)]
+pub struct ShownAuction {
+    pub inputs: Inputs,
+    pub record: Record,
+}
+
+// Why there is no record of a transcript.
+pub enum Denied {
+    // The transcript is at fault.
+    Fault(TranscriptFault),
+    // Memory ran out.
+    NoMemory,
+}
+
+// What is read of the transcript of this name, up to its end. A fault of its text is told once it has been read.
+fn read_text<F: Folder>(
+    alloc: Global,
+    folder: &mut F,
+    inputs: &Inputs,
+    name: &str,
+) -> Result<TranscriptReader, LoadErr>
+    requires { IsWithinLimits inputs.now.scenario }
+    ensures read { IsTextRead inputs.now
+        (F.told folder.old).files (F.told folder.old).steady (F.told folder.old).faults (F.told folder.new).faults name.now result }
+    ensures files { (F.told folder.new).files ≡ (F.told folder.old).files }
+    ensures steady { (F.told folder.new).steady ≡ (F.told folder.old).steady }
+    ensures counted { (F.told folder.old).faults ≤ (F.told folder.new).faults }
+    ensures uncounted { result ≢ Err LoadErr.Failed → (F.told folder.new).faults ≡ (F.told folder.old).faults }
+{
+    let mut reader = TranscriptReader::new(alloc);
+    let mut piece = Vec::new(alloc);
+    folder.begin(name, FILE_LIMIT)?;
+    loop {
+        folder.piece(&mut piece)?;
+        if piece.is_empty() {
+            return Ok(reader);
+        }
+        reader = reader.feed(&inputs.scenario, &inputs.book, &piece)?;
+    }
+}
+
+/// The bytes of the file of this name.
+pub(crate) fn file_bytes<F: Folder>(
+    alloc: Global,
+    folder: &mut F,
+    name: &str,
+) -> Result<Vec<u8>, LoadErr>
+    ensures read { IsFileRead (F.told folder.old).files (F.told folder.old).steady
+        (F.told folder.old).faults (F.told folder.new).faults name.now result }
+    ensures files { (F.told folder.new).files ≡ (F.told folder.old).files }
+    ensures steady { (F.told folder.new).steady ≡ (F.told folder.old).steady }
+    ensures counted { (F.told folder.old).faults ≤ (F.told folder.new).faults }
+    ensures uncounted { result ≢ Err LoadErr.Failed → (F.told folder.new).faults ≡ (F.told folder.old).faults }
+{
+    let mut bytes = Vec::new(alloc);
+    folder.load(name, FILE_LIMIT, &mut bytes)?;
+    Ok(bytes)
+}
+
+/// Says why the file of this name was not loaded. It gives the status, and takes no memory.
+pub fn say_unloaded<K: Sink>(out: &mut K, name: &str, why: LoadErr) -> u8
+    ensures { ExplainsLoad name.now why
+        (K.told out.old).held (K.told out.new).held (K.told out.old).faults (K.told out.new).faults result }
+{
+    match why {
+        LoadErr::Failed => {
+            say(out, &["cannot read ", name, "\n"]);
+            UNREAD
+        }
+        LoadErr::TooLong => {
+            say(out, &[name, ": too long\n"]);
+            REFUSED
+        }
+        LoadErr::NoMemory => {
+            say_memory(out);
+            NO_MEMORY
+        }
+    }
+}
+
+// The record that a transcript shows.
+fn record_from(alloc: Global, inputs: &Inputs, transcript: Transcript) -> Result<Record, Denied>
+    requires { IsOfAuction inputs.now.scenario inputs.now.book }
+    ensures { IsVerdict inputs.now (record_by inputs.now (Ok transcript)) result }
+{
+    inputs.book.keeps_order();
+    match check_transcript(alloc, &inputs.book, &inputs.scenario, transcript) {
+        Ok(record) => Ok(record),
+        Err(VerifyErr::NotShown { step, why }) => {
+            Err(Denied::Fault(TranscriptFault::Unshown { step, why }))
+        }
+        Err(VerifyErr::NoMemory) => Err(Denied::NoMemory),
+    }
+}
+
+/// Why there is no record of a text that was not read so.
+pub(crate) fn not_read(why: TextErr) -> Denied
+    ensures { result ≡ not_read why }
+{
+    match why {
+        TextErr::Version => Denied::Fault(TranscriptFault::Unread(TextErr::Version)),
+        TextErr::BadLine { n } => Denied::Fault(TranscriptFault::Unread(TextErr::BadLine { n })),
+        TextErr::Truncated => Denied::Fault(TranscriptFault::Unread(TextErr::Truncated)),
+        TextErr::NoMemory => Denied::NoMemory,
+    }
+}
+
+// The record that the text of a transcript shows, of which this was read. It touches nothing outside.
+fn record_of(alloc: Global, inputs: &Inputs, read: TranscriptReader) -> Result<Record, Denied>
+    requires { IsOfAuction inputs.now.scenario inputs.now.book }
+    ensures { (text : List ℕ) → HasRead inputs.now.scenario inputs.now.book text read → IsVerdict inputs.now (verified inputs.now text) result }
+{
+    match read.finish(&inputs.scenario, &inputs.book) {
+        Ok(transcript) => record_from(alloc, inputs, transcript),
+        Err(why) => Err(not_read(why)),
+    }
+}
+
+/// Says why there is no record of the transcript of this name. It gives the status.
+pub(crate) fn say_denied<K: Sink>(out: &mut K, name: &str, why: Denied) -> u8
+    ensures { ExplainsDenied name.now why
+        (K.told out.old).held (K.told out.new).held (K.told out.old).faults (K.told out.new).faults result }
+{
+    match why {
+        Denied::Fault(fault) => {
+            say_fault(out, name, fault);
+            NOT_SHOWN
+        }
+        Denied::NoMemory => {
+            say_memory(out);
+            NO_MEMORY
+        }
+    }
+}
+
+/// Reads the inputs and the transcript, and checks each step of it. Where it can't, or a step is not shown, a line says why, and
+/// the error is how the program ends. It stores nothing, and where the transcript is sound nothing outside is changed.
+pub fn shown_by<F: Folder, K: Sink>(
+    alloc: Global,
+    files: &VerifyArgs<'_>,
+    folder: &mut F,
+    out: &mut K,
+) -> Result<ShownAuction, Finish>
+    ensures shown { IfOk result (λ s. IsShown (verify_seen files.now)
+        (outside (F.told folder.old) (K.told out.old)) s.inputs s.record) }
+    ensures limits { IfOk result (λ s. IsOfAuction s.inputs.scenario s.inputs.book) }
+    ensures same { OnOk result (outside (F.told folder.new) (K.told out.new) ≡ outside (F.told folder.old) (K.told out.old)) }
+    ensures ends { IfErr result (λ finish. VerifyEnds (verify_seen files.now)
+        (outside (F.told folder.old) (K.told out.old)) (outside (F.told folder.new) (K.told out.new)) finish.status finish.result) }
+    ensures none { IfErr result (λ finish. finish.result ≡ None) }
+    ensures no_other { IfErr result (λ finish. finish.below ≡ None) }
+    ensures no_batch { IfErr result (λ finish. finish.batch ≡ []) }
+    ensures counted { IfErr result (λ finish. AreFaultsCounted
+        (outside (F.told folder.old) (K.told out.old)) (outside (F.told folder.new) (K.told out.new)) finish.status) }
+{
+    let inputs = match read_inputs(alloc, folder, &files.inputs) {
+        Ok(inputs) => inputs,
+        Err(stop) => return Err(Finish::without_record(explain(out, &files.inputs, stop))),
+    };
+    let read = match read_text(alloc, folder, &inputs, files.transcript) {
+        Ok(read) => read,
+        Err(why) => return Err(Finish::without_record(say_unloaded(out, files.transcript, why))),
+    };
+    keeps_named_numbers(&inputs.scenario, &inputs.book);
+    match record_of(alloc, &inputs, read) {
+        Ok(record) => Ok(ShownAuction { inputs, record }),
+        Err(why) => Err(Finish::without_record(say_denied(out, files.transcript, why))),
+    }
+}

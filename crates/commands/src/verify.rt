@@ -1,0 +1,62 @@
+//! The command `verify`: a transcript is checked step by step, and the result that it shows is printed.
+
+ghost use Rattle.std.specs.Prelude.{◌≡◌, [], IfOk, None};
+ghost use Rattle.pack_defs.specs.Scenario.{IsWithinLimits};
+ghost use Rattle.auction_core.specs.Backed.{undecided_of};
+ghost use Rattle.commands.specs.Ends.{VerifyEnds};
+ghost use Rattle.commands.specs.Faults.{AreFaultsCounted};
+ghost use Rattle.commands.specs.Outside.{outside};
+ghost use Rattle.commands.specs.Records.{IsRecordIn, result_of};
+ghost use Rattle.command_words.specs.Words.{verify_seen};
+
+use crate::explain::starve;
+use crate::finish::Finish;
+use crate::inputs::Inputs;
+use crate::run::done_status;
+use crate::shown::{ShownAuction, shown_by};
+use crate::status::UNWRITTEN;
+use auction_core::record::Record;
+use command_words::run_words::VerifyArgs;
+use outside_io::folder::Folder;
+use outside_io::sink::Sink;
+use result_text::rows::result_csv;
+use std::alloc::{AllocError as NoMemory, Global};
+
+/// The text of the record's result. The only error is want of memory.
+pub fn result_text(alloc: Global, inputs: &Inputs, rec: &Record) -> Result<Vec<u8>, NoMemory>
+    requires limits { IsWithinLimits inputs.now.scenario }
+    requires of { IsRecordIn rec.now.order inputs.now rec.now }
+    ensures { IfOk result (λ text. text.items ≡ result_of rec.now.order inputs.now (undecided_of rec.now.steps)) }
+{
+    let text = result_csv(alloc, rec, &inputs.book)?;
+    Ok(text)
+}
+
+/// Reads the inputs and the transcript, checks each step of it, and prints the result of the record that it shows. It stores
+/// nothing.
+pub fn verify<F: Folder, K: Sink>(
+    alloc: Global,
+    files: &VerifyArgs<'_>,
+    folder: &mut F,
+    out: &mut K,
+) -> Finish
+    ensures ends { VerifyEnds (verify_seen files.now)
+        (outside (F.told folder.old) (K.told out.old)) (outside (F.told folder.new) (K.told out.new)) result.status result.result }
+    ensures no_other { result.below ≡ None }
+    ensures no_batch { result.batch ≡ [] }
+    ensures counted { AreFaultsCounted
+        (outside (F.told folder.old) (K.told out.old)) (outside (F.told folder.new) (K.told out.new)) result.status }
+{
+    let ShownAuction { inputs, record } = match shown_by(alloc, files, folder, out) {
+        Ok(shown) => shown,
+        Err(finish) => return finish,
+    };
+    let Ok(result) = result_text(alloc, &inputs, &record) else {
+        return starve(out);
+    };
+    let done = done_status(&record);
+    match out.write(&result) {
+        Ok(()) => Finish::with_record(done, record),
+        Err(_) => Finish::with_record(UNWRITTEN, record),
+    }
+}

@@ -1,0 +1,29 @@
+-- Each file is stored behind those before it, or is the one that isn't.
+use Rattle.std.proofs.Common.{◌∙◌, refl}
+use Rattle.outside_io.proofs.GroupLaws.{stops-here, stores-more}
+use Rattle.outside_io.proofs.memory_folder.MemoryFolderFolder.store_all.Goals as goal
+
+pub loop-at-preserved : goal.loop-at-preserved
+loop-at-preserved c =
+    let stored = c.in_default.ensures in
+    record {
+      stored = stores-more c.args.files.now c.loop-at.at _ _ _ _ c.loop-at-test.true c.loop-at.invariant.stored
+          (record { stores = stored.told; faults = stored.uncounted (λ e. cc e); steady = stored.steady });
+      left = stored.left ∙ c.loop-at.invariant.left;
+      come = stored.come ∙ c.loop-at.invariant.come;
+      most = stored.most ∙ c.loop-at.invariant.most;
+    }
+
+pub returns-in-Err-clause-stopped : goal.returns-in-Err-clause-stopped
+returns-in-Err-clause-stopped c =
+    let unstored = c.in-Err.ensures in
+    rw (c.new.ensures.at, c.new.ensures.why)
+    (stops-here c.args.files.now c.loop-at.at _ c.in-Err.why _ _ _ c.loop-at-test.true c.loop-at.invariant.stored
+    (record {
+      stores = unstored.told;
+      counted = unstored.counted;
+      failed = λ e. unstored.failed (rw e refl);
+      uncounted = λ not. unstored.uncounted (λ e. not (cc e));
+      steady = unstored.steady;
+      surely = λ steady e. unstored.surely steady (rw e refl);
+    }))

@@ -1,0 +1,41 @@
+-- Several files that are stored in one call: each as one alone, in order, up to the first that isn't stored.
+use Rattle.std.specs.Prelude.{◌≡◌, ◌≢◌, ◌≤◌, ℕ, true, List, [], ◌∷◌, take, Some, Ok, Err, slice_get}
+use Rattle.outside_io.specs.declared.folder.NewFile.{NewFile}
+use Rattle.outside_io.specs.declared.folder.StoreErr.{StoreErr}
+use Rattle.outside_io.specs.declared.folder.StoreErr.TheVariants.{Failed}
+use Rattle.outside_io.specs.Faults.{HasRisen}
+use Rattle.outside_io.specs.Files.{StoredFile}
+use Rattle.outside_io.specs.Loads.{Stores}
+use Rattle.outside_io.specs.Told.{FolderTold}
+
+-- a file to store, as a folder tells it
+abbrev pub stored_file : NewFile → StoredFile
+stored_file x = record { name = x.name.now; bytes = x.bytes.now }
+
+-- between these two the file was stored
+pub record StoresOne (x : StoredFile) (old new : FolderTold) : Type 0 where
+  pub stores : Stores old.files new.files x.name x.bytes (Ok tt)
+  pub faults : new.faults ≡ old.faults
+  pub steady : new.steady ≡ old.steady
+
+-- each of these files was stored, in order
+abbrev pub AreAllStored : List StoredFile → FolderTold → FolderTold → Type 0
+AreAllStored [] old new = new ≡ old
+AreAllStored (x ∷ xs) old new = (next : FolderTold) × StoresOne x old next × AreAllStored xs next new
+
+-- between these two the file was not stored, for this reason
+pub record FailsOne (x : StoredFile) (why : StoreErr) (old new : FolderTold) : Type 0 where
+  pub stores : Stores old.files new.files x.name x.bytes (Err why)
+  pub counted : old.faults ≤ new.faults
+  pub failed : why ≡ Failed → HasRisen old.faults new.faults
+  pub uncounted : why ≢ Failed → new.faults ≡ old.faults
+  pub steady : new.steady ≡ old.steady
+  pub surely : old.steady ≡ true → why ≢ Failed
+
+-- the files before this place were stored, in order, and the one at it was not, for this reason
+pub record StopsAt (xs : List StoredFile) (place : ℕ) (why : StoreErr) (old new : FolderTold) : Type 0 where
+  pub file : StoredFile
+  pub there : slice_get xs place ≡ Some file
+  pub between : FolderTold
+  pub before : AreAllStored (take place xs) old between
+  pub fails : FailsOne file why between new

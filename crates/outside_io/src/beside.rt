@@ -1,0 +1,168 @@
+//! Texts that are stored over the system's files: each is written beside its place, and put there once all of them are whole.
+ghost use Rattle.std.specs.Prelude.{◌≡◌, ◌<◌, ◌≤◌, [], length, IfErr, IfOk};
+
+use crate::folder::{NewFile, StoreErr, Unstored};
+use crate::real::write_all;
+use crate::sink::Failed;
+use std::alloc::{AllocError as NoMemory, Global};
+use std::fs::{Files, Metadata, OpenFile, OpenOptions};
+use std::path::{Path, PathBuf};
+use std::{fs, io};
+
+// So many names are tried for a file beside a place.
+const MOST_NAMES: u32 = 1_000;
+
+// A file that is written beside its place; none, where the place itself was written.
+type Beside = Option<PathBuf<Global>>;
+
+/// Stores these texts, and syncs them to the disk. Where a place is free or has a plain file, the text comes into it at once, with
+/// all others that do: until each is written no such place is touched, and after an error none that stands behind it is. A device,
+/// a pipe or a link is written itself. The error tells which text was not stored, and why.
+pub(crate) fn store_together<R: Files>(
+    files: &R,
+    alloc: Global,
+    texts: &[NewFile<'_>],
+) -> Result<(), Unstored>
+    ensures { IfErr result (λ e. e.at < length texts.now) }
+{
+    let mut beside = Vec::new(alloc);
+    if let Err(why) = write_each(files, alloc, texts, &mut beside) {
+        remove_each(files, &beside);
+        return Err(why);
+    }
+    put_each(files, texts, &beside)
+}
+
+// Writes each text, up to the first that can't be.
+fn write_each<R: Files>(
+    files: &R,
+    alloc: Global,
+    texts: &[NewFile<'_>],
+    beside: &mut Vec<Beside>,
+) -> Result<(), Unstored>
+    requires { beside.old.items ≡ [] }
+    ensures at { IfErr result (λ e. e.at < length texts.now) }
+    ensures each { IfOk result (λ _. length beside.new.items ≡ length texts.now) }
+{
+    for (at, text) in texts.iter().enumerate() {
+        if beside.push(None).is_err() {
+            return Err(Unstored::new(at, StoreErr::NoMemory));
+        }
+        match write_one(files, alloc, text) {
+            Ok(written) => beside[at] = written,
+            Err(why) => return Err(Unstored::new(at, why)),
+        }
+    }
+    Ok(())
+}
+
+// Writes a text, beside its place where it is to be replaced.
+fn write_one<R: Files>(files: &R, alloc: Global, text: &NewFile<'_>) -> Result<Beside, StoreErr> {
+    match fs::symlink_metadata(files, text.name) {
+        Ok(old) if old.is_file() => write_beside(files, alloc, text, Some(old)),
+        Err(error) if error.kind() == io::ErrorKind::NotFound => {
+            write_beside(files, alloc, text, None)
+        }
+        _ => {
+            write_through(files, text)?;
+            Ok(None)
+        }
+    }
+}
+
+// Writes a text to what stands at its place: a device, a pipe, or what a link leads to.
+fn write_through<R: Files>(files: &R, text: &NewFile<'_>) -> Result<(), StoreErr> {
+    let Ok(mut file) = fs::create(files, text.name) else {
+        return Err(StoreErr::Failed);
+    };
+    match write_all(&mut file, text.bytes) {
+        Ok(()) => Ok(()),
+        Err(_) => Err(StoreErr::Failed),
+    }
+}
+
+// Writes a text beside its place, with the permissions of the file that stands there. After an error nothing is left of it.
+fn write_beside<R: Files>(
+    files: &R,
+    alloc: Global,
+    text: &NewFile<'_>,
+    old: Option<Metadata>,
+) -> Result<Beside, StoreErr> {
+    for number in 0..MOST_NAMES {
+        let path = path_beside(alloc, text.name, number)?;
+        match fs::File::create_new(files, &path) {
+            Ok(mut file) => {
+                if fill(&mut file, text.bytes, old).is_err() {
+                    let _ = fs::remove_file(files, &path);
+                    return Err(StoreErr::Failed);
+                }
+                return Ok(Some(path));
+            }
+            Err(error) if error.kind() == io::ErrorKind::AlreadyExists => {}
+            Err(_) => return Err(StoreErr::Failed),
+        }
+    }
+    Err(StoreErr::Failed)
+}
+
+// The path beside a place that has this number.
+fn path_beside(alloc: Global, place: &str, number: u32) -> Result<PathBuf<Global>, NoMemory> {
+    let name = format!(in alloc; "repack-{number}.part")?;
+    Path::new(place).with_file_name(alloc, &name)
+}
+
+// Gives a new file these bytes, and the permissions of the old one, and syncs it.
+fn fill<F: io::Write + OpenFile>(
+    file: &mut F,
+    bytes: &[u8],
+    old: Option<Metadata>,
+) -> Result<(), Failed> {
+    if let Some(old) = old {
+        // A file system without permissions has none to keep.
+        let _ = file.set_permissions(old.permissions());
+    }
+    write_all(file, bytes)?;
+    match file.sync_all() {
+        Ok(()) => Ok(()),
+        Err(_) => Err(Failed),
+    }
+}
+
+// Puts what was written beside the places into them, in order, and syncs their folders.
+fn put_each<R: Files>(files: &R, texts: &[NewFile<'_>], beside: &[Beside]) -> Result<(), Unstored>
+    requires { length beside.now ≡ length texts.now }
+    ensures { IfErr result (λ e. e.at < length texts.now) }
+{
+    for (at, path) in beside.iter().enumerate() {
+        if let Some(path) = path {
+            if fs::rename(files, path, texts[at].name).is_err() {
+                remove_each(files, &beside[at..]);
+                return Err(Unstored::new(at, StoreErr::Failed));
+            }
+        }
+    }
+    for text in texts {
+        sync_folder_of(files, text.name);
+    }
+    Ok(())
+}
+
+// Syncs the folder that a file stands in. Where the system can't, what was put there may be the old file after a loss of power.
+fn sync_folder_of<R: Files>(files: &R, name: &str) {
+    let folder = match Path::new(name).parent() {
+        Some(parent) if !parent.as_str().is_empty() => parent,
+        _ => Path::new("."),
+    };
+    if let Ok(folder) = fs::open(files, folder) {
+        let _ = folder.sync_all();
+    }
+}
+
+// Removes what was written beside places.
+fn remove_each<R: Files>(files: &R, beside: &[Beside]) {
+    for path in beside {
+        if let Some(path) = path {
+            let _ = fs::remove_file(files, path);
+        }
+    }
+}

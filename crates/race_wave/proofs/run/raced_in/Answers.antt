@@ -1,0 +1,18 @@
+-- What the history replays to is as near to the end as before, or nearer.
+use Rattle.std.proofs.Common.{◌≡◌, ◌∙◌, ap, subst}
+use Rattle.turn_lock.specs.Turns.{StartsWith}
+use Rattle.auction_core.specs.Auction.{AuctionView}
+use Rattle.answer_board.specs.Boards.{beginning_of}
+use Rattle.race_wave.specs.Turns.{NearsEnd}
+use Rattle.race_wave.proofs.MeasureLemmas.{later-nears}
+use Rattle.race_wave.proofs.RunLemmas.{ok-gives}
+use Rattle.race_wave.proofs.run.raced_in.Goals as goal
+
+pub returns-clause-nears_end : goal.returns-clause-nears_end
+returns-clause-nears_end g c =
+    let old = c.args.auction in
+    let new = c.raced_on-done.result.auction in
+    let begins : beginning_of new ≡ beginning_of old = c.raced_on-done.ensures.beginning ∙ ap beginning_of c.in-Ok.ensures.raised in
+    let history : StartsWith new.history old.history = subst (λ (a : AuctionView). StartsWith new.history a.history) c.in-Ok.ensures.raised c.raced_on-done.ensures.history in
+    let nears : NearsEnd old.scenario old.state new.state = later-nears old new begins history c.keeps_the_rule.ensures.replays c.keeps_the_rule-2.ensures.replays in
+    ok-gives _ c.if_done.result (λ r. NearsEnd old.scenario old.state r.0.state) nears c.if_done.ensures
