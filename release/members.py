@@ -4,6 +4,7 @@ and a station whose `value` is called otherwise has none.
 A name is told where it is like one that is absent beside it; a note of the author's own is not.
 """
 import difflib
+import functools
 import json
 import os
 import stat
@@ -52,8 +53,14 @@ def misspelt(scenario):
 
 def unlike(members, names, place):
     """The same of one object, whose members may have these names."""
-    absent = [name for name in names if name not in members]
+    absent = tuple(name for name in names if name not in members)
     for found in members:
         if found not in names:
-            for meant in difflib.get_close_matches(found.lower(), absent, 1):
+            for meant in like(found.lower(), absent):
                 yield found, place, meant
+
+
+@functools.lru_cache(maxsize=1_000)
+def like(found, absent):
+    """The name that is most like this one, if there is one. The stations of a scenario mostly have the same members."""
+    return difflib.get_close_matches(found, absent, 1)
