@@ -14,7 +14,7 @@ RANGES = {"SEED": (0, 18_446_744_073_709_551_615), "SIZE": (1, 4_096), "STEP": (
 DIGITS = re.compile(r"\+?0*([0-9]{1,20})")
 MOST_RECORDS = 256
 LONGEST_LIST = 64_000_000
-LONGEST_FILE = 268_435_456
+LONGEST_TRANSCRIPT = 68_719_476_736
 GIVEN_TWICE = 5
 CANNOT_WRITE = 4
 TRANSCRIPTS = ("TRANSCRIPT", "NEWTRANSCRIPT")
@@ -161,8 +161,8 @@ def unwritable(names):
 
 
 def why_unwritable(name):
-    """Why a file of this name can't be stored, or None where nothing is known. A file that is there is written over in its place, so
-    its folder needn't be writable."""
+    """Why a file of this name can't be stored, or None where nothing is known. A plain file is replaced by one that is made beside it, so
+    its folder has to be writable and the file needn't be. A device, a pipe or what a link leads to is written itself."""
     try:
         state = os.stat(name)
     except (FileNotFoundError, NotADirectoryError):
@@ -172,6 +172,8 @@ def why_unwritable(name):
         return f"{shown(name)}: {error.strerror}"
     if stat.S_ISDIR(state.st_mode):
         return f"{shown(name)}: this is a folder"
+    if stat.S_ISREG(state.st_mode) and not os.path.islink(name):
+        return why_no_file(os.path.dirname(name) or b".")
     return None if may(name, os.W_OK) else f"{shown(name)}: forbidden to write"
 
 
@@ -205,11 +207,11 @@ def notes(command, arguments, is_terminal):
 
 
 def length_note(name):
-    """A line on a file that is longer than one that is read back may be, or none."""
+    """A line on a transcript that is longer than one that is read back may be, or none."""
     state = os.stat(name)
-    if not stat.S_ISREG(state.st_mode) or state.st_size <= LONGEST_FILE:
+    if not stat.S_ISREG(state.st_mode) or state.st_size <= LONGEST_TRANSCRIPT:
         return []
-    most = f"a file that is read back (verify, resume ..) may have at most {LONGEST_FILE:,}"
+    most = f"a transcript that is read back (verify, resume ..) may have at most {LONGEST_TRANSCRIPT:,}"
     return [f"{shown(name)} has {state.st_size:,} bytes; {most}"]
 
 

@@ -15,7 +15,7 @@ use Rattle.auction_core.specs.declared.record.Ending.TheVariants.{Done, StartRef
 use Rattle.auction_core.specs.declared.record.Record.{Record}
 use Rattle.auction_core.specs.Backed.{undecided_of}
 use Rattle.commands.specs.declared.inputs.Inputs.{Inputs}
-use Rattle.commands.specs.declared.inputs.Stop.TheVariants.{CannotRead, NoMemory, Refused}
+use Rattle.commands.specs.declared.input_file.Stop.TheVariants.{CannotRead, NoMemory, Refused}
 use Rattle.command_words.specs.declared.run_words.Input.{Input}
 use Rattle.commands.specs.Batch.{BatchStop, Unread, Twice, HeldBatch, batch_of, batch_status, batch_texts, ended_status, ended_text, ends_at_start, own_status, own_texts, status_lines, texts_under, with_text, names_in_words}
 use Rattle.command_words.specs.Words.{inputs_with}

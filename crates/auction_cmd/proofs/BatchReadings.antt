@@ -15,7 +15,7 @@ use Rattle.batch_list.specs.ListOf.{ListedNames}
 use Rattle.batch_list.specs.Repeated.{names_given, repeated_result}
 use Rattle.commands.specs.declared.batch_inputs.Constraints.{Constraints}
 use Rattle.commands.specs.declared.inputs.Inputs.{Inputs}
-use Rattle.commands.specs.declared.inputs.Stop.{Stop}
+use Rattle.commands.specs.declared.input_file.Stop.{Stop}
 use Rattle.command_words.specs.declared.run_words.Input.TheVariants.{Domains, Rows, Scenario as ScenarioFile}
 use Rattle.commands.specs.Batch.{BatchStop, HeldBatch, ListedView, among, batch_of, constraints_of, each_inputs, unless_stopped, inputs_beside, list_named, listing_of, once_each, texts_under, names_in_words}
 use Rattle.command_words.specs.Words.{inputs_with}

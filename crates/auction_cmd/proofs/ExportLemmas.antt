@@ -15,7 +15,7 @@ use Rattle.open_tests.specs.Queries.{step_numbered}
 use Rattle.open_tests.specs.Settling.{formula_text}
 use Rattle.commands.specs.declared.fault.TranscriptFault.{TranscriptFault}
 use Rattle.commands.specs.declared.inputs.Inputs.{Inputs}
-use Rattle.commands.specs.declared.inputs.Stop.TheVariants.{Refused}
+use Rattle.commands.specs.declared.input_file.Stop.TheVariants.{Refused}
 use Rattle.commands.specs.declared.refusal.Refusal.{Refusal}
 use Rattle.commands.specs.declared.settling.StepFault.{StepFault}
 use Rattle.commands.specs.declared.settling.StepFault.TheVariants.{NoSuchStep}
@@ -25,7 +25,7 @@ use Rattle.commands.specs.Ends.{ExportEnds, IsShown, VerifyEnds}
 use Rattle.commands.specs.Ends.ExportEnds.{Unshown, ExportStarved, NoStep, FormulaStored, FormulaNotStored}
 use Rattle.commands.specs.Ends.VerifyEnds.{VerifyStopped, VerifyStarved, NotLoaded, NotSound, Sound}
 use Rattle.commands.specs.ExportPromises.{ExportPromises, IsStepAsked}
-use Rattle.commands.specs.Inputs.{file_limit, inputs_of}
+use Rattle.commands.specs.Inputs.{inputs_of, transcript_limit}
 use Rattle.commands.specs.Outside.{Outside, IsSaid}
 use Rattle.commands.specs.Says.{memory_line, unwritten_line}
 use Rattle.commands.specs.Settling.{missing_fault, step_line}
@@ -79,7 +79,7 @@ shown-not-refused files names before own inputs text rec fault told s g err =
 pub shown-not-halted : {X : Type 0} (files : List StoredFile) (names : VerifyNames) (before : Outside) (own : Inputs) (rec : Record) (why : Refusal) → before.files ≡ Some files → IsShown names before own rec → inputs_of files names.inputs ≡ Err (Refused why) → X
 shown-not-halted files names before own rec why told s err = absurd (not-both own (Refused why) (sym (s.accepted files told) ∙ err))
 
-pub shown-not-long : {X : Type 0} (files : List StoredFile) (names : VerifyNames) (before : Outside) (own : Inputs) (rec : Record) (bytes : List ℕ) → before.files ≡ Some files → IsShown names before own rec → bytes_of files names.transcript ≡ Some bytes → file_limit < length bytes → X
+pub shown-not-long : {X : Type 0} (files : List StoredFile) (names : VerifyNames) (before : Outside) (own : Inputs) (rec : Record) (bytes : List ℕ) → before.files ≡ Some files → IsShown names before own rec → bytes_of files names.transcript ≡ Some bytes → transcript_limit < length bytes → X
 shown-not-long files names before own rec bytes told s is more = absurd (not-long files names own s.text bytes (shown-given files names before own rec told s) is more)
 
 -- ---- the step
@@ -210,7 +210,7 @@ module _ (names : ExportNames) (before after : Outside) (status : ℕ) (found : 
   export-refuses_input files why (FormulaStored own rec s is zero none stored) told err = shown-not-halted files names.shown before own rec why told s err
   export-refuses_input files why (FormulaNotStored own rec s is none not) told err = shown-not-halted files names.shown before own rec why told s err
 
-  export-refuses_long : (files : List StoredFile) (inputs : Inputs) (bytes : List ℕ) → ExportEnds names before after status found → before.files ≡ Some files → inputs_of files names.shown.inputs ≡ Ok inputs → bytes_of files names.shown.transcript ≡ Some bytes → file_limit < length bytes → IsOr 5 before status
+  export-refuses_long : (files : List StoredFile) (inputs : Inputs) (bytes : List ℕ) → ExportEnds names before after status found → before.files ≡ Some files → inputs_of files names.shown.inputs ≡ Ok inputs → bytes_of files names.shown.transcript ≡ Some bytes → transcript_limit < length bytes → IsOr 5 before status
   export-refuses_long files inputs bytes (Unshown end none) told ok is more = let v = verify-promises names.shown before after status found end in v.refuses_long files inputs bytes told ok is more
   export-refuses_long files inputs bytes (ExportStarved s) told ok is more = inr (inl s.status_is)
   export-refuses_long files inputs bytes (NoStep own rec f s at ten none said same) told ok is more = shown-not-long files names.shown before own rec bytes told s is more

@@ -20,7 +20,7 @@ use Rattle.transcript_text.specs.Named.{IsHeld}
 use Rattle.transcript_text.specs.Spelling.{transcript_text}
 use Rattle.commands.specs.declared.fault.TranscriptFault.{TranscriptFault}
 use Rattle.commands.specs.declared.inputs.Inputs.{Inputs}
-use Rattle.commands.specs.declared.inputs.Stop.TheVariants.{Refused}
+use Rattle.commands.specs.declared.input_file.Stop.TheVariants.{Refused}
 use Rattle.commands.specs.declared.refusal.Refusal.{Refusal}
 use Rattle.commands.specs.declared.settling.StepFault.{StepFault}
 use Rattle.commands.specs.Delivery.{AllOthersStand, AreStored, Delivers, NamedText}
@@ -28,7 +28,7 @@ use Rattle.commands.specs.Ends.{AreInputsOf, ImportEnds, IsFileHeld, IsNotLoaded
 use Rattle.commands.specs.Ends.ImportEnds.{NothingShown, ImportStarved, NoOpenStep, NoLog, NotSettled, Settled}
 use Rattle.commands.specs.Ends.IsNotLoaded.{Unloaded, LongText}
 use Rattle.commands.specs.ImportPromises.{ImportPromises, IsImported, IsImportedUpTo, IsLogIn, IsSettledStep, IsSoundIn, IsUnimported, IsUnlogged, IsUnsummed}
-use Rattle.commands.specs.Inputs.{file_limit, inputs_of}
+use Rattle.commands.specs.Inputs.{file_limit, inputs_of, transcript_limit}
 use Rattle.commands.specs.Outside.{Outside, IsSaid}
 use Rattle.commands.specs.Promises.{IsSomeRecord}
 use Rattle.commands.specs.Records.{IsRecordIn, done_status, outcome, result_of, summary_in}
@@ -292,7 +292,7 @@ module _ (names : ImportNames) (before after : Outside) (status : ℕ) (found : 
   one-log : (files : List StoredFile) (log own : List ℕ) → before.files ≡ Some files → IsFileHeld names.proof before own → IsLogIn files names.proof log → own ≡ log
   one-log files log own told held l = same-text own log (sym (held files told).0 ∙ l.told)
 
-  unloaded-or : (files : List StoredFile) (log : List ℕ) (wanted : ℕ) → before.files ≡ Some files → IsNotLoaded names.proof before after status → IsLogIn files names.proof log → IsOr wanted before status
+  unloaded-or : (files : List StoredFile) (log : List ℕ) (wanted : ℕ) → before.files ≡ Some files → IsNotLoaded file_limit names.proof before after status → IsLogIn files names.proof log → IsOr wanted before status
   unloaded-or files log wanted told (Unloaded three rises absent said) l = inr (inr (three, λ steady. no-text log (bytes_of files names.proof) (absent files told steady) l.told))
   unloaded-or files log wanted told (LongText five long said) l =
       let (bytes, is, more) = long files told in
@@ -370,7 +370,7 @@ module _ (names : ImportNames) (before after : Outside) (status : ℕ) (found : 
   import-refuses_input files why (NotSettled own rec log f s is held e ten none said same) told err = shown-not-halted files names.shown before own rec why told s err
   import-refuses_input files why (Settled own rec log new s is held ok of kept some d) told err = shown-not-halted files names.shown before own rec why told s err
 
-  import-refuses_long : (files : List StoredFile) (inputs : Inputs) (bytes : List ℕ) → ImportEnds names before after status found → before.files ≡ Some files → inputs_of files names.shown.inputs ≡ Ok inputs → bytes_of files names.shown.transcript ≡ Some bytes → file_limit < length bytes → IsOr 5 before status
+  import-refuses_long : (files : List StoredFile) (inputs : Inputs) (bytes : List ℕ) → ImportEnds names before after status found → before.files ≡ Some files → inputs_of files names.shown.inputs ≡ Ok inputs → bytes_of files names.shown.transcript ≡ Some bytes → transcript_limit < length bytes → IsOr 5 before status
   import-refuses_long files inputs bytes (NothingShown end none) told ok is more = let v = verify-promises names.shown before after status found end in v.refuses_long files inputs bytes told ok is more
   import-refuses_long files inputs bytes (ImportStarved s) told ok is more = inr (inl s.status_is)
   import-refuses_long files inputs bytes (NoOpenStep own rec f s at ten none said same) told ok is more = shown-not-long files names.shown before own rec bytes told s is more

@@ -15,7 +15,7 @@ use Rattle.auction_core.specs.Backed.{undecided_of}
 use Rattle.auction_core.specs.NotShown.{order_kept}
 use Rattle.commands.specs.declared.fault.TranscriptFault.{TranscriptFault}
 use Rattle.commands.specs.declared.inputs.Inputs.{Inputs}
-use Rattle.commands.specs.declared.inputs.Stop.TheVariants.{CannotRead, Refused}
+use Rattle.commands.specs.declared.input_file.Stop.TheVariants.{CannotRead, Refused}
 use Rattle.command_words.specs.declared.run_words.Input.{Input}
 use Rattle.commands.specs.declared.refusal.Refusal.{Refusal}
 use Rattle.transcript_text.specs.Spelling.{transcript_text}
@@ -25,7 +25,7 @@ use Rattle.commands.specs.Ends.Concludes.{Unfit, StartOpen, Delivered}
 use Rattle.commands.specs.Ends.IsNotLoaded.{Unloaded, LongText}
 use Rattle.commands.specs.Ends.RunEnds.{Concluded}
 use Rattle.commands.specs.Ends.VerifyEnds.{VerifyStopped, VerifyStarved, NotLoaded}
-use Rattle.commands.specs.Inputs.{file_limit, inputs_of}
+use Rattle.commands.specs.Inputs.{inputs_of, transcript_limit}
 use Rattle.commands.specs.Outside.{Outside, IsSaid}
 use Rattle.commands.specs.Promises.{IsSomeRecord}
 use Rattle.commands.specs.Records.{IsEndedRecordIn, IsRecordIn, StartFits, StartUnfit, done_status, summary_in}
@@ -355,7 +355,7 @@ module _ (names : ResumeNames) (before after : Outside) (status : ℕ) (found : 
   all-halted : (files : List StoredFile) → ResumeEnds names before after status found → before.files ≡ Some files → status ≡ 5 →
       ((why : Refusal) × (inputs_of files names.run_files.inputs ≡ Err (Refused why)) × IsSaid before after (refusal_line names.run_files.inputs why))
       ⊎ ((inputs : Inputs) × (inputs_of files names.run_files.inputs ≡ Ok inputs) × (bytes : List ℕ) × (bytes_of files names.prefix ≡ Some bytes)
-      × (file_limit < length bytes) × IsSaid before after (long_line names.prefix))
+      × (transcript_limit < length bytes) × IsSaid before after (long_line names.prefix))
   all-halted files (ResumeStopped s none) told five = text-halted (begun_names names) before after status found files (VerifyStopped s none) told five
   all-halted files (ResumeStarved s) told five = text-halted (begun_names names) before after status found files (VerifyStarved s) told five
   all-halted files (PrefixNotLoaded inputs are n none same) told five = text-halted (begun_names names) before after status found files (NotLoaded inputs are n none same) told five
@@ -370,7 +370,7 @@ module _ (names : ResumeNames) (before after : Outside) (status : ℕ) (found : 
   all-refuses_input files why (WentOn inputs text kept rec are can held is goes c) told err = absurd (not-both inputs (Refused why) (sym (are files told) ∙ err))
 
   all-refuses_long : (files : List StoredFile) (inputs : Inputs) (bytes : List ℕ) → ResumeEnds names before after status found → before.files ≡ Some files → inputs_of files names.run_files.inputs ≡ Ok inputs → bytes_of files names.prefix ≡ Some bytes →
-      file_limit < length bytes → IsOr 5 before status
+      transcript_limit < length bytes → IsOr 5 before status
   all-refuses_long files inputs bytes (ResumeStopped s none) told ok is more = text-refuses_long (begun_names names) before after status found files inputs bytes (VerifyStopped s none) told ok is more
   all-refuses_long files inputs bytes (ResumeStarved s) told ok is more = inr (inl s.status_is)
   all-refuses_long files inputs bytes (PrefixNotLoaded own are n none same) told ok is more = text-refuses_long (begun_names names) before after status found files inputs bytes (NotLoaded own are n none same) told ok is more

@@ -11,7 +11,7 @@ use Rattle.commands.specs.Delivery.{IsPrinted}
 use Rattle.commands.specs.Delivery.IsPrinted.{Written, CutShort}
 use Rattle.commands.specs.Ends.{AreInputsOf, IsNotLoaded, IsTextHeld}
 use Rattle.commands.specs.Ends.IsNotLoaded.{Unloaded, LongText}
-use Rattle.commands.specs.Inputs.{file_limit}
+use Rattle.commands.specs.Inputs.{transcript_limit}
 use Rattle.commands.specs.Outside.{Outside}
 use Rattle.commands.specs.Records.{done_status}
 use Rattle.commands.specs.Verified.{verified}
@@ -35,7 +35,7 @@ printed-files text done before after status (CutShort four same rises less said)
 pub never-four : (U : List ClockTest) (status : ℕ) → status ≡ done_status U → status ≡ 4 → ⊥
 never-four U status is four = off (0 ∷ 1 ∷ []) status 4 (subst (λ z. IsTrue (is_in (0 ∷ 1 ∷ []) z)) (sym is) (done-within U)) four refl
 
-pub unloaded-statuses : (name : List ℕ) (before after : Outside) (status : ℕ) → IsNotLoaded name before after status → IsTrue (is_in (3 ∷ 5 ∷ []) status)
+pub unloaded-statuses : {most : ℕ} (name : List ℕ) (before after : Outside) (status : ℕ) → IsNotLoaded most name before after status → IsTrue (is_in (3 ∷ 5 ∷ []) status)
 unloaded-statuses name before after status (Unloaded three rises absent said) = one-of (3 ∷ 5 ∷ []) status 3 three refl
 unloaded-statuses name before after status (LongText five long said) = one-of (3 ∷ 5 ∷ []) status 5 five refl
 
@@ -54,10 +54,10 @@ pub over : (limit n : ℕ) → limit < n → n ≤ limit → ⊥
 over limit n more most = omega arith
 
 -- the given text isn't too long
-pub not-long : (files : List StoredFile) (names : VerifyNames) (inputs : Inputs) (text bytes : List ℕ) → IsGiven files names inputs text → bytes_of files names.transcript ≡ Some bytes → file_limit < length bytes → ⊥
+pub not-long : (files : List StoredFile) (names : VerifyNames) (inputs : Inputs) (text bytes : List ℕ) → IsGiven files names inputs text → bytes_of files names.transcript ≡ Some bytes → transcript_limit < length bytes → ⊥
 not-long files names inputs text bytes g is more =
     let same : bytes ≡ text = same-text bytes text (sym is ∙ g.told) in
-    over file_limit (length text) (subst (λ z. file_limit < length z) same more) g.within
+    over transcript_limit (length text) (subst (λ z. transcript_limit < length z) same more) g.within
 
 -- two things that are given are one
 pub same-verified : (files : List StoredFile) (names : VerifyNames) (own inputs : Inputs) (t text : List ℕ) → IsGiven files names own t → IsGiven files names inputs text → verified own t ≡ verified inputs text

@@ -6,13 +6,13 @@ use Rattle.outside_io.specs.Files.{StoredFile, bytes_of}
 use Rattle.auction_core.specs.declared.record.Record.{Record}
 use Rattle.auction_core.specs.Backed.{undecided_of}
 use Rattle.commands.specs.declared.inputs.Inputs.{Inputs}
-use Rattle.commands.specs.declared.inputs.Stop.TheVariants.{CannotRead, Refused}
+use Rattle.commands.specs.declared.input_file.Stop.TheVariants.{CannotRead, Refused}
 use Rattle.command_words.specs.declared.run_words.Input.{Input}
 use Rattle.commands.specs.declared.refusal.Refusal.{Refusal}
 use Rattle.commands.specs.Ends.{VerifyEnds}
 use Rattle.commands.specs.Ends.IsNotLoaded.{Unloaded, LongText}
 use Rattle.commands.specs.Ends.VerifyEnds.{VerifyStopped, VerifyStarved, NotLoaded, NotSound, Sound}
-use Rattle.commands.specs.Inputs.{file_limit, inputs_of}
+use Rattle.commands.specs.Inputs.{inputs_of, transcript_limit}
 use Rattle.commands.specs.Outside.{Outside, IsSaid}
 use Rattle.commands.specs.Promises.{AreThere}
 use Rattle.commands.specs.Records.{result_of}
@@ -30,7 +30,7 @@ module _ (names : VerifyNames) (before after : Outside) (status : ℕ) (found : 
   pub all-halted : (files : List StoredFile) → VerifyEnds names before after status found → before.files ≡ Some files → status ≡ 5 →
       ((why : Refusal) × (inputs_of files names.inputs ≡ Err (Refused why)) × IsSaid before after (refusal_line names.inputs why))
       ⊎ ((inputs : Inputs) × (inputs_of files names.inputs ≡ Ok inputs) × (bytes : List ℕ) × (bytes_of files names.transcript ≡ Some bytes)
-      × (file_limit < length bytes) × IsSaid before after (long_line names.transcript))
+      × (transcript_limit < length bytes) × IsSaid before after (long_line names.transcript))
   all-halted files (VerifyStopped s none) told five = inl (refused-cause names.inputs before after status files (Halted s) told five)
   all-halted files (VerifyStarved s) told five = let eight = s.status_is in absurd (omega arith)
   all-halted files (NotLoaded inputs are (Unloaded three rises absent said) none same) told five = absurd (omega arith)
@@ -49,7 +49,7 @@ module _ (names : VerifyNames) (before after : Outside) (status : ℕ) (found : 
   all-refuses_input files why (Sound inputs text rec are can held is of kept p) told err = absurd (not-both inputs (Refused why) (sym (are files told) ∙ err))
 
   pub all-refuses_long : (files : List StoredFile) (inputs : Inputs) (bytes : List ℕ) → VerifyEnds names before after status found → before.files ≡ Some files → inputs_of files names.inputs ≡ Ok inputs → bytes_of files names.transcript ≡ Some bytes →
-      file_limit < length bytes → IsOr 5 before status
+      transcript_limit < length bytes → IsOr 5 before status
   all-refuses_long files inputs bytes (VerifyStopped s none) told ok is more = halted-held names.inputs before after status 5 files inputs s told ok
   all-refuses_long files inputs bytes (VerifyStarved s) told ok is more = inr (inl s.status_is)
   all-refuses_long files inputs bytes (NotLoaded own are (Unloaded three rises absent said) none same) told ok is more = inr (inr (three, λ steady. no-text bytes (bytes_of files names.transcript) (absent files told steady) is))

@@ -1,4 +1,4 @@
--- How the program ends and what may be relied on, whatever the words ask for: an auction that goes on, a batch, or another command.
+-- How the program ends and what it promises, whatever the words ask for: `resume`, `batch` or another command.
 use Rattle.std.specs.Prelude.{◌≡◌, ℕ, Bool, true, false, List, [], Option, None, IsFalse, IsTrue}
 use Rattle.auction_core.specs.declared.record.Record.{Record}
 use Rattle.commands.specs.BatchEnds.{BatchEnds}
@@ -11,8 +11,8 @@ use Rattle.commands.specs.ResumeEnds.{ResumeEnds}
 use Rattle.auction_cmd.specs.ResumePromises.{ResumePromises}
 use Rattle.command_words.specs.Words.{BatchNames, ResumeNames, repeated_resume}
 
--- How the program ends. An auction goes on only where no output name is given twice, and it has no owners' file. The records of a
--- batch stand apart from the others; where there are some, there are no others.
+-- How the program ends. `resume` continues an auction only if no output name is repeated and no owners' file is named. The
+-- records of a batch are a separate list: a batch has no other record, and no other plan has that list.
 pub data ProgramEnds (plan : Plan) (before after : Outside) (status : ℕ) (found below : Option Record) (batch : List Record) : Type 0 where
   Single : Ends plan before after status found below → batch ≡ [] → ProgramEnds plan before after status found below batch
   Resumed : (names : ResumeNames) → plan ≡ resumes names → names.run_files.inputs.owners ≡ None → repeated_resume names ≡ None →
@@ -20,7 +20,7 @@ pub data ProgramEnds (plan : Plan) (before after : Outside) (status : ℕ) (foun
   Batched : (names : BatchNames) → plan ≡ batches names → BatchEnds names before after status batch → found ≡ None → below ≡ None →
       ProgramEnds plan before after status found below batch
 
--- the plan is a batch
+-- The plan is `batch`.
 abbrev pub is_batch : Plan → Bool
 is_batch no_command = false
 is_batch (repeats name) = false
@@ -34,7 +34,7 @@ is_batch (makes names) = false
 is_batch (exports names) = false
 is_batch (imports names) = false
 
--- the plan is to go on with an auction
+-- The plan is `resume`.
 abbrev pub is_resumption : Plan → Bool
 is_resumption no_command = false
 is_resumption (repeats name) = false
@@ -48,14 +48,14 @@ is_resumption (makes names) = false
 is_resumption (exports names) = false
 is_resumption (imports names) = false
 
--- what may be relied on
+-- What the program promises for every plan, by its status and its records.
 pub record ProgramPromises (plan : Plan) (before after : Outside) (status : ℕ) (found below : Option Record) (batch : List Record) : Type 0 where
-  -- of what is neither of these, and of all that isn't a batch, which has no records of one
+  -- For a plan that is neither `batch` nor `resume`, `Promises` holds. A plan other than `batch` has no records of a batch.
   pub single : IsFalse (is_batch plan) → IsFalse (is_resumption plan) → Promises plan before after status found below
   pub no_batch : IsFalse (is_batch plan) → batch ≡ []
-  -- of an auction that goes on, which has no second record
+  -- For `resume`, `ResumePromises` holds, and there is no second record.
   pub resume_promises : (names : ResumeNames) → plan ≡ resumes names → ResumePromises names before after status found
   pub no_below : IsTrue (is_resumption plan) → below ≡ None
-  -- of a batch, which has no others
+  -- For `batch`, `BatchPromises` holds, and there is no other record.
   pub batch_promises : (names : BatchNames) → plan ≡ batches names → BatchPromises names before after status batch
   pub no_others : IsTrue (is_batch plan) → (found ≡ None) × (below ≡ None)

@@ -10,8 +10,8 @@ use Rattle.commands.specs.declared.batch_inputs.Constraints.{Constraints}
 use Rattle.commands.specs.declared.batch_inputs.Listed.{Listed}
 use Rattle.commands.specs.declared.batch_run.Ran.{Ran}
 use Rattle.commands.specs.declared.inputs.Inputs.{Inputs}
-use Rattle.commands.specs.declared.inputs.Stop.{Stop}
-use Rattle.commands.specs.declared.inputs.Stop.TheVariants.{CannotRead, NoMemory, Refused}
+use Rattle.commands.specs.declared.input_file.Stop.{Stop}
+use Rattle.commands.specs.declared.input_file.Stop.TheVariants.{CannotRead, NoMemory, Refused}
 use Rattle.commands.specs.Batch.{BatchStop, Unread, Twice, ListedView, among, batch_of, each_inputs, unless_stopped, inputs_beside, listing_of, listed_seen, own_texts, names_in_words}
 use Rattle.command_words.specs.Words.{inputs_with}
 use Rattle.commands.specs.BatchEnds.{AreRecordsOf, CountsStop, EachOf, ExplainsStop, IsBatchStopped, IsReadingStopped, IsUnderList, IsUnderOneOf, StopsAsHeld, StopsUnder}

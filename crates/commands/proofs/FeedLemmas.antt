@@ -6,8 +6,8 @@ use Rattle.constraint_files.specs.Reads.{Reads}
 use Rattle.constraint_files.specs.declared.error.ReadErr.{ReadErr}
 use Rattle.constraint_files.specs.declared.error.ReadErr.TheVariants.{Row, NoMemory as NoRoom}
 use Rattle.command_words.specs.declared.run_words.Input.{Input}
-use Rattle.commands.specs.declared.inputs.Stop.{Stop}
-use Rattle.commands.specs.declared.inputs.Stop.TheVariants.{CannotRead, Refused, NoMemory}
+use Rattle.commands.specs.declared.input_file.Stop.{Stop}
+use Rattle.commands.specs.declared.input_file.Stop.TheVariants.{CannotRead, Refused, NoMemory}
 use Rattle.commands.specs.Inputs.{Agrees, and_then, refused_by, rows_read}
 use Rattle.commands.specs.Pieces.{IsFed, IsHandedOut}
 

@@ -5,8 +5,8 @@ use Rattle.pack_defs.specs.Lists.{is_in}
 use Rattle.outside_io.specs.Faults.{HasRisen}
 use Rattle.outside_io.specs.Files.{StoredFile}
 use Rattle.commands.specs.declared.inputs.Inputs.{Inputs}
-use Rattle.commands.specs.declared.inputs.Stop.{Stop}
-use Rattle.commands.specs.declared.inputs.Stop.TheVariants.{CannotRead, Refused, NoMemory}
+use Rattle.commands.specs.declared.input_file.Stop.{Stop}
+use Rattle.commands.specs.declared.input_file.Stop.TheVariants.{CannotRead, Refused, NoMemory}
 use Rattle.command_words.specs.declared.run_words.Input.{Input}
 use Rattle.commands.specs.declared.refusal.Refusal.{Refusal}
 use Rattle.commands.specs.Ends.{AreInputsOf, ExplainsHalt, IsHalted}

@@ -27,8 +27,8 @@ use Rattle.commands.specs.declared.inputs.Inputs.{Inputs}
 use Rattle.commands.specs.declared.sources.Sources.{Sources}
 use Rattle.command_words.specs.declared.run_words.Input.{Input}
 use Rattle.command_words.specs.declared.run_words.Input.TheVariants.{Domains, Rows, Scenario as ScenarioFile, Owners as OwnersFile}
-use Rattle.commands.specs.declared.inputs.Stop.{Stop}
-use Rattle.commands.specs.declared.inputs.Stop.TheVariants.{CannotRead}
+use Rattle.commands.specs.declared.input_file.Stop.{Stop}
+use Rattle.commands.specs.declared.input_file.Stop.TheVariants.{CannotRead}
 use Rattle.commands.specs.Inputs.{and_then, bytes_within, file_limit, file_of, inputs_by, inputs_from, inputs_of, live_inputs, owners_read, rows_read, said_in, scenario_read, sources_of, valued_of, with_said}
 use Rattle.commands.specs.Promises.{AreThere}
 use Rattle.command_words.specs.Words.{InputNames}

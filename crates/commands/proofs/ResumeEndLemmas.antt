@@ -42,7 +42,7 @@ use Rattle.commands.specs.Outside.{Outside}
 use Rattle.commands.specs.ResumeEnds.{IsResumable, ResumeEnds}
 use Rattle.commands.specs.ResumeEnds.ResumeEnds.{ResumeStarved, PrefixNotLoaded, NotBegun, WentOn}
 use Rattle.commands.specs.Resumption.{GoesOnFrom, IsResumption, StandsBehind, begun, begun_by, kept_or}
-use Rattle.commands.specs.Transcripts.{ExplainsDenied, ExplainsLoad, IsFileRead, not_read}
+use Rattle.commands.specs.Transcripts.{ExplainsDenied, ExplainsLoad, IsTextRead, not_read}
 use Rattle.commands.specs.Verified.{CanBeNamed}
 use Rattle.command_words.specs.Words.{ResumeNames, begun_names}
 use Rattle.commands.proofs.SaysLemmas.{rises-before}
@@ -76,7 +76,7 @@ unread-begun inputs text NoRoom is = tt
 -- the end where the beginning was not loaded
 pub prefix-unloaded : (names : ResumeNames) (before after : Outside) (status : ℕ) (found : Option Record) (inputs : Inputs) (why : LoadErr) (told : Option (List StoredFile)) (steady : Bool) (faults : ℕ) →
     AreInputsOf names.run_files.inputs before inputs → told ≡ before.files → steady ≡ before.steady → before.faults ≤ faults →
-    IsFileRead told steady faults after.faults names.prefix (Err why) →
+    IsTextRead inputs told steady faults after.faults names.prefix (Err why) →
     ExplainsLoad names.prefix why before.held after.held before.cuts after.cuts status →
     found ≡ None → after.files ≡ before.files → ResumeEnds names before after status found
 prefix-unloaded names before after status found inputs Failed told steady faults are is same kept h e none files =

@@ -26,8 +26,8 @@ use Rattle.scenario_json.proofs.StartLemmas.{only-starts}
 use Rattle.scenario_json.specs.Joined.{book_unless, first_missing, joined}
 use Rattle.target_seek.specs.Tops.{SeekBase, book_at, fits_at}
 use Rattle.commands.specs.declared.inputs.Inputs.{Inputs}
-use Rattle.commands.specs.declared.inputs.Stop.{Stop}
-use Rattle.commands.specs.declared.inputs.Stop.TheVariants.{CannotRead, NoMemory, Refused}
+use Rattle.commands.specs.declared.input_file.Stop.{Stop}
+use Rattle.commands.specs.declared.input_file.Stop.TheVariants.{CannotRead, NoMemory, Refused}
 use Rattle.commands.specs.declared.sources.Sources.{Sources}
 use Rattle.commands.specs.declared.tops.LeastTop.{LeastTop}
 use Rattle.commands.specs.Delivery.IsNotStored.{Unwritten, OutOfRoom as NoRoom}

@@ -10,7 +10,7 @@ use Rattle.outside_io.specs.declared.folder.LoadErr.TheVariants.{Failed, TooLong
 use Rattle.outside_io.proofs.PieceLaws.{begun-none, handed-all, handed-more}
 use Rattle.transcript_text.specs.Pieces.{HasRead, ReadSoFar}
 use Rattle.commands.specs.declared.inputs.Inputs.{Inputs}
-use Rattle.commands.specs.Inputs.{file_limit}
+use Rattle.commands.specs.Inputs.{transcript_limit}
 use Rattle.commands.specs.Transcripts.{IsTextRead}
 use Rattle.commands.proofs.SaysLemmas.{rises-before}
 
@@ -23,9 +23,9 @@ pub record IsReading (inputs : Inputs) (told : Option (List StoredFile)) (name :
 
 -- where the file is begun
 pub reading-begins : (inputs : Inputs) (told : Option (List StoredFile)) (name : List ℕ) (left : Option (List ℕ)) (come : ℕ) (read : ReadSoFar) (u : Unit {0}) → HasRead inputs.scenario inputs.book [] read
-    → Begins told name file_limit (Ok u) left → come ≡ 0 → IsReading inputs told name left come read
+    → Begins told name transcript_limit (Ok u) left → come ≡ 0 → IsReading inputs told name left come read
 reading-begins inputs told name left come read u empty begun none =
-    record { bytes = []; has_read = empty; handed = begun-none told name file_limit u left begun; so_many = none }
+    record { bytes = []; has_read = empty; handed = begun-none told name transcript_limit u left begun; so_many = none }
 
 -- each piece is read
 pub reading-goes-on : (inputs : Inputs) (told : Option (List StoredFile)) (name : List ℕ) (left after : Option (List ℕ)) (come now : ℕ) (piece : List ℕ) (read more : ReadSoFar) (u : Unit {0}) → IsReading inputs told name left come read
@@ -41,7 +41,7 @@ reading-goes-on inputs told name left after come now piece read more u r hands c
 
 -- a piece of no bytes ends the file
 pub reading-ends : (inputs : Inputs) (told : Option (List StoredFile)) (name : List ℕ) (left after : Option (List ℕ)) (come now most : ℕ) (piece : List ℕ) (read : ReadSoFar) (u : Unit {0}) (steady : Bool) (before faults : ℕ) → IsReading inputs told name left come read
-    → HandsOut left after (Ok u) piece → length piece ≡ 0 → now ≡ come + length piece → now ≤ most → most ≡ file_limit
+    → HandsOut left after (Ok u) piece → length piece ≡ 0 → now ≡ come + length piece → now ≤ most → most ≡ transcript_limit
     → IsTextRead inputs told steady before faults name (Ok read)
 reading-ends inputs told name left after come now most piece read u steady before faults r hands none counts within limit =
     let all = handed-all told name r.bytes piece left after u r.handed hands none in
@@ -61,14 +61,14 @@ abbrev failing : LoadErr → Result (Unit {0}) LoadErr
 failing why = Err why
 
 -- it isn't begun
-pub begin-fails : (inputs : Inputs) (told : Option (List StoredFile)) (name : List ℕ) (left : Option (List ℕ)) (steady : Bool) (before now : ℕ) (why : LoadErr) → Begins told name file_limit (Err why) left
+pub begin-fails : (inputs : Inputs) (told : Option (List StoredFile)) (name : List ℕ) (left : Option (List ℕ)) (steady : Bool) (before now : ℕ) (why : LoadErr) → Begins told name transcript_limit (Err why) left
     → (failing why ≡ Err Failed → HasRisen before now)
     → ((files : List StoredFile) (bytes : List ℕ) → steady ≡ true → told ≡ Some files → bytes_of files name ≡ Some bytes → failing why ≢ Err Failed)
     → IsTextRead inputs told steady before now name (Err why)
 begin-fails inputs told name left steady before now Failed begun rises surely =
     (rises refl, λ files at still. is-absent (bytes_of files name) (λ bytes is. surely files bytes still at is refl))
 begin-fails inputs told name left steady before now TooLong begun rises surely =
-    λ files at. is-long (bytes_of files name) file_limit left (subst (λ o. Begins o name file_limit (Err TooLong) left) at begun)
+    λ files at. is-long (bytes_of files name) transcript_limit left (subst (λ o. Begins o name transcript_limit (Err TooLong) left) at begun)
 begin-fails inputs told name left steady before now NoLoad begun rises surely = tt
 
 never-long : (files : List StoredFile) (name done : List ℕ) (left after : Option (List ℕ)) (piece : List ℕ) → HandedSoFar (Some files) name done left → HandsOut left after (Err TooLong) piece → ⊥

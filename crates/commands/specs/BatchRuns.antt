@@ -1,11 +1,11 @@
--- What came of an auction of a batch.
+-- The outcome of one auction of a batch.
 use Rattle.std.specs.Prelude.{◌≡◌, option_map}
 use Rattle.commands.specs.declared.batch_run.Ran.{Ran}
 use Rattle.commands.specs.declared.inputs.Inputs.{Inputs}
 use Rattle.commands.specs.Batch.{own_text}
 use Rattle.commands.specs.Records.{IsRecordBy}
 
--- the record is that of the auction of these inputs, and the text is that of its result, if there is one
+-- The record is of the auction of these inputs, and the text is that of its result, if it was completed.
 pub record IsRun (inputs : Inputs) (ran : Ran) : Type 0 where
   pub auction : IsRecordBy inputs ran.record ran.record.ending
   pub text : option_map (λ v. v.items) ran.result ≡ own_text inputs ran.record

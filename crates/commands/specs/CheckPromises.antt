@@ -1,4 +1,4 @@
--- What may be relied on of `check`, a clause each.
+-- What `check` promises, clause by clause.
 use Rattle.std.specs.Prelude.{◌≡◌, ◌≢◌, ◌⊎◌, ◌≤◌, ℕ, List, [], ◌∷◌, length, Option, Some, Ok, None, IsFalse}
 use Rattle.pack_defs.specs.Lists.{is_in}
 use Rattle.outside_io.specs.Faults.{HasRisen}
@@ -13,19 +13,22 @@ use Rattle.commands.specs.Statuses.{DONE, LEFT_OPEN, UNWRITTEN, START_UNFIT, STA
 use Rattle.commands.specs.VerifyPromises.{IsOr}
 use Rattle.command_words.specs.Words.{InputNames}
 
--- Of a folder that tells its files.
+-- What `check` promises where the folder's files are modelled.
 pub record ToldCheck (files : List StoredFile) (names : InputNames) (before after : Outside) (status : ℕ) : Type 0 where
-  -- At status 0 the inputs that the files hold were counted.
+  -- At status 0 the files hold accepted inputs, and the sink grew by their counts.
   pub counted : status ≡ DONE → (inputs : Inputs) × (inputs_of files names ≡ Ok inputs) × Writes before.held after.held (counts_text inputs) (Ok tt)
-  -- At status 4 the counts were written, or some of them from the first byte on. It never comes where the sink surely takes them.
+  -- At status 4 the inputs are accepted, and the sink's fault count rose. The sink grew by the counts or by some of them, from
+  -- the first byte on. The status is not 4 if the sink guarantees room for the counts.
   pub cut : status ≡ UNWRITTEN →
       (inputs : Inputs) × (inputs_of files names ≡ Ok inputs) × HasRisen before.cuts after.cuts × IsSaid before after (counts_text inputs)
   pub surely_counted : ((inputs : Inputs) → inputs_of files names ≡ Ok inputs → length (counts_text inputs) ≤ before.sure) → status ≢ UNWRITTEN
-  -- Accepted inputs are counted, but for want of memory and faults of the outside.
+  -- Accepted inputs end at status 0 or 4, unless memory ran out or an unsteady folder failed to read.
   pub counts : (inputs : Inputs) → inputs_of files names ≡ Ok inputs → IsOr DONE before status ⊎ (status ≡ UNWRITTEN)
 
+-- What `check` promises, by its status and its record.
 pub record CheckPromises (names : InputNames) (before after : Outside) (status : ℕ) (found : Option Record) : Type 0 where
+  -- Where the folder's files are modelled, `check` keeps the promises of `ToldCheck`.
   pub told : (files : List StoredFile) → before.files ≡ Some files → ToldCheck files names before after status
-  -- It has no record, and no status of an auction.
+  -- It has no record, and its status is not 1, 6, 7, 9 or 10.
   pub no_record : found ≡ None
   pub never : IsFalse (is_in (LEFT_OPEN ∷ START_UNFIT ∷ START_OPEN ∷ NOT_SHOWN ∷ NOT_SETTLED ∷ []) status)

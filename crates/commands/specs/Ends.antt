@@ -1,11 +1,12 @@
--- How the program ends: at which status, with which record, and what it leaves outside. How a batch ends is in `BatchEnds`.
+-- How the program ends: its status, its records, and what it leaves outside. `BatchEnds` says how a batch ends, and `ResumeEnds`
+-- how `resume` does.
 use Rattle.std.specs.Prelude.{◌≡◌, ◌<◌, ◌≤◌, ◌⊎◌, ℕ, true, List, [], ◌∷◌, length, Option, Some, None, Ok, Err}
 use Rattle.outside_io.specs.Faults.{HasRisen}
 use Rattle.outside_io.specs.Files.{StoredFile, bytes_of}
 use Rattle.outside_io.specs.Loads.{Writes}
 use Rattle.commands.specs.declared.inputs.Inputs.{Inputs}
-use Rattle.commands.specs.declared.inputs.Stop.{Stop}
-use Rattle.commands.specs.declared.inputs.Stop.TheVariants.{CannotRead, Refused, NoMemory}
+use Rattle.commands.specs.declared.input_file.Stop.{Stop}
+use Rattle.commands.specs.declared.input_file.Stop.TheVariants.{CannotRead, Refused, NoMemory}
 use Rattle.commands.specs.declared.fault.TranscriptFault.{TranscriptFault}
 use Rattle.commands.specs.declared.settling.StepFault.{StepFault}
 use Rattle.commands.specs.declared.sources.Sources.{Sources}
@@ -15,7 +16,7 @@ use Rattle.auction_core.specs.declared.record.Record.{Record}
 use Rattle.auction_core.specs.Backed.{undecided_of}
 use Rattle.commands.specs.Counts.{counts_text}
 use Rattle.commands.specs.Delivery.{AreAllStored, Delivers, IsNotStored, IsPrinted, IsStored, NamedText, StopsAtOne, named}
-use Rattle.commands.specs.Inputs.{Agrees, CountsFault, file_limit, inputs_of}
+use Rattle.commands.specs.Inputs.{Agrees, CountsFault, file_limit, inputs_of, transcript_limit}
 use Rattle.commands.specs.Made.{HasRun, made_inputs, made_texts}
 use Rattle.commands.specs.Outside.{Outside, IsSaid}
 use Rattle.commands.specs.Plan.{Plan, no_command, repeats, runs, checks, verifies, seeks, makes, exports, imports}
@@ -35,13 +36,13 @@ use Rattle.open_tests.specs.Queries.{step_numbered}
 use Rattle.open_tests.specs.Settling.{formula_text, settled_text}
 use Rattle.open_tests.specs.declared.settle.SettleErr.{SettleErr}
 
--- ---- the reading of the inputs
+-- ---- Reading the inputs
 
--- the inputs are what the files hold, where the folder tells them
+-- Where the folder's files are modelled, the files of these names hold these inputs.
 abbrev pub AreInputsOf : InputNames → Outside → Inputs → Type 0
 AreInputsOf names before inputs = (files : List StoredFile) → before.files ≡ Some files → inputs_of files names ≡ Ok inputs
 
--- the status and the line of what stopped the reading
+-- The status and the line for what stopped the reading: an unreadable file, a rejected input, or running out of memory.
 abbrev pub ExplainsHalt : InputNames → Stop → Option (List ℕ) → Option (List ℕ) → ℕ → ℕ → ℕ → Type 0
 ExplainsHalt names (CannotRead input) held held' cuts cuts' status =
     (status ≡ UNREAD) × Says held held' cuts cuts' (unread_line (name_of names input))
@@ -49,8 +50,8 @@ ExplainsHalt names (Refused why) held held' cuts cuts' status =
     (status ≡ REFUSED) × Says held held' cuts cuts' (refusal_line names why)
 ExplainsHalt names NoMemory held held' cuts cuts' status = (status ≡ NO_MEMORY) × Says held held' cuts cuts' memory_line
 
--- The reading of the inputs stopped: of a told folder, at what the files hold, but for want of memory, and for a folder
--- that isn't steady. The status and a line say so, and no file is touched.
+-- Reading the inputs stopped. Over modelled files it stopped at what they hold, unless memory ran out or an unsteady folder
+-- failed. The status and a line report the cause, the fault count rose only for an unreadable file, and no file changed.
 pub record IsHalted (names : InputNames) (before after : Outside) (status : ℕ) : Type 0 where
   pub stop : Stop
   pub told : (files : List StoredFile) → before.files ≡ Some files →
@@ -59,55 +60,56 @@ pub record IsHalted (names : InputNames) (before after : Outside) (status : ℕ)
   pub explains : ExplainsHalt names stop before.held after.held before.cuts after.cuts status
   pub files : after.files ≡ before.files
 
--- Memory ran out, and no file was touched: status 8 and its line.
+-- Memory ran out: status 8 and its line, no record, and no file changed.
 pub record IsStarved (before after : Outside) (status : ℕ) (found : Option Record) : Type 0 where
   pub status_is : status ≡ NO_MEMORY
   pub found_is : found ≡ None
   pub line : IsSaid before after memory_line
   pub files : after.files ≡ before.files
 
--- ---- the commands
+-- ---- The commands
 
--- the texts of a run's result, of its channels and of its transcript, each with its name, in the order in which they are stored
+-- A run's texts with their names, in the order in which they are stored: result, channels, transcript.
 abbrev pub output_texts : RunNames → List ℕ → List ℕ → List ℕ → List NamedText
 output_texts names result channels transcript =
     named names.result result ∷ named names.channels channels ∷ named names.transcript transcript ∷ []
 
--- what an auction stores whose rounds test in this order: the text of the result, that of the channels of the stations on air, and
--- that of the record's transcript
+-- What a run in this order stores of a completed auction: the result, the channels of the record's map, and the record's
+-- transcript.
 abbrev pub auction_texts : Order → RunNames → Inputs → Record → List NamedText
 auction_texts order names inputs rec =
     output_texts names (result_of order inputs (undecided_of rec.steps)) (channels_text rec.map)
     (transcript_text inputs.scenario inputs.book rec)
 
--- How the auction concludes of which this is the record, by these inputs and in this order: the start set doesn't fit, or its test
--- is left open, and nothing is stored; or the auction was carried through, and its three texts and its summary delivered, with the
--- tests left open that the record shows undecided. The record can then be written and read again, where the channels are those of
--- a file.
+-- How the auction of these inputs in this order concludes, with this record: start set unfit, start test undecided, or auction
+-- completed.
 pub data Concludes (order : Order) (names : RunNames) (inputs : Inputs) (rec : Record) (before after : Outside) (status : ℕ) (found : Option Record) : Type 0 where
+  -- If the start set doesn't fit or its test is undecided, no file changes.
   Unfit : IsRefutedRecordIn order inputs rec → status ≡ START_UNFIT → found ≡ Some rec → IsSaid before after unfit_line →
       after.files ≡ before.files → Concludes order names inputs rec before after status found
   StartOpen : IsOpenRecordIn order inputs rec → status ≡ START_OPEN → found ≡ Some rec → IsSaid before after open_line →
       after.files ≡ before.files → Concludes order names inputs rec before after status found
+  -- The three texts are stored and then the summary printed, up to the first failure. The record can be written and read again if
+  -- the channels are those of a file.
   Delivered : IsRecordIn order inputs rec → CanBeNamed inputs → IsHeld rec → found ≡ Some rec →
       Delivers (auction_texts order names inputs rec) (summary_in order inputs (undecided_of rec.steps))
       (done_status (undecided_of rec.steps)) before after status →
       Concludes order names inputs rec before after status found
 
--- memory ran out, or the auction concludes of which this is the record
+-- Memory ran out, or the auction concludes with this record.
 abbrev pub ConcludesUnlessStarved : Order → RunNames → Inputs → Record → Outside → Outside → ℕ → Option Record → Type 0
 ConcludesUnlessStarved order names inputs rec before after status found =
     IsStarved before after status found ⊎ Concludes order names inputs rec before after status found
 
--- How a run ends whose rounds test in this order: an input stopped it; memory ran out; or the auction of its inputs concludes.
+-- How a run in this order ends: an input stopped it, memory ran out, or the auction of its inputs concluded.
 pub data RunEnds (order : Order) (names : RunNames) (before after : Outside) (status : ℕ) (found : Option Record) : Type 0 where
   RunStopped : IsHalted names.inputs before after status → found ≡ None → RunEnds order names before after status found
   RunStarved : IsStarved before after status found → RunEnds order names before after status found
   Concluded : (inputs : Inputs) (rec : Record) → AreInputsOf names.inputs before inputs →
       Concludes order names inputs rec before after status found → RunEnds order names before after status found
 
--- How `check` ends: an input stopped it; memory ran out; or the counts were written, whole or no more than some of them.
--- It has no record and touches no file.
+-- How `check` ends: an input stopped it, memory ran out, it wrote the counts, or the sink failed at the counts. It has no record
+-- and changes no file.
 pub data CheckEnds (names : InputNames) (before after : Outside) (status : ℕ) (found : Option Record) : Type 0 where
   CheckStopped : IsHalted names before after status → found ≡ None → CheckEnds names before after status found
   CheckStarved : IsStarved before after status found → CheckEnds names before after status found
@@ -118,17 +120,16 @@ pub data CheckEnds (names : InputNames) (before after : Outside) (status : ℕ) 
       HasRisen before.cuts after.cuts → before.sure < length (counts_text inputs) →
       IsSaid before after (counts_text inputs) → after.files ≡ before.files → CheckEnds names before after status found
 
--- what is sought is what the files hold, where the folder tells them
+-- Where the folder's files are modelled, they hold these sources, and each station of the scenario has a domain row.
 abbrev pub AreSought : SeekNames → Outside → Sources → Type 0
 AreSought names before sources = (files : List StoredFile) → before.files ≡ Some files → seekable_of files (seek_inputs names) ≡ Ok sources
 
--- How `seek` ends: an input stopped it; memory ran out; at the scenario's own top channel the start set doesn't fit, or its test
--- is left open, and nothing is stored; or a top channel was found at which it fits, and the channels there stored and the top
--- printed. Beside its record there is that of one channel less, where it is above 14.
+-- How `seek` ends: an input stopped it, memory ran out, no top channel was found, or one was found.
 pub data SeekEnds (names : SeekNames) (before after : Outside) (status : ℕ) (found below : Option Record) : Type 0 where
   SeekStopped : IsHalted (seek_inputs names) before after status → found ≡ None → below ≡ None →
       SeekEnds names before after status found below
   SeekStarved : IsStarved before after status found → below ≡ None → SeekEnds names before after status found below
+  -- Up to the scenario's own top the start set doesn't fit or its test is undecided, and no file changes.
   NoTop : (sources : Sources) (rec : Record) → AreSought names before sources → IsSeekable (base_of sources) →
       IsRefutedRecordOf (inputs_at (base_of sources) sources.scenario.top) rec →
       status ≡ START_UNFIT → found ≡ Some rec → below ≡ None → IsSaid before after unfit_line → after.files ≡ before.files →
@@ -137,37 +138,43 @@ pub data SeekEnds (names : SeekNames) (before after : Outside) (status : ℕ) (f
       IsOpenRecordOf (inputs_at (base_of sources) sources.scenario.top) rec →
       status ≡ START_OPEN → found ≡ Some rec → below ≡ None → IsSaid before after open_line → after.files ≡ before.files →
       SeekEnds names before after status found below
+  -- The channels are stored and then the top printed, up to the first failure. The second record is of one channel less, if the
+  -- top is above 14.
   TopFound : (sources : Sources) (x : LeastTop) → AreSought names before sources → IsSeekable (base_of sources) →
       IsLeastTop (base_of sources) x →
       found ≡ Some x.rec → below ≡ x.below →
       Delivers (named names.channels (channels_text x.rec.map) ∷ []) (top_text x.top x.is_open) (top_status x.is_open) before after status →
       SeekEnds names before after status found below
 
--- The bytes are what the file of this name holds, where the folder tells it, and no more than a file may have.
+-- Where the folder's files are modelled, the file of this name holds exactly these bytes, no more than the limit.
+abbrev pub IsHeldWithin : ℕ → List ℕ → Outside → List ℕ → Type 0
+IsHeldWithin most name before text =
+    (files : List StoredFile) → before.files ≡ Some files → (bytes_of files name ≡ Some text) × (length text ≤ most)
+
+-- Where the folder's files are modelled, the file of this name holds these bytes, no more than an input file may have.
 abbrev pub IsFileHeld : List ℕ → Outside → List ℕ → Type 0
-IsFileHeld name before text =
-    (files : List StoredFile) → before.files ≡ Some files → (bytes_of files name ≡ Some text) × (length text ≤ file_limit)
+IsFileHeld name before text = IsHeldWithin file_limit name before text
 
--- so are those of the transcript
+-- Where the folder's files are modelled, the transcript's file holds these bytes, no more than a transcript may have.
 abbrev pub IsTextHeld : VerifyNames → Outside → List ℕ → Type 0
-IsTextHeld names before text = IsFileHeld names.transcript before text
+IsTextHeld names before text = IsHeldWithin transcript_limit names.transcript before text
 
--- The file of this name was not loaded: it can't be read, which for a steady folder says that it isn't there; or it is too
--- long. The line says so.
-pub data IsNotLoaded (name : List ℕ) (before after : Outside) (status : ℕ) : Type 0 where
+-- The file of this name was not loaded, and the line says so. Either it can't be read, and a steady folder doesn't have it; or it
+-- has more bytes than the limit.
+pub data IsNotLoaded (most : ℕ) (name : List ℕ) (before after : Outside) (status : ℕ) : Type 0 where
   Unloaded : status ≡ UNREAD → HasRisen before.faults after.faults →
       ((files : List StoredFile) → before.files ≡ Some files → before.steady ≡ true → bytes_of files name ≡ None) →
-      IsSaid before after (unread_line name) → IsNotLoaded name before after status
+      IsSaid before after (unread_line name) → IsNotLoaded most name before after status
   LongText : status ≡ REFUSED →
-      ((files : List StoredFile) → before.files ≡ Some files → (bytes : List ℕ) × (bytes_of files name ≡ Some bytes) × (file_limit < length bytes)) →
-      IsSaid before after (long_line name) → IsNotLoaded name before after status
+      ((files : List StoredFile) → before.files ≡ Some files → (bytes : List ℕ) × (bytes_of files name ≡ Some bytes) × (most < length bytes)) →
+      IsSaid before after (long_line name) → IsNotLoaded most name before after status
 
--- How `verify` ends: an input stopped it; memory ran out; the transcript was not loaded; its text is refused, or a step isn't
--- shown; or it is sound, and the result of its record was printed, whole or no more than some of it. No file is touched.
+-- How `verify` ends: an input stopped it, memory ran out, the transcript was not loaded, or the transcript is not sound.
+-- Otherwise the transcript is sound, and the result of its record was printed, or the sink failed at it. No file changes.
 pub data VerifyEnds (names : VerifyNames) (before after : Outside) (status : ℕ) (found : Option Record) : Type 0 where
   VerifyStopped : IsHalted names.inputs before after status → found ≡ None → VerifyEnds names before after status found
   VerifyStarved : IsStarved before after status found → VerifyEnds names before after status found
-  NotLoaded : (inputs : Inputs) → AreInputsOf names.inputs before inputs → IsNotLoaded names.transcript before after status →
+  NotLoaded : (inputs : Inputs) → AreInputsOf names.inputs before inputs → IsNotLoaded transcript_limit names.transcript before after status →
       found ≡ None → after.files ≡ before.files → VerifyEnds names before after status found
   NotSound : (inputs : Inputs) (text : List ℕ) (fault : TranscriptFault) → AreInputsOf names.inputs before inputs →
       CanBeNamed inputs → IsTextHeld names before text → verified inputs text ≡ Err fault → status ≡ NOT_SHOWN → found ≡ None →
@@ -178,7 +185,8 @@ pub data VerifyEnds (names : VerifyNames) (before after : Outside) (status : ℕ
       IsPrinted (result_of rec.order inputs (undecided_of rec.steps)) (done_status (undecided_of rec.steps)) before after status →
       VerifyEnds names before after status found
 
--- A transcript is sound: what is read and verified, and the record that it shows.
+-- The transcript beside these inputs is sound and shows this record of a completed auction. Where the folder's files are
+-- modelled, they hold the inputs and the transcript.
 pub record IsShown (names : VerifyNames) (before : Outside) (inputs : Inputs) (rec : Record) : Type 0 where
   pub accepted : AreInputsOf names.inputs before inputs
   pub named : CanBeNamed inputs
@@ -187,8 +195,8 @@ pub record IsShown (names : VerifyNames) (before : Outside) (inputs : Inputs) (r
   pub sound : verified inputs text ≡ Ok rec
   pub own : IsRecordIn rec.order inputs rec
 
--- How `export` ends: as `verify` does where there is no record; memory ran out; the record has no step of this number; or the
--- formula of its set was stored, or not. Nothing is printed, and there is no record.
+-- How `export` ends: as `verify` without a record, out of memory, without a step of this number, or with the formula stored or
+-- not. It has no record, and prints nothing where the formula was stored.
 pub data ExportEnds (names : ExportNames) (before after : Outside) (status : ℕ) (found : Option Record) : Type 0 where
   Unshown : VerifyEnds names.shown before after status found → found ≡ None → ExportEnds names before after status found
   ExportStarved : IsStarved before after status found → ExportEnds names before after status found
@@ -204,32 +212,34 @@ pub data ExportEnds (names : ExportNames) (before after : Outside) (status : ℕ
       IsNotStored (named names.formula (formula_text inputs.book rec names.step)) before after status →
       ExportEnds names before after status found
 
--- the texts of an import's result and transcript, each with its name, in the order in which they are stored
+-- The texts of an import with their names, in the order in which they are stored: result, transcript.
 abbrev pub pair_of_texts : ImportNames → List ℕ → List ℕ → List NamedText
 pair_of_texts names result transcript = named names.result result ∷ named names.transcript transcript ∷ []
 
--- what an import stores: the text of the result and that of the transcript, of the record with the step settled
+-- What an import stores of the record with the settled step: the result and the transcript.
 abbrev pub import_texts : ImportNames → Inputs → Record → List NamedText
 import_texts names inputs rec =
     pair_of_texts names (result_of rec.order inputs (undecided_of rec.steps)) (transcript_text inputs.scenario inputs.book rec)
 
--- How `import` ends: as `verify` does where there is no record; memory ran out; the record has no step of this number, or it isn't
--- undecided; the log was not loaded; its text is refused, or it doesn't refute the step's set; or the step is settled by it, and
--- the two texts of the new record and its summary delivered. The new record can be written and read again, where the channels
--- are those of a file.
+-- How `import` ends: as `verify` without a record, out of memory, without settling the step, or with the step settled. If the
+-- step is settled, the new record's two texts are stored and then its summary printed, up to the first failure.
 pub data ImportEnds (names : ImportNames) (before after : Outside) (status : ℕ) (found : Option Record) : Type 0 where
   NothingShown : VerifyEnds names.shown before after status found → found ≡ None → ImportEnds names before after status found
   ImportStarved : IsStarved before after status found → ImportEnds names before after status found
+  -- The step doesn't exist or isn't undecided.
   NoOpenStep : (inputs : Inputs) (rec : Record) (fault : StepFault) → IsShown names.shown before inputs rec →
       open_fault (step_numbered rec.steps names.step) ≡ Some fault → status ≡ NOT_SETTLED → found ≡ None →
       IsSaid before after (step_line names.step fault) → after.files ≡ before.files → ImportEnds names before after status found
+  -- The log was not loaded.
   NoLog : (inputs : Inputs) (rec : Record) → IsShown names.shown before inputs rec →
-      open_fault (step_numbered rec.steps names.step) ≡ None → IsNotLoaded names.proof before after status →
+      open_fault (step_numbered rec.steps names.step) ≡ None → IsNotLoaded file_limit names.proof before after status →
       found ≡ None → after.files ≡ before.files → ImportEnds names before after status found
+  -- The log is rejected, or it doesn't refute the step's set.
   NotSettled : (inputs : Inputs) (rec : Record) (log : List ℕ) (fault : SettleErr) → IsShown names.shown before inputs rec →
       open_fault (step_numbered rec.steps names.step) ≡ None → IsFileHeld names.proof before log →
       settled_text inputs.book rec names.step log ≡ Err fault → status ≡ NOT_SETTLED → found ≡ None →
       IsSaid before after (unsettled_line names.proof fault) → after.files ≡ before.files → ImportEnds names before after status found
+  -- The new record can be written and read again if the channels are those of a file.
   Settled : (inputs : Inputs) (rec : Record) (log : List ℕ) (new : Record) → IsShown names.shown before inputs rec →
       open_fault (step_numbered rec.steps names.step) ≡ None → IsFileHeld names.proof before log →
       settled_text inputs.book rec names.step log ≡ Ok new → IsRecordIn new.order inputs new → IsHeld new → found ≡ Some new →
@@ -237,8 +247,8 @@ pub data ImportEnds (names : ImportNames) (before after : Outside) (status : ℕ
       (done_status (undecided_of new.steps)) before after status →
       ImportEnds names before after status found
 
--- How `make` ends: memory ran out before anything was stored; a store was not done; the three files are stored, and memory ran
--- out behind them; or their auction was carried out, and its summary printed, whole or no more than some of it.
+-- How `make` ends: memory ran out before any store, a store was not done, or all three files are stored. In the last case memory
+-- ran out, or the auction was completed and its summary printed, or the sink failed at the summary.
 pub data MakeEnds (names : MakeNames) (before after : Outside) (status : ℕ) (found : Option Record) : Type 0 where
   MakeStarved : IsStarved before after status found → MakeEnds names before after status found
   MakeStopped : StopsAtOne (made_texts names) before after status → found ≡ None → MakeEnds names before after status found
@@ -249,27 +259,31 @@ pub data MakeEnds (names : MakeNames) (before after : Outside) (status : ℕ) (f
       IsPrinted summary (done_status (undecided_of rec.steps)) between after status →
       MakeEnds names before after status found
 
--- How the program ends, by what the words ask for, but for a batch and an auction that goes on. Before their command is known,
--- memory may run out. Where no command is carried out the folder isn't asked for anything. An auction is run only where no output
--- name is given twice, and made only where no name is. No step is settled of a live auction. `seek` alone has a second record.
+-- How the program ends for every plan except `batch` and `resume`: memory ran out, no command was carried out, or the command
+-- ended.
 pub data Ends (plan : Plan) (before after : Outside) (status : ℕ) (found below : Option Record) : Type 0 where
+  -- Memory may run out before the plan is known.
   Starved : IsStarved before after status found → after.faults ≡ before.faults → below ≡ None → Ends plan before after status found below
+  -- Where no command is carried out, no file changes, and neither does the folder's fault count.
   Usage : (text : List ℕ) → plan ≡ no_command → status ≡ NO_COMMAND → found ≡ None → IsSaid before after text →
       after.files ≡ before.files → after.faults ≡ before.faults → below ≡ None → Ends plan before after status found below
   Repeated : (name : List ℕ) → plan ≡ repeats name → status ≡ REFUSED → found ≡ None →
       IsSaid before after (twice_line name) → after.files ≡ before.files → after.faults ≡ before.faults → below ≡ None →
       Ends plan before after status found below
+  -- A run is carried out only if no output name is repeated; the same holds for each command that stores files.
   Ran : (names : RunNames) → plan ≡ runs names → repeated_output names ≡ None → RunEnds run_order names before after status found → below ≡ None →
       Ends plan before after status found below
   Checked : (names : InputNames) → plan ≡ checks names → CheckEnds names before after status found → below ≡ None →
       Ends plan before after status found below
   Verified : (names : VerifyNames) → plan ≡ verifies names → VerifyEnds names before after status found → below ≡ None →
       Ends plan before after status found below
+  -- Only `seek` has a second record.
   Sought : (names : SeekNames) → plan ≡ seeks names → repeated_seek names ≡ None → SeekEnds names before after status found below →
       Ends plan before after status found below
   Made : (names : MakeNames) → plan ≡ makes names → repeated_made names ≡ None → MakeEnds names before after status found → below ≡ None →
       Ends plan before after status found below
   Exported : (names : ExportNames) → plan ≡ exports names → repeated_export names ≡ None → ExportEnds names before after status found → below ≡ None →
       Ends plan before after status found below
+  -- No step of a live auction is settled.
   Imported : (names : ImportNames) → plan ≡ imports names → names.shown.inputs.owners ≡ None → repeated_import names ≡ None → ImportEnds names before after status found → below ≡ None →
       Ends plan before after status found below

@@ -1,4 +1,4 @@
--- What may be relied on of `export`, a clause each.
+-- What `export` promises, clause by clause.
 use Rattle.std.specs.Prelude.{◌≡◌, ◌≢◌, ◌⊎◌, ◌<◌, ℕ, true, List, [], ◌∷◌, length, Option, Some, None, Ok, Err, IsTrue, MatchOption}
 use Rattle.pack_defs.specs.Lists.{is_in}
 use Rattle.outside_io.specs.Faults.{HasRisen}
@@ -9,11 +9,11 @@ use Rattle.open_tests.specs.Queries.{step_numbered}
 use Rattle.open_tests.specs.Settling.{formula_text}
 use Rattle.commands.specs.declared.fault.TranscriptFault.{TranscriptFault}
 use Rattle.commands.specs.declared.inputs.Inputs.{Inputs}
-use Rattle.commands.specs.declared.inputs.Stop.TheVariants.{Refused}
+use Rattle.commands.specs.declared.input_file.Stop.TheVariants.{Refused}
 use Rattle.commands.specs.declared.refusal.Refusal.{Refusal}
 use Rattle.commands.specs.declared.settling.StepFault.TheVariants.{NoSuchStep}
 use Rattle.commands.specs.Delivery.{AllOthersStand, AreStored, named}
-use Rattle.commands.specs.Inputs.{file_limit, inputs_of}
+use Rattle.commands.specs.Inputs.{inputs_of, transcript_limit}
 use Rattle.commands.specs.Outside.{Outside, IsSaid}
 use Rattle.commands.specs.Says.{unwritten_line}
 use Rattle.commands.specs.Settling.{step_line}
@@ -22,7 +22,7 @@ use Rattle.commands.specs.Verified.{verified}
 use Rattle.commands.specs.VerifyPromises.{IsGiven, IsOr, VerifyPromises}
 use Rattle.command_words.specs.Words.{ExportNames, VerifyNames}
 
--- the transcript that the files hold is sound, and its record has this step or none
+-- The transcript that the files hold is sound, and its record's step of this number is `there`, which may be none.
 pub record IsStepAsked (files : List StoredFile) (names : VerifyNames) (step : ℕ) (there : Option Step) : Type 0 where
   pub inputs : Inputs
   pub text : List ℕ
@@ -31,24 +31,30 @@ pub record IsStepAsked (files : List StoredFile) (names : VerifyNames) (step : �
   pub shown : verified inputs text ≡ Ok rec
   pub at : step_numbered rec.steps step ≡ there
 
+-- What `export` promises, by its status.
 pub record ExportPromises (names : ExportNames) (before after : Outside) (status : ℕ) (found : Option Record) : Type 0 where
+  -- The status is 0, 3, 4, 5, 8, 9 or 10.
   pub statuses : IsTrue (is_in (DONE ∷ UNREAD ∷ UNWRITTEN ∷ REFUSED ∷ NO_MEMORY ∷ NOT_SHOWN ∷ NOT_SETTLED ∷ []) status)
-  -- It has no record, and at 0 nothing is printed.
+  -- It has no record, and at status 0 it prints nothing.
   pub unrecorded : found ≡ None
   pub silent : status ≡ DONE → after.held ≡ before.held
-  -- At 0 the transcript is sound, its record has the step, and the file holds the packing formula of the stations that the step
-  -- asked about. All other files stand, whatever the status.
+  -- Over modelled files, at status 0 the transcript is sound and its record has the step. The formula's file then holds the
+  -- packing formula of the stations that the step asked about. Over modelled files no other file changes, whatever the status. At
+  -- 3, 5, 9 and 10 no file changes.
   pub done : (files : List StoredFile) → before.files ≡ Some files → status ≡ DONE →
       (x : Step) × (a : IsStepAsked files names.shown names.step (Some x))
       × MatchOption after.files ⊥ (λ new. AreStored files new (named names.formula (formula_text a.inputs.book a.rec names.step) ∷ []))
   pub others : (files : List StoredFile) → before.files ≡ Some files →
       MatchOption after.files ⊥ (λ new. AllOthersStand files new (names.formula ∷ []))
   pub untouched : IsTrue (is_in (UNREAD ∷ REFUSED ∷ NOT_SHOWN ∷ NOT_SETTLED ∷ []) status) → after.files ≡ before.files
-  -- Status 10 comes exactly where the record of a sound transcript has no such step, and the line says so.
+  -- Over modelled files, at status 10 the record of the sound transcript has no step of this number, and the line says so. A
+  -- missing step ends at status 10, unless memory ran out or an unsteady folder failed to read.
   pub missing : (files : List StoredFile) → before.files ≡ Some files → status ≡ NOT_SETTLED →
       IsStepAsked files names.shown names.step None × IsSaid before after (step_line names.step NoSuchStep)
   pub misses : (files : List StoredFile) → before.files ≡ Some files → IsStepAsked files names.shown names.step None → IsOr NOT_SETTLED before status
-  -- At 3, 5 and 9 it ended as `verify` ends, and where `verify` would end so it does.
+  -- At 3, 5 and 9 the promises of `verify` hold. Over modelled files, a transcript that is not sound ends at 9, and an input that
+  -- is too long or rejected ends at 5. If the inputs are accepted, a transcript that is too long ends at 5 too. Otherwise memory
+  -- ran out, or an unsteady folder failed to read.
   pub as_verify : IsTrue (is_in (UNREAD ∷ REFUSED ∷ NOT_SHOWN ∷ []) status) → VerifyPromises names.shown before after status found
   pub refuses : (files : List StoredFile) (inputs : Inputs) (text : List ℕ) (fault : TranscriptFault) →
       before.files ≡ Some files → IsGiven files names.shown inputs text → verified inputs text ≡ Err fault → IsOr NOT_SHOWN before status
@@ -56,12 +62,13 @@ pub record ExportPromises (names : ExportNames) (before after : Outside) (status
       before.files ≡ Some files → inputs_of files names.shown.inputs ≡ Err (Refused why) → IsOr REFUSED before status
   pub refuses_long : (files : List StoredFile) (inputs : Inputs) (bytes : List ℕ) →
       before.files ≡ Some files → inputs_of files names.shown.inputs ≡ Ok inputs → bytes_of files names.shown.transcript ≡ Some bytes →
-      file_limit < length bytes → IsOr REFUSED before status
-  -- Status 4 comes only where the store failed, of a folder that isn't steady, of a step of a sound transcript, and the line
-  -- names the file.
+      transcript_limit < length bytes → IsOr REFUSED before status
+  -- At status 4 the folder is not steady, its fault count rose, and the line names the formula's file. Over modelled files the
+  -- transcript is then sound, and its record has the step.
   pub unwritten : status ≡ UNWRITTEN → HasRisen before.faults after.faults × (before.steady ≢ true) × IsSaid before after (unwritten_line names.formula)
   pub unstored : (files : List StoredFile) → before.files ≡ Some files → status ≡ UNWRITTEN →
       (x : Step) × IsStepAsked files names.shown names.step (Some x)
-  -- Of a sound transcript each step's formula is stored, but for want of memory and faults of the outside.
+  -- Over modelled files, the export of a step of a sound transcript ends at status 0 or 4. Otherwise memory ran out, or an
+  -- unsteady folder failed to read.
   pub complete : (files : List StoredFile) (x : Step) → before.files ≡ Some files → IsStepAsked files names.shown names.step (Some x) →
       IsOr DONE before status ⊎ (status ≡ UNWRITTEN)

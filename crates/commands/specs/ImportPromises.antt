@@ -1,4 +1,4 @@
--- What may be relied on of `import`, a clause each.
+-- What `import` promises, clause by clause.
 use Rattle.std.specs.Prelude.{Contains, ◌≡◌, ◌≢◌, ◌⊎◌, ◌<◌, ◌≤◌, ℕ, true, List, [], ◌∷◌, length, map, Option, Some, None, Ok, Err, IsSome, IsTrue, MatchOption}
 use Rattle.pack_defs.specs.Lists.{is_in}
 use Rattle.pack_defs.specs.ClockRule.{ClockTest, FrozenAt}
@@ -19,12 +19,12 @@ use Rattle.open_tests.specs.Settling.{settled_text}
 use Rattle.open_tests.specs.declared.settle.SettleErr.{SettleErr}
 use Rattle.commands.specs.declared.fault.TranscriptFault.{TranscriptFault}
 use Rattle.commands.specs.declared.inputs.Inputs.{Inputs}
-use Rattle.commands.specs.declared.inputs.Stop.TheVariants.{Refused}
+use Rattle.commands.specs.declared.input_file.Stop.TheVariants.{Refused}
 use Rattle.commands.specs.declared.refusal.Refusal.{Refusal}
 use Rattle.commands.specs.declared.settling.StepFault.{StepFault}
 use Rattle.commands.specs.Delivery.{AllOthersStand, AreStored, AreStoredUpTo, NamedText}
 use Rattle.commands.specs.Ends.{AreInputsOf, IsNotLoaded, IsShown, import_texts}
-use Rattle.commands.specs.Inputs.{file_limit, inputs_of}
+use Rattle.commands.specs.Inputs.{file_limit, inputs_of, transcript_limit}
 use Rattle.commands.specs.Outside.{Outside, IsSaid}
 use Rattle.commands.specs.Records.{IsRecordIn, done_status, outcome, summary_in}
 use Rattle.commands.specs.Says.{unread_line, unwritten_line}
@@ -34,7 +34,7 @@ use Rattle.commands.specs.Verified.{verified}
 use Rattle.commands.specs.VerifyPromises.{AreAllThere, IsGiven, IsOr, VerifyPromises}
 use Rattle.command_words.specs.Words.{ImportNames, VerifyNames}
 
--- the transcript that the files hold is sound
+-- The transcript that the files hold is sound.
 pub record IsSoundIn (files : List StoredFile) (names : VerifyNames) : Type 0 where
   pub inputs : Inputs
   pub text : List ℕ
@@ -42,15 +42,13 @@ pub record IsSoundIn (files : List StoredFile) (names : VerifyNames) : Type 0 wh
   pub rec : Record
   pub shown : verified inputs text ≡ Ok rec
 
--- the file of this name holds these bytes of a log, and no more than a file may have
+-- The file of this name holds these bytes of a log, no more than an input file may have.
 pub record IsLogIn (files : List StoredFile) (name log : List ℕ) : Type 0 where
   pub told : bytes_of files name ≡ Some log
   pub within : length log ≤ file_limit
 
--- A step that the record of a sound transcript shows undecided is settled by the log that a file holds, and the record has the
--- step shown by that proof. The new record is one of the inputs' auction; it leaves the tests open that the old one left, without
--- the step's. The rows of its result are the old ones, that test's undecided made frozen. Whoever verifies its transcript beside
--- the same inputs gets it.
+-- A step that a sound transcript's record shows undecided is settled by the log that a file holds. The new record is of the
+-- auction of the inputs, and shows the step by that proof.
 pub record IsSettledStep (files : List StoredFile) (names : ImportNames) (found : Option Record) : Type 0 where
   pub sound : IsSoundIn files names.shown
   pub step : Step
@@ -62,46 +60,51 @@ pub record IsSettledStep (files : List StoredFile) (names : ImportNames) (found 
   pub settled : settled_text sound.inputs.book sound.rec names.step log ≡ Ok new
   pub recorded : found ≡ Some new
   pub auction : IsRecordIn new.order sound.inputs new
+  -- The undecided tests are the old ones without the step's test.
   pub left : undecided_of new.steps ≡ without_test (test_of step) (undecided_of sound.rec.steps)
+  -- The rows of the result are the old ones, with that test's row changed from undecided to frozen.
   pub rows : result_rows sound.inputs.scenario (outcome new.order sound.inputs (undecided_of new.steps)) (undecided_of new.steps)
       ≡ map (decided_row (test_of step))
       (result_rows sound.inputs.scenario (outcome sound.rec.order sound.inputs (undecided_of sound.rec.steps)) (undecided_of sound.rec.steps))
+  -- Verifying the new record's transcript beside the same inputs returns the new record.
   pub verifiable : verified sound.inputs (transcript_text sound.inputs.scenario sound.inputs.book new) ≡ Ok new
 
--- the texts of the new record, and its summary
+-- The texts of the new record's result and transcript, with their names.
 abbrev pub new_texts : {files : List StoredFile} {names : ImportNames} {found : Option Record} → IsSettledStep files names found → List NamedText
 new_texts {files} {names} one = import_texts names one.sound.inputs one.new
 
+-- The text of the new record's summary.
 abbrev pub new_summary : {files : List StoredFile} {names : ImportNames} {found : Option Record} → IsSettledStep files names found → List ℕ
 new_summary one = summary_in one.new.order one.sound.inputs (undecided_of one.new.steps)
 
--- RESULT and NEWTRANSCRIPT hold their texts, and all other files stand
+-- RESULT and NEWTRANSCRIPT hold the new record's texts, and all other files are unchanged.
 abbrev pub AreNewStored : {files : List StoredFile} {names : ImportNames} {found : Option Record} → IsSettledStep files names found → Outside → Type 0
 AreNewStored {files} one after = MatchOption after.files ⊥ (λ now. AreStored files now (new_texts one))
 
--- the step is settled, both texts stored, and the sink grew by the summary
+-- The step is settled, both texts are stored, and the sink grew by the summary. The status is 0 if no test is undecided, else 1.
 pub record IsImported (files : List StoredFile) (names : ImportNames) (before after : Outside) (status : ℕ) (found : Option Record) : Type 0 where
   pub one : IsSettledStep files names found
   pub stored : AreNewStored one after
   pub summary : Writes before.held after.held (new_summary one) (Ok tt)
   pub status_is : status ≡ done_status (undecided_of one.new.steps)
 
--- A store of a settled step's record was not done: the text before it stands under its name, that name may hold anything, and
--- all other files are what they were.
+-- The step is settled, and its two texts are stored only up to one name. The text before it, if there is one, is stored; that
+-- name may hold anything or be gone; and all other files are unchanged.
 pub record IsImportedUpTo (files : List StoredFile) (names : ImportNames) (after : Outside) (found : Option Record) : Type 0 where
   pub one : IsSettledStep files names found
   pub now : List StoredFile
   pub now_told : after.files ≡ Some now
   pub part : AreStoredUpTo files now (new_texts one)
 
--- the store failed, of a folder that isn't steady, and the line names the file
+-- A store failed in a folder that isn't steady, and its fault count rose. The line names the file.
 pub record IsUnimported (files : List StoredFile) (names : ImportNames) (before after : Outside) (found : Option Record) : Type 0 where
   pub risen : HasRisen before.faults after.faults
   pub unsteady : before.steady ≢ true
   pub upto : IsImportedUpTo files names after found
   pub line : IsSaid before after (unwritten_line upto.part.failed.name)
 
--- Both texts are stored, and the summary was not written, or no more than some of it: the sink was not sure of it.
+-- The step is settled and both texts are stored, but the sink failed at the summary, for which it did not guarantee room. The
+-- sink grew by the summary or by some of it, from the first byte on.
 pub record IsUnsummed (files : List StoredFile) (names : ImportNames) (before after : Outside) (found : Option Record) : Type 0 where
   pub one : IsSettledStep files names found
   pub stored : AreNewStored one after
@@ -109,37 +112,40 @@ pub record IsUnsummed (files : List StoredFile) (names : ImportNames) (before af
   pub unsure : before.sure < length (new_summary one)
   pub summary : IsSaid before after (new_summary one)
 
--- the log of an undecided step of a sound transcript was not loaded
+-- The step of a sound transcript is undecided, and its log was not loaded.
 pub record IsUnlogged (names : ImportNames) (before after : Outside) (status : ℕ) : Type 0 where
   pub inputs : Inputs
   pub rec : Record
   pub shown : IsShown names.shown before inputs rec
   pub open_before : open_fault (step_numbered rec.steps names.step) ≡ None
-  pub unloaded : IsNotLoaded names.proof before after status
+  pub unloaded : IsNotLoaded file_limit names.proof before after status
 
+-- What `import` promises, by its status and its record.
 pub record ImportPromises (names : ImportNames) (before after : Outside) (status : ℕ) (found : Option Record) : Type 0 where
+  -- The status is 0, 1, 3, 4, 5, 8, 9 or 10.
   pub statuses : IsTrue (is_in (DONE ∷ LEFT_OPEN ∷ UNREAD ∷ UNWRITTEN ∷ REFUSED ∷ NO_MEMORY ∷ NOT_SHOWN ∷ NOT_SETTLED ∷ []) status)
-  -- At 0 and 1 the step is settled: 0 exactly where no other test is left open.
+  -- Over modelled files, at status 0 and 1 the step is settled: 0 exactly if no other test is undecided.
   pub done : (files : List StoredFile) → before.files ≡ Some files → IsTrue (is_in (DONE ∷ LEFT_OPEN ∷ []) status) →
       IsImported files names before after status found
-  -- At 0, 1 and 4 there is a record, one of the auction of the inputs, also where the folder tells nothing; at 3, 5, 9 and 10 there
-  -- is none.
+  -- At 0, 1 and 4 there is a record of a completed auction of the inputs, also where the folder's files are not modelled. At 3,
+  -- 5, 9 and 10 there is none.
   pub recorded : IsTrue (is_in (DONE ∷ LEFT_OPEN ∷ UNWRITTEN ∷ []) status) →
       (inputs : Inputs) × (rec : Record) × AreInputsOf names.shown.inputs before inputs × (found ≡ Some rec) × IsRecordIn rec.order inputs rec
   pub unrecorded : IsTrue (is_in (UNREAD ∷ REFUSED ∷ NOT_SHOWN ∷ NOT_SETTLED ∷ []) status) → found ≡ None
-  -- Also where the folder tells nothing, the sink grew at 0 and 1 by the summary of the record, and the status is 0 exactly
-  -- where no test was left open.
+  -- This clause also holds where the folder's files are not modelled. At 0 and 1 the sink grew by the summary of the record, and
+  -- the status is 0 exactly if no test is undecided.
   pub summed : IsTrue (is_in (DONE ∷ LEFT_OPEN ∷ []) status) →
       (inputs : Inputs) × (rec : Record) × (found ≡ Some rec) × IsRecordIn rec.order inputs rec
       × (status ≡ done_status (undecided_of rec.steps))
       × Writes before.held after.held (summary_in rec.order inputs (undecided_of rec.steps)) (Ok tt)
-  -- Where every test is decided then, each station that is bought is paid the greatest admissible value with which it would have
-  -- been bought, by the rule in the transcript's order.
+  -- At status 0 over modelled files, each bought station is paid its threshold price. This is the greatest admissible value with
+  -- which it would have been bought, by the rule in the transcript's order.
   pub paid : (files : List StoredFile) (inputs : Inputs) (rec : Record) (f : FrozenAt) → before.files ≡ Some files →
       inputs_of files names.shown.inputs ≡ Ok inputs → found ≡ Some rec → status ≡ DONE →
       Contains (outcome rec.order inputs []).frozen f → IsThresholdPrice inputs.scenario inputs.book rec.order f.station f.price
-  -- Status 10 comes exactly where, of a sound transcript, there is no such step or it isn't undecided, or where it is and the text
-  -- of the log is refused, or the log doesn't refute the step's set. The line says which.
+  -- Over modelled files, at status 10 the transcript is sound and the line gives the reason. The step doesn't exist or isn't
+  -- undecided. Or the step is undecided, and the log's text is rejected or doesn't refute the step's set. Each of these reasons
+  -- ends at status 10, unless memory ran out or an unsteady folder failed to read.
   pub refused : (files : List StoredFile) → before.files ≡ Some files → status ≡ NOT_SETTLED →
       (s : IsSoundIn files names.shown) × (
       ((fault : StepFault) × (open_fault (step_numbered s.rec.steps names.step) ≡ Some fault) × IsSaid before after (step_line names.step fault))
@@ -150,13 +156,16 @@ pub record ImportPromises (names : ImportNames) (before after : Outside) (status
   pub refuses_log : (files : List StoredFile) (s : IsSoundIn files names.shown) (log : List ℕ) (fault : SettleErr) →
       before.files ≡ Some files → open_fault (step_numbered s.rec.steps names.step) ≡ None → IsLogIn files names.proof log →
       settled_text s.inputs.book s.rec names.step log ≡ Err fault → IsOr NOT_SETTLED before status
-  -- A log that settles an undecided step of a sound transcript is taken, but for want of memory and faults of the outside.
+  -- Over modelled files, if the log settles an undecided step of a sound transcript, the status is 0, 1 or 4. It is 0 or 1 by the
+  -- new record's undecided tests. Otherwise memory ran out, or an unsteady folder failed to read.
   pub complete : (files : List StoredFile) (s : IsSoundIn files names.shown) (log : List ℕ) (new : Record) →
       before.files ≡ Some files → open_fault (step_numbered s.rec.steps names.step) ≡ None → IsLogIn files names.proof log →
       settled_text s.inputs.book s.rec names.step log ≡ Ok new →
       IsOr (done_status (undecided_of new.steps)) before status ⊎ (status ≡ UNWRITTEN)
-  -- At 9 it ended as `verify` ends, and at 3 and 5 too, or since the log was not loaded, of a sound transcript and an undecided
-  -- step. Where `verify` would end so it does.
+  -- At 9 the promises of `verify` hold. At 3 and 5 they hold, or the transcript is sound, its step is undecided, and the log was
+  -- not loaded. Over modelled files, a transcript that is not sound ends at 9. An input that is too long or rejected ends at 5. A
+  -- transcript or a log that is too long, if the reading comes to it, ends at 5. Otherwise memory ran out, or an unsteady folder
+  -- failed to read.
   pub as_verify : status ≡ NOT_SHOWN → VerifyPromises names.shown before after status found
   pub unloaded : IsTrue (is_in (UNREAD ∷ REFUSED ∷ []) status) →
       VerifyPromises names.shown before after status found ⊎ IsUnlogged names before after status
@@ -166,25 +175,27 @@ pub record ImportPromises (names : ImportNames) (before after : Outside) (status
       before.files ≡ Some files → inputs_of files names.shown.inputs ≡ Err (Refused why) → IsOr REFUSED before status
   pub refuses_long : (files : List StoredFile) (inputs : Inputs) (bytes : List ℕ) →
       before.files ≡ Some files → inputs_of files names.shown.inputs ≡ Ok inputs → bytes_of files names.shown.transcript ≡ Some bytes →
-      file_limit < length bytes → IsOr REFUSED before status
+      transcript_limit < length bytes → IsOr REFUSED before status
   pub refuses_long_log : (files : List StoredFile) (s : IsSoundIn files names.shown) (bytes : List ℕ) →
       before.files ≡ Some files → open_fault (step_numbered s.rec.steps names.step) ≡ None → bytes_of files names.proof ≡ Some bytes →
       file_limit < length bytes → IsOr REFUSED before status
-  -- Nothing is stored at 3, 5, 9 and 10, and no other file is touched at any status.
+  -- At 3, 5, 9 and 10 no file changes. Over modelled files no file changes at any status except RESULT and NEWTRANSCRIPT.
   pub untouched : IsTrue (is_in (UNREAD ∷ REFUSED ∷ NOT_SHOWN ∷ NOT_SETTLED ∷ []) status) → after.files ≡ before.files
   pub others : (files : List StoredFile) → before.files ≡ Some files →
       MatchOption after.files ⊥ (λ now. AllOthersStand files now (names.result ∷ names.transcript ∷ []))
-  -- Status 3 comes only where the folder's count of faults rose, and never over a steady folder that has the five files. Where
-  -- of such a folder the log alone is missing, the line names it.
+  -- At status 3 the folder's fault count rose. Over a steady folder whose modelled files include all those that `import` reads,
+  -- the status is not 3. If the transcript in a steady folder is sound, its step is undecided and only the log is missing, the
+  -- status is 3 or 8. At 3 the line names the log.
   pub unread : status ≡ UNREAD → HasRisen before.faults after.faults
   pub surely_read : (files : List StoredFile) →
       before.files ≡ Some files → before.steady ≡ true → AreAllThere files names.shown → IsSome (bytes_of files names.proof) → status ≢ UNREAD
   pub missing_log : (files : List StoredFile) (s : IsSoundIn files names.shown) →
       before.files ≡ Some files → before.steady ≡ true → open_fault (step_numbered s.rec.steps names.step) ≡ None →
       bytes_of files names.proof ≡ None → (status ≡ NO_MEMORY) ⊎ ((status ≡ UNREAD) × IsSaid before after (unread_line names.proof))
-  -- Status 4 comes only where a count of faults rose: the step is settled, and a store failed, or both texts are stored and the
-  -- summary was written, or some of it from the first byte on. It never comes over a steady folder and a sink that surely takes
-  -- the summary. Where memory runs out at a store, there is a record, and the text before it is stored.
+  -- At status 4 the fault count of the folder or of the sink rose. Over modelled files, the step is then settled, and either a
+  -- store failed, or both texts are stored and the sink failed at the summary. If memory ran out and there is a record, the texts
+  -- are stored up to the one where memory ran out. Status 4 never comes from a steady folder and a sink that guarantees room for
+  -- the summary.
   pub unwritten : status ≡ UNWRITTEN → HasRisen before.faults after.faults ⊎ HasRisen before.cuts after.cuts
   pub stored : (files : List StoredFile) → before.files ≡ Some files → status ≡ UNWRITTEN →
       IsUnimported files names before after found ⊎ IsUnsummed files names before after found

@@ -26,60 +26,64 @@ use Rattle.command_words.specs.declared.run_words.Input.TheVariants.{Domains, Ro
 use Rattle.commands.specs.declared.refusal.Refusal.TheVariants.{TooLong, Row, Scenario as BadScenario, MissingDomain, Owners as BadOwners}
 use Rattle.commands.specs.declared.inputs.Inputs.{Inputs}
 use Rattle.commands.specs.declared.sources.Sources.{Sources}
-use Rattle.commands.specs.declared.inputs.TheConstants.{FILE_LIMIT}
-use Rattle.commands.specs.declared.inputs.Stop.{Stop}
-use Rattle.commands.specs.declared.inputs.Stop.TheVariants.{CannotRead, Refused, NoMemory}
+use Rattle.commands.specs.declared.input_file.TheConstants.{FILE_LIMIT}
+use Rattle.commands.specs.declared.input_file.Stop.{Stop}
+use Rattle.commands.specs.declared.input_file.Stop.TheVariants.{CannotRead, Refused, NoMemory}
 use Rattle.command_words.specs.Words.{InputNames}
 
--- a step, and where it doesn't stop the next one
+-- The result of a step passed to the next step, or the first error.
 abbrev pub and_then : {A B : Type 0} → Result A Stop → (A → Result B Stop) → Result B Stop
 and_then (Ok x) f = f x
 and_then (Err e) f = Err e
 
--- the greatest length of an input file, in bytes
+-- The greatest length of an input file, in bytes.
 abbrev pub file_limit : ℕ
 file_limit = FILE_LIMIT
 
--- the bytes of an input file, if it is there and no longer than the limit
+-- The greatest length of a transcript, or of the beginning of one, in bytes: 2 to the power of 36.
+abbrev pub transcript_limit : ℕ
+transcript_limit = 68719476736
+
+-- The bytes of an input file, if the file is there and no longer than the limit.
 abbrev pub bytes_within : Input → Option (List ℕ) → Result (List ℕ) Stop
 bytes_within input None = Err (CannotRead input)
 bytes_within input (Some bytes) =
     if nat_lt file_limit (length bytes) then Err (Refused (TooLong input)) else Ok bytes
 
--- the bytes of the file of this name, if they can be read so
+-- The bytes of the file of this name, if it is there and no longer than the limit.
 abbrev pub file_of : List StoredFile → List ℕ → Input → Result (List ℕ) Stop
 file_of files name input = bytes_within input (bytes_of files name)
 
--- why the reading of a file stops, where the folder answers so
+-- Why reading this input stops, by the folder's load error.
 abbrev pub stop_of : LoadErr → Input → Stop
 stop_of Failed input = CannotRead input
 stop_of LongFile input = Refused (TooLong input)
 stop_of NoLoad input = NoMemory
 
--- why the reading of a constraint file stops, where its reader answers so
+-- Why reading this constraint file stops, by its reader's error.
 abbrev pub refused_by : Input → ReadErr → Stop
 refused_by input (RefusedRow line why) = Refused (Row input line why)
 refused_by input NoRoom = NoMemory
 
--- what a constraint file holds, or which of its records is refused
+-- What a constraint file holds, or the error that names its rejected record.
 abbrev pub rows_read : {A : Type 0} → Input → Result A ReadErr → Result A Stop
 rows_read input (Ok x) = Ok x
 rows_read input (Err why) = Err (refused_by input why)
 
--- the scenario that a file holds, or why it is refused
+-- The scenario that a file holds, or why it is rejected.
 abbrev pub scenario_read : Result Scenario ScenarioErr → Result Scenario Stop
 scenario_read (Ok sc) = Ok sc
 scenario_read (Err why) = Err (Refused (BadScenario why))
 
--- the inputs that these make, if each station of the scenario has a domain row
+-- The inputs made of a scenario, its pairs and its book, or the station that has no domain row.
 abbrev pub inputs_from : Scenario → PairsView → Result BookView JoinErr → Result Inputs Stop
 inputs_from sc pairs (Ok book) =
     Ok (record { scenario = sc; book = book; self_pairs = pairs.self_pairs; strangers = pairs.strangers })
 inputs_from sc pairs (Err (NoDomain s)) = Err (Refused (MissingDomain s))
 inputs_from sc pairs (Err NoSpace) = Err NoMemory
 
--- What the domains, the rows and the scenario of these names hold, or the first one that stops the reading: each there, within
--- the limit and accepted by its reader, in this order.
+-- What the files of these names hold: the domains, the rows and the scenario. Otherwise the first error in this order: a file
+-- that is missing, too long or rejected by its reader.
 unfoldable pub sources_of : List StoredFile → InputNames → Result Sources Stop
 sources_of files names =
     and_then (and_then (file_of files names.domains Domains) (λ bytes. rows_read Domains (domains_of bytes))) (λ domains.
@@ -87,62 +91,64 @@ sources_of files names =
     and_then (and_then (file_of files names.scenario ScenarioFile) (λ bytes. scenario_read (scenario_of bytes))) (λ sc.
     Ok (record { domains = domains; pairs = pairs; scenario = sc }))))
 
--- the inputs that these make
+-- The inputs made of these sources, or the station that has no domain row.
 abbrev pub inputs_by : Sources → Result Inputs Stop
 inputs_by s = inputs_from s.scenario s.pairs (joined s.scenario s.domains s.pairs.list)
 
--- the inputs that the files of these names hold, with the book that they make, or the first one that stops the reading
+-- The inputs of the domains, the rows and the scenario of these names, with their book, or the first error. No owners' file is
+-- read.
 abbrev pub valued_of : List StoredFile → InputNames → Result Inputs Stop
 valued_of files names = and_then (sources_of files names) inputs_by
 
--- the answer is the book that these make, or the station that has no domain row; want of memory may come at any time
+-- The result is the book of these sources, or the rejection of a station without a domain row. Memory may run out at any time.
 abbrev pub IsBookOf : Sources → Result BookView Stop → Type 0
 IsBookOf s (Ok book) = joined s.scenario s.domains s.pairs.list ≡ Ok book
 IsBookOf s (Err (CannotRead i)) = ⊥
 IsBookOf s (Err (Refused why)) = inputs_by s ≡ Err (Refused why)
 IsBookOf s (Err NoMemory) = ⊤
 
--- what an owners' file says, or which of its lines is refused
+-- The lines of an owners' file, or the error that names its rejected line.
 abbrev pub owners_read : Result (List OwnerLine) OwnerErr → Result (List OwnerLine) Stop
 owners_read (Ok lines) = Ok lines
 owners_read (Err (RefusedLine line why)) = Err (Refused (BadOwners line why))
 owners_read (Err NoList) = Err NoMemory
 
--- what the owners' file of this name says of the stations of this scenario, from the opening price to its last fall
+-- What the owners' file of this name says of the scenario's stations, from the opening price to the last fall, or what stops its
+-- reading.
 abbrev pub said_in : List StoredFile → List ℕ → Scenario → Result (List OwnerLine) Stop
 said_in files name sc =
     and_then (file_of files name OwnersFile) (λ bytes. owners_read (owners_of bytes (length (falls sc)) (facilities sc)))
 
--- the inputs of the live auction in which the owners say these lines: the values stand for nothing
+-- The inputs of the live auction in which the owners say these lines. The stations' values have no effect.
 abbrev pub live_inputs : Inputs → List OwnerLine → Inputs
 live_inputs inputs lines = record inputs { scenario = with_owners inputs.scenario (Some lines) }
 
--- these inputs, with what the owners' file says, where one is named
+-- These inputs, with the lines of the owners' file if one is named, or what stops its reading.
 abbrev pub with_said : List StoredFile → Option (List ℕ) → Inputs → Result Inputs Stop
 with_said files None inputs = Ok inputs
 with_said files (Some name) inputs = and_then (said_in files name inputs.scenario) (λ lines. Ok (live_inputs inputs lines))
 
--- The inputs that the files of these names hold, or the first one that stops the reading: the domains, then the rows, then
--- the scenario, then the book that they make; and then, where an owners' file is named, what the owners say.
+-- The inputs that the files of these names hold, or the first error. The reading order is the domains, the rows, the scenario,
+-- the book, and then the owners' file if one is named.
 unfoldable pub inputs_of : List StoredFile → InputNames → Result Inputs Stop
 inputs_of files names = and_then (valued_of files names) (with_said files names.owners)
 
--- What a call answers, seen so, is what the files hold. Memory may run out; and a folder that isn't steady may fail to
--- read a file that is there.
+-- The call's result, seen through `seen`, is what the files hold. The call may run out of memory, and a folder that isn't steady
+-- may fail to read a file that is there.
 abbrev pub Agrees : {A B : Type 0} → (A → B) → Bool → Result B Stop → Result A Stop → Type 0
 Agrees seen steady held (Ok x) = held ≡ Ok (seen x)
 Agrees seen steady held (Err (CannotRead i)) = steady ≡ true → held ≡ Err (CannotRead i)
 Agrees seen steady held (Err (Refused why)) = held ≡ Err (Refused why)
 Agrees seen steady held (Err NoMemory) = ⊤
 
--- the count of faults rose where a file could not be read, and else stands
+-- The fault count rose if a file could not be read, and is unchanged otherwise.
 abbrev pub RisesAt : {A : Type 0} → ℕ → ℕ → Result A Stop → Type 0
 RisesAt before now (Ok x) = now ≡ before
 RisesAt before now (Err (CannotRead i)) = HasRisen before now
 RisesAt before now (Err (Refused why)) = now ≡ before
 RisesAt before now (Err NoMemory) = now ≡ before
 
--- and it didn't fall
+-- The fault count didn't fall. It rose if a file could not be read, and is unchanged otherwise.
 pub record CountsFault {A : Type 0} (before now : ℕ) (result : Result A Stop) : Type 0 where
   pub kept : before ≤ now
   pub rises : RisesAt before now result

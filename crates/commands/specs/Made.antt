@@ -1,4 +1,4 @@
--- The auction of made files: what they hold, the texts under their names, and what was carried out.
+-- The auction of generated files: what they hold, their texts with their names, and what its run returns.
 use Rattle.std.specs.Prelude.{◌≡◌, ℕ, List, [], ◌∷◌, Result, Ok}
 use Rattle.constraint_files.specs.Domains.{domains_of}
 use Rattle.constraint_files.specs.Rows.{pairs_of}
@@ -9,15 +9,14 @@ use Rattle.scenario_make.specs.MadeFiles.{made_domains, made_rows, made_scenario
 use Rattle.auction_core.specs.declared.record.Record.{Record}
 use Rattle.auction_core.specs.Backed.{undecided_of}
 use Rattle.commands.specs.declared.inputs.Inputs.{Inputs}
-use Rattle.commands.specs.declared.inputs.Stop.{Stop}
+use Rattle.commands.specs.declared.input_file.Stop.{Stop}
 use Rattle.command_words.specs.declared.run_words.Input.TheVariants.{Domains, Rows}
 use Rattle.commands.specs.Delivery.{NamedText, named}
 use Rattle.commands.specs.Inputs.{and_then, inputs_from, rows_read, scenario_read}
 use Rattle.commands.specs.Records.{IsRecordOf, summary_of}
 use Rattle.command_words.specs.Words.{InputNames, MakeNames}
 
--- The inputs that three files with these bytes hold, or the first refusal: of the domains, of the rows, of the scenario, or
--- of the book that they make.
+-- The inputs that three files with these bytes hold, or the first error: of the domains, the rows, the scenario or the book.
 unfoldable pub inputs_in : List ℕ → List ℕ → List ℕ → Result Inputs Stop
 inputs_in domain_file row_file scenario_file =
     and_then (rows_read Domains (domains_of domain_file)) (λ domains.
@@ -25,22 +24,21 @@ inputs_in domain_file row_file scenario_file =
     and_then (scenario_read (scenario_of scenario_file)) (λ sc.
     inputs_from sc pairs (joined sc domains pairs.list))))
 
--- the inputs that the made files of a seed and a size hold
+-- The inputs that the generated files of a seed and a size hold, or the first error.
 abbrev pub made_inputs : ℕ → ℕ → Result Inputs Stop
 made_inputs seed size = inputs_in (made_domains size) (made_rows seed size) (made_scenario_text seed size)
 
--- three texts under these names, in the order in which they are stored
+-- Three texts under these names, in the order in which they are stored: domains, rows, scenario.
 abbrev pub input_texts_under : InputNames → List ℕ → List ℕ → List ℕ → List NamedText
 input_texts_under names domain_file row_file scenario_file =
     named names.domains domain_file ∷ named names.rows row_file ∷ named names.scenario scenario_file ∷ []
 
--- what `make` stores: the made files of its seed and its size
+-- What `make` stores: the generated files of its seed and its size.
 abbrev pub made_texts : MakeNames → List NamedText
 made_texts names =
     input_texts_under names.outputs (made_domains names.size) (made_rows names.seed names.size) (made_scenario_text names.seed names.size)
 
--- The record is that of the auction of what was read, in which nobody starts on air, carried through; and the summary is its
--- own.
+-- The record is of the completed auction of what was read, in which nobody starts on air. The summary is that record's.
 pub record HasRun (read : Result Inputs Stop) (rec : Record) (summary : List ℕ) : Type 0 where
   pub inputs : Inputs
   pub accepted : read ≡ Ok inputs

@@ -1,11 +1,12 @@
--- What the program touches, before and after.
+-- What the program touches, before and after: the folder and the sink.
 use Rattle.std.specs.Prelude.{ℕ, Bool, List, Option}
 use Rattle.outside_io.specs.Files.{StoredFile}
 use Rattle.outside_io.specs.Told.{FolderTold, SinkTold}
 use Rattle.commands.specs.Says.{Says}
 
--- The files, where the folder tells them, its count of faults, and whether it is steady; the bytes that the sink holds,
--- where it tells them, its count of faults, and how many bytes more it surely takes.
+-- The folder: its files if the model includes them (they are modelled), its fault count, and whether it is steady. A steady
+-- folder fails only for a name that isn't there. The sink: its bytes if the model includes them, its fault count `cuts`, and how
+-- many more bytes it guarantees to take.
 pub record Outside : Type 0 where
   pub files : Option (List StoredFile)
   pub faults : ℕ
@@ -14,7 +15,7 @@ pub record Outside : Type 0 where
   pub cuts : ℕ
   pub sure : ℕ
 
--- a folder and a sink that tell this
+-- The outside that consists of this folder and this sink.
 abbrev pub outside : FolderTold → SinkTold → Outside
 outside folder sink = record {
   files = folder.files;
@@ -25,10 +26,10 @@ outside folder sink = record {
   sure = sink.sure;
 }
 
--- between these two the text was said, as far as the sink took it
+-- Between these two moments the sink took the text, or some of it from the first byte on if its fault count rose.
 abbrev pub IsSaid : Outside → Outside → List ℕ → Type 0
 IsSaid before after text = Says before.held after.held before.cuts after.cuts text
 
--- so the sink alone, between what it told before and tells now
+-- This sink took the text, or some of it from the first byte on if its fault count rose.
 abbrev pub IsSaidTo : SinkTold → SinkTold → List ℕ → Type 0
 IsSaidTo before after text = Says before.held after.held before.faults after.faults text

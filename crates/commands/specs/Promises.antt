@@ -1,5 +1,6 @@
--- What may be relied on of the program, but for a batch and an auction that goes on, a clause each: by what the words ask for, what
--- the folder and the sink tell before and after, the status and the record.
+-- What the program promises, clause by clause, for every plan except `batch` and `resume`. The clauses relate the plan, the
+-- outside before and after, the status and the records. `run` also means `live` here, and `verify` means `verify-live` too: they
+-- name an owners' file.
 use Rattle.std.specs.Prelude.{◌≡◌, ◌≢◌, ◌⊎◌, ℕ, Bool, true, false, List, [], ◌∷◌, Option, Some, None, Err, IsSome, IsTrue, MatchOption, ⊤}
 use Rattle.pack_defs.specs.Lists.{is_in}
 use Rattle.pack_defs.specs.ClockRule.{on_air_set}
@@ -7,7 +8,7 @@ use Rattle.pack_defs.specs.Packing.{IsPacking}
 use Rattle.outside_io.specs.Faults.{HasRisen}
 use Rattle.outside_io.specs.Files.{StoredFile, bytes_of}
 use Rattle.commands.specs.declared.inputs.Inputs.{Inputs}
-use Rattle.commands.specs.declared.inputs.Stop.TheVariants.{CannotRead, Refused}
+use Rattle.commands.specs.declared.input_file.Stop.TheVariants.{CannotRead, Refused}
 use Rattle.auction_core.specs.declared.record.Ending.TheVariants.{Done}
 use Rattle.auction_core.specs.declared.record.Record.{Record}
 use Rattle.command_words.specs.declared.run_words.Input.{Input}
@@ -31,7 +32,7 @@ use Rattle.commands.specs.Statuses.{DONE, LEFT_OPEN, NO_COMMAND, UNREAD, UNWRITT
 use Rattle.commands.specs.VerifyPromises.{IsOr, VerifyPromises}
 use Rattle.command_words.specs.Words.{ExportNames, ImportNames, InputNames, MakeNames, RunNames, SeekNames, VerifyNames, seek_inputs}
 
--- the inputs that a plan reads which reads no other file, if it reads any
+-- The input files of a plan that reads its inputs and no other file: `run`, `check` or `seek`. None for any other plan.
 abbrev pub inputs_read : Plan → Option InputNames
 inputs_read no_command = None
 inputs_read (repeats name) = None
@@ -45,7 +46,7 @@ inputs_read (makes names) = None
 inputs_read (exports names) = None
 inputs_read (imports names) = None
 
--- the inputs of the plans that have a record of their auction, carried out here or shown by a transcript
+-- The input files of `run` and `verify`, which have a record of the auction of those inputs. None for any other plan.
 abbrev pub carries_out : Plan → Option InputNames
 carries_out no_command = None
 carries_out (repeats name) = None
@@ -59,7 +60,7 @@ carries_out (makes names) = None
 carries_out (exports names) = None
 carries_out (imports names) = None
 
--- the plan reads no file and stores none
+-- The plan reads no file and stores none: the words are no command, or an output name is repeated.
 abbrev pub asks_nothing : Plan → Bool
 asks_nothing no_command = true
 asks_nothing (repeats name) = true
@@ -73,7 +74,7 @@ asks_nothing (makes names) = false
 asks_nothing (exports names) = false
 asks_nothing (imports names) = false
 
--- the plan stores no file without a record
+-- The plan stores no file without a record: every plan except `batch`, `make` and `export`.
 abbrev pub records_first : Plan → Bool
 records_first no_command = true
 records_first (repeats name) = true
@@ -87,7 +88,7 @@ records_first (makes names) = false
 records_first (exports names) = false
 records_first (imports names) = true
 
--- the plan verifies a transcript
+-- The plan verifies a transcript: `verify`, `export` or `import`.
 abbrev pub verifies_first : Plan → Bool
 verifies_first no_command = false
 verifies_first (repeats name) = false
@@ -101,7 +102,7 @@ verifies_first (makes names) = false
 verifies_first (exports names) = true
 verifies_first (imports names) = true
 
--- the plan seeks a top channel
+-- The plan is `seek`.
 abbrev pub seeks_top : Plan → Bool
 seeks_top no_command = false
 seeks_top (repeats name) = false
@@ -115,7 +116,7 @@ seeks_top (makes names) = false
 seeks_top (exports names) = false
 seeks_top (imports names) = false
 
--- the plan names a step
+-- The plan names a step: `export` or `import`.
 abbrev pub asks_step : Plan → Bool
 asks_step no_command = false
 asks_step (repeats name) = false
@@ -129,31 +130,34 @@ asks_step (makes names) = false
 asks_step (exports names) = true
 asks_step (imports names) = true
 
--- the three input files are there, and the owners' file, where one is named
+-- The domains, the rows and the scenario are in the folder, and so is the owners' file if one is named.
 pub record AreThere (files : List StoredFile) (names : InputNames) : Type 0 where
   pub domains : IsSome (bytes_of files names.domains)
   pub rows : IsSome (bytes_of files names.rows)
   pub scenario : IsSome (bytes_of files names.scenario)
   pub owners : MatchOption names.owners ⊤ (λ name. IsSome (bytes_of files name))
 
--- A record is backed, by the inputs of some auction; where that was carried through, its map is clean and of exactly the
+-- The record is backed by the inputs of some auction. If that auction was completed, the map is clean and has exactly the
 -- stations on air at the end.
 pub record IsSomeRecord (rec : Record) : Type 0 where
   pub inputs : Inputs
   pub backed : IsBacked inputs.scenario inputs.book rec.order rec
   pub packing : rec.ending ≡ Done → IsPacking inputs.book (on_air_set inputs.scenario (outcome rec.order inputs (undecided_of rec.steps))) rec.map
 
+-- What the program promises for every plan except `batch` and `resume`, by its status and its records. `below` is the second
+-- record of `seek`.
 pub record Promises (plan : Plan) (before after : Outside) (status : ℕ) (found below : Option Record) : Type 0 where
+  -- The status is from 0 to 10.
   pub statuses : IsTrue (is_in (DONE ∷ LEFT_OPEN ∷ NO_COMMAND ∷ UNREAD ∷ UNWRITTEN ∷ REFUSED ∷ START_UNFIT ∷ START_OPEN ∷ NO_MEMORY ∷ NOT_SHOWN ∷ NOT_SETTLED ∷ []) status)
-  -- Status 2 comes exactly where the words are no command, but for want of memory.
+  -- If the words are no command, the status is 2, or 8 if memory ran out. Status 2 comes from no other words.
   pub usage : plan ≡ no_command → (status ≡ NO_COMMAND) ⊎ (status ≡ NO_MEMORY)
   pub usage_only : status ≡ NO_COMMAND → plan ≡ no_command
-  -- An output name that is given twice is refused, and the line names it. Before that, and where the words are no command,
-  -- no call of the folder failed that could have been made: its count of faults stands.
+  -- If an output name is repeated, the status is 5 and the line names it, or the status is 8. For this plan and for words that
+  -- are no command, the folder's fault count does not change.
   pub twice : (name : List ℕ) → plan ≡ repeats name →
       ((status ≡ REFUSED) × IsSaid before after (twice_line name)) ⊎ (status ≡ NO_MEMORY)
   pub asked_nothing : asks_nothing plan ≡ true → after.faults ≡ before.faults
-  -- What may be relied on of each command; `seek` alone has a second record.
+  -- Each command keeps its own promises. Only `seek` has a second record.
   pub run : (names : RunNames) → plan ≡ runs names → RunPromises run_order names before after status found
   pub check : (names : InputNames) → plan ≡ checks names → CheckPromises names before after status found
   pub verify : (names : VerifyNames) → plan ≡ verifies names → VerifyPromises names before after status found
@@ -162,21 +166,21 @@ pub record Promises (plan : Plan) (before after : Outside) (status : ℕ) (found
   pub make : (names : MakeNames) → plan ≡ makes names → MakePromises names before after status found
   pub export : (names : ExportNames) → plan ≡ exports names → ExportPromises names before after status found
   pub import : (names : ImportNames) → plan ≡ imports names → ImportPromises names before after status found
-  -- The record: backed, also where the folder tells nothing. None is there at 2, 3, 5, 9 and 10.
+  -- Any record is backed, also where the folder's files are not modelled. There is no record at status 2, 3, 5, 9 or 10.
   pub backed : MatchOption found ⊤ IsSomeRecord
   pub unrecorded : IsTrue (is_in (NO_COMMAND ∷ UNREAD ∷ REFUSED ∷ NOT_SHOWN ∷ NOT_SETTLED ∷ []) status) → found ≡ None
-  -- Of those that read their inputs and no other file: status 5, beside a name given twice, comes exactly where an input is too
-  -- long or refused, and the line names the file and the cause. Before that memory may run out, and a folder that isn't steady may
-  -- fail.
+  -- These two clauses are for `run`, `check` and `seek` over modelled files. At status 5 an input is too long or rejected, and
+  -- the line names the file and the cause. If the files hold an input of this kind, the status is 5, unless memory ran out or an
+  -- unsteady folder failed to read.
   pub refused : (files : List StoredFile) (names : InputNames) →
       before.files ≡ Some files → inputs_read plan ≡ Some names → status ≡ REFUSED →
       (why : Refusal) × (inputs_of files names ≡ Err (Refused why)) × IsSaid before after (refusal_line names why)
   pub refuses : (files : List StoredFile) (names : InputNames) (why : Refusal) →
       before.files ≡ Some files → inputs_read plan ≡ Some names → inputs_of files names ≡ Err (Refused why) →
       IsOr REFUSED before status
-  -- Status 3 comes only where the folder's count of faults rose, and of those the line names an input; it never comes over a steady
-  -- folder that has the inputs. Where a missing file is the first thing that stops the reading of a steady folder, the line
-  -- names it.
+  -- At status 3 the folder's fault count rose. For `run`, `check` and `seek` the line then names an input. Over a steady folder
+  -- whose modelled files include all their inputs, the status is not 3. If a steady folder's reading first stops at a missing
+  -- file, the line names that file at status 3, or the status is 8.
   pub unread : status ≡ UNREAD → HasRisen before.faults after.faults
   pub unread_says : (names : InputNames) → inputs_read plan ≡ Some names → status ≡ UNREAD →
       (input : Input) × IsSaid before after (unread_line (name_of names input))
@@ -186,18 +190,18 @@ pub record Promises (plan : Plan) (before after : Outside) (status : ℕ) (found
       before.files ≡ Some files → inputs_read plan ≡ Some names → before.steady ≡ true →
       inputs_of files names ≡ Err (CannotRead input) →
       (status ≡ NO_MEMORY) ⊎ ((status ≡ UNREAD) × IsSaid before after (unread_line (name_of names input)))
-  -- Status 4 comes only where a count of faults rose.
+  -- At status 4 the fault count of the folder or of the sink rose.
   pub unwritten : status ≡ UNWRITTEN → HasRisen before.faults after.faults ⊎ HasRisen before.cuts after.cuts
-  -- A file is touched only where there is a record of an auction that was carried through; `make` alone stores before there is
-  -- one, and `export` without one.
+  -- Without a record no file changes, except under `make` and `export`. At status 6 and 7 no file changes.
   pub untouched : records_first plan ≡ true → found ≡ None → after.files ≡ before.files
   pub unfit_untouched : IsTrue (is_in (START_UNFIT ∷ START_OPEN ∷ []) status) → after.files ≡ before.files
-  -- Of an auction without an owners' file the record has no owners; of one with such a file `verify` shows a live one.
+  -- For `run` and `verify` over modelled files: if no owners' file is named, the record has no owners. If one is named, a record
+  -- of `verify` is of the live auction.
   pub unsaid : (files : List StoredFile) (names : InputNames) →
       before.files ≡ Some files → carries_out plan ≡ Some names → names.owners ≡ None → MatchOption found ⊤ (λ rec. rec.scenario.owners ≡ None)
   pub verified_live : (files : List StoredFile) (names : VerifyNames) (owners : List ℕ) →
       before.files ≡ Some files → plan ≡ verifies names → names.inputs.owners ≡ Some owners → IsSome found → IsLive files names.inputs owners found
-  -- Status 9 is of the commands alone that verify a transcript, and 10 of `export` and `import`.
+  -- Status 9 comes only from `verify`, `export` and `import`, and status 10 only from `export` and `import`.
   pub verify_only : status ≡ NOT_SHOWN → IsTrue (verifies_first plan)
   pub proofs_only : status ≡ NOT_SETTLED → IsTrue (asks_step plan)
   -- At status 8 the line says that memory ran out.

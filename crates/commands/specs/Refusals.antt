@@ -1,4 +1,4 @@
--- The line that says which input is refused, and why.
+-- The line that says which input is rejected, and why.
 use Rattle.std.specs.Prelude.{ℕ, ◌==◌, if◌then◌else◌, List, ◌++◌, codes, decimal}
 use Rattle.constraint_files.specs.declared.error.RowWhy.{RowWhy}
 use Rattle.constraint_files.specs.declared.error.RowWhy.TheVariants.{ShortRow, BadKey, BadNumber, ChannelRange, BadOffset, SecondDomain, TooMany}
@@ -14,7 +14,7 @@ use Rattle.owner_line.specs.declared.error.OwnerWhy.{OwnerWhy}
 use Rattle.owner_line.specs.declared.error.OwnerWhy.TheVariants as owner
 use Rattle.command_words.specs.Words.{InputNames, name_of}
 
--- the file that is refused
+-- The file that is rejected.
 abbrev pub input_of : Refusal → Input
 input_of (TooLong input) = input
 input_of (Row input line why) = input
@@ -24,7 +24,7 @@ input_of (Owners line why) = OwnersFile
 input_of (BadLine line) = ListFile
 input_of EmptyList = ListFile
 
--- the words for the refusal of a record
+-- The words for why a record is rejected.
 unfoldable pub row_text : RowWhy → List ℕ
 row_text ShortRow = codes "short row"
 row_text BadKey = codes "unknown key"
@@ -34,7 +34,7 @@ row_text BadOffset = codes "channels do not fit the key"
 row_text SecondDomain = codes "second domain row"
 row_text TooMany = codes "too many"
 
--- the words for the refusal of an owner's line
+-- The words for why an owner's line is rejected.
 unfoldable pub owner_text : OwnerWhy → List ℕ
 owner_text owner.Fields = codes "not three fields"
 owner_text owner.BadNumber = codes "bad number"
@@ -43,15 +43,15 @@ owner_text owner.UnknownStation = codes "unknown station"
 owner_text owner.BadWord = codes "bad word"
 owner_text owner.Repeated = codes "repeated"
 
--- the place in a list, where there is one, and the line's end
+-- The place in a list, if there is one, and the end of the line.
 abbrev pub place_text : ℕ → List ℕ
 place_text at = if at == 0 then codes "\n" else codes " at " ++ decimal at ++ codes "\n"
 
--- a member of the scenario, the place in its list where it has one, and the line's end
+-- A member of the scenario, its place in a list if it has one, and the end of the line.
 abbrev pub member_text : Name → ℕ → List ℕ
 member_text name at = name_text name ++ place_text at
 
--- what the line says of a scenario, behind the name of its file
+-- What the line says of a rejected scenario, after the name of its file.
 unfoldable pub scenario_text : ScenarioErr → List ℕ
 scenario_text Syntax = codes ": not JSON\n"
 scenario_text (MissingField name at) = codes ": missing " ++ member_text name at
@@ -62,7 +62,7 @@ scenario_text SumOverOpening = codes ": decrements exceed the opening\n"
 scenario_text NoProver = codes ": no cdcl worker\n"
 scenario_text NoMemory = codes ": out of memory\n"
 
--- what the line says of an input, behind the name of its file
+-- What the line says of a rejected input, after the name of its file.
 unfoldable pub refusal_text : Refusal → List ℕ
 refusal_text (TooLong input) = codes ": too long\n"
 refusal_text (Row input line why) = codes ": line " ++ decimal line ++ codes ": " ++ row_text why ++ codes "\n"
@@ -72,6 +72,6 @@ refusal_text (Owners line why) = codes ": line " ++ decimal line ++ codes ": " +
 refusal_text (BadLine line) = codes ": line " ++ decimal line ++ codes ": " ++ codes "bad list" ++ codes "\n"
 refusal_text EmptyList = codes ": empty list\n"
 
--- the line of a refusal, of these input files
+-- The line for a rejected input, with the file's name.
 abbrev pub refusal_line : InputNames → Refusal → List ℕ
 refusal_line names refusal = name_of names (input_of refusal) ++ refusal_text refusal

@@ -1,4 +1,4 @@
--- How `resume` ends: at which status, with which record, and what it leaves outside.
+-- How `resume` ends: its status, its record, and what it leaves outside.
 use Rattle.std.specs.Prelude.{◌≡◌, ℕ, List, Option, None, Ok, Err}
 use Rattle.auction_core.specs.declared.prefix.Prefix.{Prefix}
 use Rattle.auction_core.specs.declared.record.Record.{Record}
@@ -7,18 +7,20 @@ use Rattle.auction_core.specs.NotShown.{order_kept}
 use Rattle.commands.specs.declared.fault.TranscriptFault.{TranscriptFault}
 use Rattle.commands.specs.declared.inputs.Inputs.{Inputs}
 use Rattle.commands.specs.Ends.{AreInputsOf, Concludes, IsHalted, IsNotLoaded, IsStarved, IsTextHeld}
+use Rattle.commands.specs.Inputs.{transcript_limit}
 use Rattle.commands.specs.Outside.{Outside, IsSaid}
 use Rattle.commands.specs.Resumption.{GoesOnFrom, StandsBehind, begun}
 use Rattle.commands.specs.Statuses.{NOT_SHOWN}
 use Rattle.commands.specs.Verified.{CanBeNamed, fault_line}
 use Rattle.command_words.specs.Words.{ResumeNames, begun_names}
 
--- How `resume` ends: an input stopped it; memory ran out; the beginning was not loaded; its text is refused, or a step that is
--- kept of it isn't shown; or the auction goes on from what is kept, in its order, and concludes as that of a run does.
+-- How `resume` ends: an input stopped it, memory ran out, or the beginning was not loaded. It also ends if the beginning's text
+-- is rejected or a kept step doesn't verify. Otherwise the auction continues from what is kept, in its order, and concludes as a
+-- run does.
 pub data ResumeEnds (names : ResumeNames) (before after : Outside) (status : ℕ) (found : Option Record) : Type 0 where
   ResumeStopped : IsHalted names.run_files.inputs before after status → found ≡ None → ResumeEnds names before after status found
   ResumeStarved : IsStarved before after status found → ResumeEnds names before after status found
-  PrefixNotLoaded : (inputs : Inputs) → AreInputsOf names.run_files.inputs before inputs → IsNotLoaded names.prefix before after status →
+  PrefixNotLoaded : (inputs : Inputs) → AreInputsOf names.run_files.inputs before inputs → IsNotLoaded transcript_limit names.prefix before after status →
       found ≡ None → after.files ≡ before.files → ResumeEnds names before after status found
   NotBegun : (inputs : Inputs) (text : List ℕ) (fault : TranscriptFault) → AreInputsOf names.run_files.inputs before inputs →
       CanBeNamed inputs → IsTextHeld (begun_names names) before text → begun inputs text ≡ Err fault → status ≡ NOT_SHOWN → found ≡ None →
@@ -27,7 +29,7 @@ pub data ResumeEnds (names : ResumeNames) (before after : Outside) (status : ℕ
       CanBeNamed inputs → IsTextHeld (begun_names names) before text → begun inputs text ≡ Ok kept → GoesOnFrom kept rec →
       Concludes (order_kept kept) names.run_files inputs rec before after status found → ResumeEnds names before after status found
 
--- The beginning is one from which an auction goes on: what is read and kept, and the auction that stands behind it.
+-- An auction can continue from the beginning that was read: `auction` is in the state after what is kept.
 pub record IsResumable (names : ResumeNames) (before : Outside) (inputs : Inputs) (auction : AuctionView) : Type 0 where
   pub accepted : AreInputsOf names.run_files.inputs before inputs
   pub named : CanBeNamed inputs

@@ -1,4 +1,4 @@
--- What may be relied on of a run whose rounds test in some order: of `run`, and of `resume` where it goes on.
+-- What a run promises, in either test order: `run` and `live`, and `resume` where it continues an auction.
 use Rattle.std.specs.Prelude.{Contains, ◌≡◌, ◌≢◌, ◌⊎◌, ◌<◌, ◌≤◌, ℕ, true, List, [], ◌∷◌, length, Option, Some, Ok, None, IsFalse, IsSome, IsTrue, MatchOption}
 use Rattle.pack_defs.specs.Lists.{is_in}
 use Rattle.pack_defs.specs.declared.order.Order.{Order}
@@ -26,24 +26,25 @@ use Rattle.commands.specs.Verified.{verified}
 use Rattle.commands.specs.VerifyPromises.{IsOr}
 use Rattle.command_words.specs.Words.{RunNames, output_names}
 
--- The auction of these inputs was carried out: the record is the auction's. RESULT holds the text of the clock rule's result
--- with the tests left open that the record shows undecided, CHANNELS that of the record's map, which violates no row, and
--- TRANSCRIPT that of the record; every other file stands, and the sink grew by the summary. The status is 0 exactly where no
--- test was left open. Whoever verifies the transcript beside the same inputs gets the record.
+-- The auction of these inputs was completed, and RESULT, CHANNELS and TRANSCRIPT hold the texts of its record. Verifying the
+-- transcript beside the same inputs returns the record.
 pub record IsRunDone (order : Order) (files : List StoredFile) (names : RunNames) (before after : Outside) (status : ℕ) (found : Option Record) : Type 0 where
   pub inputs : Inputs
   pub accepted : inputs_of files names.inputs ≡ Ok inputs
   pub rec : Record
   pub recorded : found ≡ Some rec
   pub auction : IsRecordIn order inputs rec
+  -- RESULT holds the clock rule's result with the record's undecided tests. CHANNELS holds the record's map, which violates no
+  -- row, and TRANSCRIPT the record. Every other file is unchanged.
   pub stored : MatchOption after.files ⊥ (λ new. AreStored files new (auction_texts order names inputs rec))
+  -- The sink grew by the summary. The status is 0 exactly if no test is undecided.
   pub summary : Writes before.held after.held (summary_in order inputs (undecided_of rec.steps)) (Ok tt)
   pub status_is : status ≡ done_status (undecided_of rec.steps)
   pub verifiable : verified inputs (transcript_text inputs.scenario inputs.book rec) ≡ Ok rec
 
--- The auction of these inputs was carried out with every test decided: what RESULT holds and what the summary says hang on
--- the input files alone; and where the values stand for the owners, each station that is bought is paid the greatest
--- admissible value with which it would have been bought.
+-- RESULT and the summary are the clock rule's with every test decided: they depend on the input files and the test order alone.
+-- If no owners' file is named, each bought station is paid its threshold price, the greatest admissible value with which it would
+-- have been bought.
 pub record IsDecided (order : Order) (files : List StoredFile) (names : RunNames) (before after : Outside) : Type 0 where
   pub inputs : Inputs
   pub accepted : inputs_of files names.inputs ≡ Ok inputs
@@ -52,8 +53,8 @@ pub record IsDecided (order : Order) (files : List StoredFile) (names : RunNames
   pub paid : names.inputs.owners ≡ None → (f : FrozenAt) → Contains (outcome order inputs []).frozen f →
       IsThresholdPrice inputs.scenario inputs.book order f.station f.price
 
--- A store of an auction that was carried out failed, or memory ran out at it: the texts before it stand under their names,
--- that name may hold anything, and all other files are what they were.
+-- The auction of these inputs was completed, and its texts are stored only up to one name. The texts before it are stored, that
+-- name may hold anything or be gone, and all other files are unchanged.
 pub record IsPartStored (order : Order) (files : List StoredFile) (names : RunNames) (after : Outside) (found : Option Record) : Type 0 where
   pub inputs : Inputs
   pub accepted : inputs_of files names.inputs ≡ Ok inputs
@@ -64,15 +65,17 @@ pub record IsPartStored (order : Order) (files : List StoredFile) (names : RunNa
   pub now_told : after.files ≡ Some new
   pub part : AreStoredUpTo files new (auction_texts order names inputs rec)
 
--- the store failed, of a folder that isn't steady, and the line names the file
+-- A store failed in a folder that isn't steady, and its fault count rose. The texts are stored only up to the name that the line
+-- gives.
 pub record IsUnstored (order : Order) (files : List StoredFile) (names : RunNames) (before after : Outside) (found : Option Record) : Type 0 where
   pub risen : HasRisen before.faults after.faults
   pub unsteady : before.steady ≢ true
   pub upto : IsPartStored order files names after found
   pub line : IsSaid before after (unwritten_line upto.part.failed.name)
 
--- What was written of an auction that was carried out, where the summary failed: the three texts are stored, the sink was not
--- sure of the summary, and of that some was written, from the first byte on.
+-- The auction of these inputs was completed and its three texts are stored, but the sink failed at the summary. The sink did not
+-- guarantee room for the whole summary; it grew by the summary or by some of it, from the first byte on. Verifying the transcript
+-- beside the same inputs returns the record.
 pub record IsCutShort (order : Order) (files : List StoredFile) (names : RunNames) (before after : Outside) (found : Option Record) : Type 0 where
   pub inputs : Inputs
   pub accepted : inputs_of files names.inputs ≡ Ok inputs
@@ -85,11 +88,12 @@ pub record IsCutShort (order : Order) (files : List StoredFile) (names : RunName
   pub summary : IsSaid before after (summary_in order inputs (undecided_of rec.steps))
   pub verifiable : verified inputs (transcript_text inputs.scenario inputs.book rec) ≡ Ok rec
 
--- something could not be written: a text, or the summary
+-- A store failed, or the sink failed at the summary.
 abbrev pub IsUnwritten : Order → List StoredFile → RunNames → Outside → Outside → Option Record → Type 0
 IsUnwritten order files names before after found = IsUnstored order files names before after found ⊎ IsCutShort order files names before after found
 
--- The record is that of the auction of the inputs that the files hold, where the folder tells them, and it ended so.
+-- The record is of the auction of these inputs in this order, with this ending. Where the folder's files are modelled, they hold
+-- the inputs.
 pub record IsRecordAt (order : Order) (names : RunNames) (before : Outside) (ending : Ending) (found : Option Record) : Type 0 where
   pub inputs : Inputs
   pub held : AreInputsOf names.inputs before inputs
@@ -97,7 +101,8 @@ pub record IsRecordAt (order : Order) (names : RunNames) (before : Outside) (end
   pub recorded : found ≡ Some rec
   pub auction : IsEndedRecordIn order inputs rec ending
 
--- The test of the start set of these inputs was left open: the record has a receipt of every worker, and the line says so.
+-- The start test of these inputs is undecided. The record has a receipt from every worker, and the line says that the start set
+-- is undecided.
 pub record IsStartLeftOpen (order : Order) (files : List StoredFile) (names : RunNames) (before after : Outside) (found : Option Record) : Type 0 where
   pub inputs : Inputs
   pub accepted : inputs_of files names.inputs ≡ Ok inputs
@@ -106,45 +111,46 @@ pub record IsStartLeftOpen (order : Order) (files : List StoredFile) (names : Ru
   pub auction : IsOpenRecordIn order inputs rec
   pub line : IsSaid before after open_line
 
--- Of a folder that tells its files.
+-- What a run promises where the folder's files are modelled.
 pub record ToldRun (order : Order) (files : List StoredFile) (names : RunNames) (before after : Outside) (status : ℕ) (found : Option Record) : Type 0 where
-  -- At status 0 and 1 the auction of the inputs that the files hold was carried out, at 0 with every test decided.
+  -- At status 0 and 1 the auction of the inputs that the files hold was completed. At 0 every test was decided.
   pub done : IsTrue (is_in (DONE ∷ LEFT_OPEN ∷ []) status) → IsRunDone order files names before after status found
   pub decided : status ≡ DONE → IsDecided order files names before after
-  -- Status 6 comes only where the start set of accepted inputs doesn't fit, and 7 only where the record has a receipt of
-  -- every worker that its budget was spent on that set. Where it doesn't fit one of them comes, but for want of memory and a
-  -- folder that isn't steady; where nobody starts on air neither does.
+  -- At status 6 the inputs are accepted, their start set doesn't fit, and the line says so. If the start set of accepted inputs
+  -- doesn't fit, the status is 6 or 7, unless memory ran out or an unsteady folder failed. At 7 the record has a receipt from
+  -- every worker that its budget was spent on the start set. If nobody starts on air, the status is neither 6 nor 7.
   pub unfit : status ≡ START_UNFIT → (inputs : Inputs) × (inputs_of files names.inputs ≡ Ok inputs) × StartUnfit inputs × IsSaid before after unfit_line
   pub unfits : (inputs : Inputs) → inputs_of files names.inputs ≡ Ok inputs → StartUnfit inputs → IsOr START_UNFIT before status ⊎ (status ≡ START_OPEN)
   pub left_open : status ≡ START_OPEN → IsStartLeftOpen order files names before after found
   pub nobody : (inputs : Inputs) → inputs_of files names.inputs ≡ Ok inputs → start_set inputs.scenario ≡ [] → IsFalse (is_in (START_UNFIT ∷ START_OPEN ∷ []) status)
-  -- At status 4 a store failed, or the three texts are stored and the summary was written, or some of it from the first byte on.
-  -- It never comes over a steady folder and a sink that surely takes the summary, whatever is undecided. Where memory runs out at
-  -- a store, there is a record, and the texts before it are stored.
+  -- At status 4 a store failed, or the three texts are stored and the sink failed at the summary. If memory ran out and there is
+  -- a record, the texts are stored up to the one where memory ran out. Status 4 never comes from a steady folder and a sink that
+  -- guarantees room for the summary, whichever tests are undecided.
   pub stored : status ≡ UNWRITTEN → IsUnwritten order files names before after found
   pub part_stored : status ≡ NO_MEMORY → IsSome found → IsPartStored order files names after found
   pub surely_written : before.steady ≡ true →
       ((inputs : Inputs) (undecided : List ClockTest) → inputs_of files names.inputs ≡ Ok inputs → length (summary_in order inputs undecided) ≤ before.sure) →
       status ≢ UNWRITTEN
-  -- No file is touched but RESULT, CHANNELS and TRANSCRIPT.
+  -- No file changes except RESULT, CHANNELS and TRANSCRIPT.
   pub others : MatchOption after.files ⊥ (λ new. AllOthersStand files new (output_names names))
-  -- Accepted inputs are carried through, where the start set fits and its test isn't left open, but for want of memory and faults
-  -- of the outside.
+  -- If the start set of accepted inputs fits, the status is 0, 1, 4 or 7, unless memory ran out or an unsteady folder failed.
   pub complete : (inputs : Inputs) → inputs_of files names.inputs ≡ Ok inputs → StartFits inputs →
       IsOr DONE before status ⊎ IsTrue (is_in (LEFT_OPEN ∷ UNWRITTEN ∷ START_OPEN ∷ []) status)
-  -- What may be relied on of a live auction, one with an owners' file, beside that.
+  -- If an owners' file is named, any record also keeps the promises of a live auction.
   pub live : (owners : List ℕ) → names.inputs.owners ≡ Some owners → IsSome found → IsLive files names.inputs owners found
 
+-- What a run in this test order promises, by its status and its record.
 pub record RunPromises (order : Order) (names : RunNames) (before after : Outside) (status : ℕ) (found : Option Record) : Type 0 where
+  -- Where the folder's files are modelled, the run keeps the promises of `ToldRun`.
   pub told : (files : List StoredFile) → before.files ≡ Some files → ToldRun order files names before after status found
-  -- Also where the folder tells nothing, the sink grew at 0 and 1 by the summary of the record, and the status is 0 exactly
-  -- where no test was left open.
+  -- This clause also holds where the folder's files are not modelled. At status 0 and 1 the record is of a completed auction, and
+  -- the sink grew by its summary. The status is 0 exactly if no test is undecided.
   pub summed : IsTrue (is_in (DONE ∷ LEFT_OPEN ∷ []) status) →
       (inputs : Inputs) × (rec : Record) × (found ≡ Some rec) × IsRecordIn order inputs rec
       × (status ≡ done_status (undecided_of rec.steps))
       × Writes before.held after.held (summary_in order inputs (undecided_of rec.steps)) (Ok tt)
-  -- The record is that of the inputs: of an auction that was carried through at 0, 1 and 4, of a refuted start at 6 and of one left
-  -- open at 7.
+  -- The record is of the auction of the inputs. The auction was completed at status 0, 1 and 4; its start is refuted at 6 and
+  -- undecided at 7.
   pub recorded : IsTrue (is_in (DONE ∷ LEFT_OPEN ∷ UNWRITTEN ∷ []) status) → IsRecordAt order names before Done found
   pub refuted_recorded : status ≡ START_UNFIT → IsRecordAt order names before StartRefuted found
   pub open_recorded : status ≡ START_OPEN → IsRecordAt order names before StartUndecided found

@@ -1,4 +1,4 @@
--- What may be relied on of `seek`, a clause each.
+-- What `seek` promises, clause by clause.
 use Rattle.std.specs.Prelude.{◌≡◌, ◌≢◌, ◌⊎◌, ◌<◌, ◌≤◌, ℕ, Bool, false, true, List, [], ◌∷◌, length, Option, Some, None, Ok, IsFalse, IsTrue, MatchOption}
 use Rattle.pack_defs.specs.declared.limits.TheConstants.{LEAST_CHANNEL}
 use Rattle.pack_defs.specs.Lists.{is_in}
@@ -24,11 +24,11 @@ use Rattle.commands.specs.Statuses.{DONE, LEFT_OPEN, UNREAD, UNWRITTEN, REFUSED,
 use Rattle.commands.specs.VerifyPromises.{IsOr}
 use Rattle.command_words.specs.Words.{SeekNames, seek_inputs}
 
--- what `seek` stores: the text of the channels up to the top that was found
+-- What `seek` stores: the text of the channels up to the top that was found.
 abbrev pub seek_texts : SeekNames → Record → List NamedText
 seek_texts names rec = named names.channels (channels_text rec.map) ∷ []
 
--- shown not to fit by a station without a channel, or by a worker's refutation
+-- The verdict shows that the set doesn't fit, by a station without a channel or by a worker's refutation.
 abbrev pub shows_unfit : Shown → Bool
 shows_unfit Empty = false
 shows_unfit (Fits delta) = false
@@ -38,21 +38,23 @@ shows_unfit (Refuted worker how) = true
 shows_unfit (ByProof proof) = false
 shows_unfit (Undecided receipts) = false
 
--- A top channel was found for what the files hold, where the folder tells them. The records are that of the start set alone up to
--- it and, where it is above 14, that up to one channel less. The start set fits up to it, and the first record's map has a channel
--- for exactly the stations of the start set, and violates no row.
+-- A top channel was found for the inputs, and the start set fits up to it. The files hold the inputs where they are modelled.
 pub record IsTopOf (names : SeekNames) (before : Outside) (found below : Option Record) : Type 0 where
   pub sources : Sources
   pub sought : AreSought names before sources
   pub seekable : IsSeekable (base_of sources)
   pub x : LeastTop
+  -- The first record is of the start set alone up to that top. If the top is above 14, the second record is of the start set
+  -- alone up to one channel less.
   pub least : IsLeastTop (base_of sources) x
   pub recorded : found ≡ Some x.rec
   pub lower : below ≡ x.below
   pub fit : IsTrue (fits_at (base_of sources) x.top)
+  -- The first record's map has a channel for exactly the stations of the start set, and violates no row.
   pub channels : IsPacking (book_at (base_of sources) x.top) (start_set sources.scenario) x.rec.map
 
--- Up to the scenario's own top channel the start set doesn't fit: the record shows it, and the line says so.
+-- The start set doesn't fit up to the scenario's own top channel. The record is of the auction that ended at that start, and the
+-- line says so.
 pub record IsNoTop (names : SeekNames) (before after : Outside) (found : Option Record) : Type 0 where
   pub sources : Sources
   pub sought : AreSought names before sources
@@ -63,7 +65,8 @@ pub record IsNoTop (names : SeekNames) (before after : Outside) (found : Option 
   pub unfit : IsFalse (fits_at (base_of sources) sources.scenario.top)
   pub line : IsSaid before after unfit_line
 
--- Whether it fits there was left open: the record has a receipt of every worker, and the line says so.
+-- The start test up to the scenario's own top channel is undecided. The record has a receipt from every worker, and the line says
+-- so.
 pub record IsTopOpen (names : SeekNames) (before after : Outside) (found : Option Record) : Type 0 where
   pub sources : Sources
   pub sought : AreSought names before sources
@@ -73,11 +76,14 @@ pub record IsTopOpen (names : SeekNames) (before after : Outside) (found : Optio
   pub auction : IsOpenRecordOf (inputs_at (base_of sources) sources.scenario.top) rec
   pub line : IsSaid before after open_line
 
+-- What `seek` promises, by its status and its two records.
 pub record SeekPromises (names : SeekNames) (before after : Outside) (status : ℕ) (found below : Option Record) : Type 0 where
+  -- The status is 0, 1 or from 3 to 8.
   pub statuses : IsTrue (is_in (DONE ∷ LEFT_OPEN ∷ UNREAD ∷ UNWRITTEN ∷ REFUSED ∷ START_UNFIT ∷ START_OPEN ∷ NO_MEMORY ∷ []) status)
-  -- At status 0, 1 and 4 a top channel was found, also where the folder tells nothing: at 0 and 1 it was printed, at 0 it is the
-  -- least one from 14 on, and at 1 the test of one channel less was left open, and that channel was printed too. Where it is above
-  -- 14, at 0, the start of the second record is shown not to fit. At 8 one may have been found, and both records are there then.
+  -- Also where the folder's files are not modelled, a top channel was found at status 0, 1 and 4. At 0 and 1 it was printed. At 0
+  -- the start set fits up to no smaller channel from 14 on. If the top is then above 14, the second record's start is shown not
+  -- to fit. At 1 the test of one channel less is undecided, and that channel was printed too. At 8 either there is no record, or
+  -- a top channel was found.
   pub of : IsTrue (is_in (DONE ∷ LEFT_OPEN ∷ UNWRITTEN ∷ []) status) → IsTopOf names before found below
   pub done : IsTrue (is_in (DONE ∷ LEFT_OPEN ∷ []) status) →
       (of : IsTopOf names before found below) × (status ≡ top_status of.x.is_open)
@@ -87,32 +93,35 @@ pub record SeekPromises (names : SeekNames) (before after : Outside) (status : �
       × MatchOption below (of.x.top ≡ LEAST_CHANNEL) (λ rec. (LEAST_CHANNEL < of.x.top) × IsTrue (shows_unfit rec.start))
       × Writes before.held after.held (top_text of.x.top false) (Ok tt)
   pub starved : status ≡ NO_MEMORY → ((found ≡ None) × (below ≡ None)) ⊎ IsTopOf names before found below
-  -- There CHANNELS holds the text of the channels, and every other file stands.
+  -- Over modelled files, at status 0 and 1 CHANNELS holds the text of the channels, and every other file is unchanged.
   pub stored : (files : List StoredFile) → before.files ≡ Some files → IsTrue (is_in (DONE ∷ LEFT_OPEN ∷ []) status) →
       (of : IsTopOf names before found below) × MatchOption after.files ⊥ (λ new. AreStored files new (seek_texts names of.x.rec))
-  -- Status 6 comes only where the start set doesn't fit up to the scenario's own top channel, and 7 only where the record has a
-  -- receipt of every worker that its budget was spent on that. Where it doesn't fit one of them comes, but for want of memory and
-  -- a folder that isn't steady.
+  -- At status 6 the start set doesn't fit up to the scenario's own top channel. At 7 the record has a receipt from every worker
+  -- that its budget was spent on that test. Over modelled files, if the set doesn't fit there, the status is 6 or 7, unless
+  -- memory ran out or an unsteady folder failed.
   pub unfit : status ≡ START_UNFIT → IsNoTop names before after found
   pub left_open : status ≡ START_OPEN → IsTopOpen names before after found
   pub unfits : (files : List StoredFile) (sources : Sources) → before.files ≡ Some files → seekable_of files (seek_inputs names) ≡ Ok sources →
       IsFalse (fits_at (base_of sources) sources.scenario.top) → IsOr START_UNFIT before status ⊎ (status ≡ START_OPEN)
-  -- Where it fits, a top channel is found, but for want of memory and faults of the outside, or that test is left open.
+  -- Over modelled files, if the set fits up to the scenario's own top channel, the status is 0, 1, 4 or 7. Otherwise memory ran
+  -- out, or an unsteady folder failed to read.
   pub complete : (files : List StoredFile) (sources : Sources) → before.files ≡ Some files → seekable_of files (seek_inputs names) ≡ Ok sources →
       IsTrue (fits_at (base_of sources) sources.scenario.top) → IsOr DONE before status ⊎ IsTrue (is_in (LEFT_OPEN ∷ UNWRITTEN ∷ START_OPEN ∷ []) status)
-  -- Where nobody starts on air that channel is 14, and nothing is left open.
+  -- Over modelled files, if nobody starts on air, the status is 0 or 4, unless memory ran out or an unsteady folder failed to
+  -- read. At 0 the printed top is 14.
   pub nobody : (files : List StoredFile) (sources : Sources) → before.files ≡ Some files → seekable_of files (seek_inputs names) ≡ Ok sources →
       start_set sources.scenario ≡ [] →
       (IsOr DONE before status ⊎ (status ≡ UNWRITTEN)) × (status ≡ DONE → Writes before.held after.held (top_text LEAST_CHANNEL false) (Ok tt))
-  -- Status 4 comes only where the store failed, of a folder that isn't steady, and the line names the file; or the channels are
-  -- stored, and the sink was not sure of the top channel: some of the text was printed, from the first byte on.
+  -- At status 4 there are two cases. The store failed in a folder that isn't steady, its fault count rose, and the line names the
+  -- file. Or the sink failed at the text of the top, for which it did not guarantee room, and over modelled files the channels
+  -- are stored. The sink then grew by that text or by some of it, from the first byte on.
   pub unwritten : status ≡ UNWRITTEN →
       (HasRisen before.faults after.faults × (before.steady ≢ true) × IsSaid before after (unwritten_line names.channels))
       ⊎ ((of : IsTopOf names before found below) × HasRisen before.cuts after.cuts
       × (before.sure < length (top_text of.x.top of.x.is_open)) × IsSaid before after (top_text of.x.top of.x.is_open)
       × ((files : List StoredFile) → before.files ≡ Some files → MatchOption after.files ⊥ (λ new. AreStored files new (seek_texts names of.x.rec))))
-  -- The record of one channel less comes only beside that of a top channel that was found.
+  -- At status 3, 5, 6 and 7 there is no second record.
   pub alone : IsTrue (is_in (UNREAD ∷ REFUSED ∷ START_UNFIT ∷ START_OPEN ∷ []) status) → below ≡ None
-  -- No file is touched but CHANNELS.
+  -- Over modelled files, no file changes except CHANNELS.
   pub others : (files : List StoredFile) → before.files ≡ Some files →
       MatchOption after.files ⊥ (λ new. AllOthersStand files new (names.channels ∷ []))

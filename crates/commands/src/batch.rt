@@ -1,5 +1,8 @@
-//! The command `batch`: the auctions of many scenarios over the same constraint files, carried out as many at a time as there
-//! are processors.
+//! The command `batch`: runs the auctions of many scenarios over the same constraint files, as many at a time as there are
+//! processors.
+//!
+//! `batch_inputs` reads the files and `batch_run` runs the auctions. This module stores the results and prints the statuses. Only
+//! `auction_cmd` calls it.
 
 ghost use Rattle.std.specs.Prelude.{◌≡◌, ◌==◌, ◌++◌, ◌∷◌, [], All, IfOk, None, OnOk, length, map, option_map};
 ghost use Rattle.std.specs.List.{list_any};
@@ -33,7 +36,8 @@ use std::alloc::{AllocError as NoMemory, Global};
 use std::sync::Wait;
 use std::thread::Threads;
 
-/// The auctions of a batch that were carried out: their records and, of each that was carried through, the text of its result.
+/// The records of a batch's auctions and the texts of their results, in the order of the list. An auction that ended at its start
+/// has no text.
 #[derive(Drop)]
 struct Results {
     records: Vec<Record>,
@@ -41,7 +45,7 @@ struct Results {
 }
 
 impl Results {
-    // With one auction more. The only error is want of memory.
+    // Appends one auction. Fails only if memory runs out.
     fn push(&mut self, ran: Ran) -> Result<(), NoMemory>
         ensures records { OnOk result (self.new.records.items ≡ self.old.records.items ++ ran.record ∷ []) }
         ensures texts { OnOk result (self.new.texts.items ≡ self.old.texts.items ++ ran.result ∷ []) }
@@ -53,7 +57,7 @@ impl Results {
     }
 }
 
-// The records and the texts of these auctions apart.
+// Separates the records of these auctions from the texts of their results. Fails only if memory runs out.
 fn parted(alloc: Global, rans: Vec<Ran>) -> Result<Results, NoMemory>
     ensures records { IfOk result (λ r. r.records.items ≡ map (λ ran. ran.record) rans.items) }
     ensures texts { IfOk result (λ r. r.texts.items ≡ map (λ ran. ran.result) rans.items) }
@@ -68,7 +72,7 @@ fn parted(alloc: Global, rans: Vec<Ran>) -> Result<Results, NoMemory>
     Ok(results)
 }
 
-// Whether the auction ended at its start.
+// Whether the auction ended at its start: the start set does not fit, or whether it fits is undecided.
 fn ends_at_start(ending: Ending) -> bool
     ensures { result ≡ ends_at_start ending }
 {
@@ -78,7 +82,7 @@ fn ends_at_start(ending: Ending) -> bool
     }
 }
 
-// The status of an auction of the batch, as `run` has it: by how it ended and whether a test of it was left open.
+// Returns the status of one auction of the batch, as `run` defines it: by how the auction ended, and whether a test is undecided.
 fn own_status(rec: &Record) -> u8
     ensures { result ≡ own_status rec.now }
 {
@@ -89,21 +93,21 @@ fn own_status(rec: &Record) -> u8
     }
 }
 
-// Whether an auction ended at its start.
+// Whether some auction ended at its start.
 fn any_at_start(records: &[Record]) -> bool
     ensures { result ≡ list_any (λ rec. ends_at_start rec.ending) records.now }
 {
     records.iter().any(|rec| ends_at_start(rec.ending))
 }
 
-// Whether a test of an auction was left open that was carried through.
+// Whether some auction did not end at its start and has an undecided test.
 fn any_left_open(records: &[Record]) -> bool
     ensures { result ≡ list_any (λ rec. own_status rec == LEFT_OPEN) records.now }
 {
     records.iter().any(|rec| own_status(rec) == LEFT_OPEN)
 }
 
-// The status of the batch.
+// Returns the status of the batch. An auction that ended at its start takes precedence over an undecided test.
 fn batch_status(records: &[Record]) -> u8
     ensures { result ≡ batch_status records.now }
 {
@@ -116,7 +120,7 @@ fn batch_status(records: &[Record]) -> u8
     DONE
 }
 
-// Puts the lines of these scenarios' names and their auctions' statuses to the text.
+// Appends a line for each scenario: its name and the status of its auction.
 fn push_lines(text: &mut Vec<u8>, lines: &[BatchLine], records: &[Record]) -> Result<(), NoMemory>
     ensures { OnOk result (text.new.items ≡ text.old.items ++ status_lines lines.now records.now) }
 {
@@ -130,7 +134,7 @@ fn push_lines(text: &mut Vec<u8>, lines: &[BatchLine], records: &[Record]) -> Re
     push_lines(text, lines_left, records_left)
 }
 
-// The lines of the scenarios' names and their auctions' statuses.
+// Returns the lines of the scenarios' names and their auctions' statuses.
 fn status_lines(alloc: Global, lines: &[BatchLine], records: &[Record]) -> Result<Vec<u8>, NoMemory>
     ensures { IfOk result (λ text. text.items ≡ status_lines lines.now records.now) }
 {
@@ -139,8 +143,8 @@ fn status_lines(alloc: Global, lines: &[BatchLine], records: &[Record]) -> Resul
     Ok(text)
 }
 
-// Stores each text that there is under the name that its line has for it, in order, and prints the lines. It gives the status, which
-// is `done` where all is done.
+// Stores each text that exists under its line's name for the result, in order, and then prints the lines. Returns `done` if all
+// succeeds, else the status of what failed.
 fn deliver<F: Folder, K: Sink>(
     folder: &mut F,
     out: &mut K,
@@ -172,8 +176,8 @@ fn deliver<F: Folder, K: Sink>(
     deliver(folder, out, lines_left, texts_left, printed, done)
 }
 
-/// The auctions of a batch that were carried out: their records, the texts of the results of those that were carried through, and
-/// what is printed.
+/// A batch whose auctions were run: their records, their results' texts, and the text to print. An auction that ended at its
+/// start has no result's text.
 #[derive(Drop)]
 struct CarriedBatch {
     records: Vec<Record>,
@@ -181,7 +185,7 @@ struct CarriedBatch {
     printed: Vec<u8>,
 }
 
-// Carries all auctions out, and makes all texts. Of the outside it calls the gate alone.
+// Runs all auctions and makes all texts, before anything is stored. Uses the gate, and neither folder nor sink.
 fn carry_all_out<G: Gate + Sync, W: Threads + Wait + Sync>(
     rt: &W,
     alloc: Global,
@@ -206,11 +210,17 @@ fn carry_all_out<G: Gate + Sync, W: Threads + Wait + Sync>(
     })
 }
 
-/// Reads the constraint files, the list, and the scenario of each of its lines, and carries all their auctions out, as many at a
-/// time as the machine has processors: each as `run` does, by solvers that share what they answered. The results of those that
-/// were carried through are stored, in the list's order, and a line is printed for each scenario with its auction's own status:
-/// `DONE`, `LEFT_OPEN`, `START_UNFIT` or `START_OPEN` of `status`, as those of `run`. Nothing is stored before all auctions are
-/// done.
+/// Runs the auction of each scenario of the list, stores the results and prints a line for each scenario.
+///
+/// Reads the constraint files, the list, and the scenario of each of its lines. A result's name that is given twice ends the
+/// command with `REFUSED` before a scenario is read.
+///
+/// As many auctions run at a time as the machine has processors. Each runs as in `run`, except that the solvers of all auctions
+/// share the answers they found. Nothing is stored before all auctions are done. Then the results are stored in the list's order,
+/// except those of auctions that ended at their start.
+///
+/// The line of a scenario has the status of its own auction: `DONE`, `LEFT_OPEN`, `START_UNFIT` or `START_OPEN` of `status`, as
+/// `run` defines them. The records are returned once all auctions are done, also if a store or the print fails.
 pub fn batch<F: Folder, K: Sink, G: Gate + Sync, W: Threads + Wait + Sync>(
     rt: &W,
     alloc: Global,

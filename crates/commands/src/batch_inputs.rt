@@ -1,4 +1,6 @@
-//! What a batch reads: the constraint files once, the list, and the scenario of each of its lines with the book that it makes.
+//! Reads the inputs of a batch: the constraint files once, the list, and for each line its scenario and book.
+//!
+//! Only `batch` calls it. `constraints` and `inputs` read the constraint files and the scenarios, as for `run`.
 
 ghost use Rattle.std.specs.Prelude.{◌≡◌, ◌≤◌, All, IfErr, IfOk, List, None, Ok, OnOk, Some, length};
 ghost use Rattle.outside_io.specs.Files.{StoredFile};
@@ -15,8 +17,10 @@ ghost use Rattle.command_words.specs.Words.{batch_seen, inputs_seen};
 
 use crate::constraints::{domains_from, pairs_from};
 use crate::explain::explain;
-use crate::inputs::{Inputs, Stop, load, scenario_from};
+use crate::input_file::{Stop, load};
+use crate::inputs::Inputs;
 use crate::refusal::Refusal;
+use crate::sources::scenario_from;
 use batch_list::error::ListErr;
 use batch_list::line::BatchLine;
 use batch_list::read::read_list;
@@ -29,7 +33,7 @@ use outside_io::sink::Sink;
 use scenario_json::join::{JoinErr, join};
 use std::alloc::Global;
 
-/// What the constraint files hold, before a scenario cuts them to a book.
+/// What the constraint files hold, before a scenario cuts it to a book.
 #[derive(Drop)]
 pub struct Constraints {
     pub domains: Domains,
@@ -43,7 +47,7 @@ pub struct Listed {
     pub lines: Vec<BatchLine>,
 }
 
-// What the domains and the rows hold, read in this order.
+// Returns what the domains file and the rows file hold, read in this order.
 #[tactic(auto, unfolding(crate::specs::Batch::constraints_of))]
 fn read_constraints<F: Folder>(
     alloc: Global,
@@ -61,7 +65,7 @@ fn read_constraints<F: Folder>(
     Ok(Constraints { domains, pairs })
 }
 
-// The lines of the list of this name.
+// Returns the lines of the list of this name.
 fn list_from<F: Folder>(alloc: Global, folder: &mut F, name: &str) -> Result<Vec<BatchLine>, Stop>
     ensures told { (files : List StoredFile) → (F.told folder.old).files ≡ Some files →
         Agrees (λ v. v.items) (F.told folder.old).steady (list_named files name.now) result }
@@ -79,9 +83,13 @@ fn list_from<F: Folder>(alloc: Global, folder: &mut F, name: &str) -> Result<Vec
     }
 }
 
-/// What the constraint files and the list hold, read in this order. The list's name stands in the place of a scenario's.
-/// The error is the first of these files that can't be read or is refused, one that is too long among the latter, or want of
-/// memory.
+/// Returns what the constraint files and the list hold, read in this order. The list's name is in the place of a scenario's: it
+/// is `names.scenario`.
+///
+/// # Errors
+///
+/// `CannotRead` or `Refused` for the first of these files that cannot be read, is too long or is rejected. `NoMemory` if memory
+/// runs out. No file is changed.
 #[tactic(auto, unfolding(crate::specs::Batch::listing_of))]
 pub fn read_listed<F: Folder>(
     alloc: Global,
@@ -100,7 +108,7 @@ pub fn read_listed<F: Folder>(
     Ok(Listed { constraints, lines })
 }
 
-// The inputs of the scenario of this name, with the book that it makes beside these constraint files.
+// Returns the inputs of the scenario of this name, with the book that it makes with these constraint files.
 #[tactic(auto, unfolding(crate::specs::Batch::inputs_beside))]
 fn inputs_beside<F: Folder>(
     alloc: Global,
@@ -129,7 +137,8 @@ fn inputs_beside<F: Folder>(
     }
 }
 
-// Says why the reading of this scenario stopped, beside these constraint files, and gives the status for it.
+// Prints why the reading of this scenario stopped, and returns the status for it. If a station has no domain row, the message
+// names the domains file.
 fn explain_beside<'p, K: Sink>(
     out: &mut K,
     domains: &'p str,
@@ -150,15 +159,20 @@ fn explain_beside<'p, K: Sink>(
     explain(out, &names, stop)
 }
 
-/// The lines of a batch's list, and the inputs that the scenario of each makes.
+/// The lines of a batch's list, and the inputs of each line's scenario.
 #[derive(Drop)]
 pub struct ReadBatch {
     pub lines: Vec<BatchLine>,
     pub inputs: Vec<Inputs>,
 }
 
-/// The inputs of the scenarios of these lines, read one after the other. Where one stops the reading, a line says why, and the
-/// error is the status. What the constraint files held is let go.
+/// Returns these lines with the inputs of their scenarios, which are read one after another. What the constraint files held is
+/// dropped.
+///
+/// # Errors
+///
+/// The exit status of the first scenario that cannot be used: it cannot be read, is too long or is rejected, or a station of it
+/// has no domain row. Also `NO_MEMORY`, if memory runs out. A line on the sink says why. No file is changed.
 pub fn read_each<F: Folder, K: Sink>(
     alloc: Global,
     folder: &mut F,

@@ -1,9 +1,13 @@
-//! The auctions of a batch, as many at a time as there are processors. Their solvers share a cache of answers, which says nothing
-//! but what is valid for the query and the worker that ask. So it decides how long an auction takes, and which of its tests are
-//! left open: one on which a worker's budget would be spent may be answered. Where none is left open it decides no result.
+//! Runs the auctions of a batch, as many at a time as there are processors.
 //!
-//! Auctions that go on side by side come to the same hard query at the same time, and each answers it for itself; those that begin
-//! later find it answered. So more of them at a time would spend more, and end no sooner.
+//! Their solvers share a cache of answers. The cache returns only what is valid for the query and the worker that ask. The cache
+//! changes how long an auction takes, and which of its tests are undecided: it may answer a test on which a worker would spend
+//! its budget. If no test is undecided, the cache changes no result.
+//!
+//! Auctions that run side by side come to the same hard query at the same time, and each answers it for itself. Auctions that
+//! begin later find it answered. Running more of them at a time would cost more, and end no sooner.
+//!
+//! Only `batch` calls it.
 
 ghost use Rattle.std.specs.Prelude.{◌≡◌, All, IfOk, map, option_map};
 ghost use Rattle.std.specs.List.{AllZip};
@@ -24,11 +28,11 @@ use std::sync::{Condvar, Mutex, Wait};
 use std::thread;
 use std::thread::Threads;
 
-/// How many channel maps, and how many refutations, the cache keeps. A query that none of them answers has looked at all of one
-/// kind and then of the other (`benchmarks/cache`).
+/// How many channel maps the cache keeps, and how many refutations. A query that none of them answers goes through all of one
+/// kind and then through all of the other (`benchmarks/cache`).
 const CACHE_ROOM: u32 = 1024;
 
-// An auction waits for a permit before it begins, and holds it until it has ended.
+// Limits how many auctions run at a time. An auction waits for a permit before it begins, and holds it until it has ended.
 #[derive(Drop)]
 struct Permits {
     left: Mutex<usize>,
@@ -36,7 +40,7 @@ struct Permits {
 }
 
 impl Permits {
-    // As many as the machine has processors, or one where that isn't told.
+    // Makes as many permits as the machine has processors, or one if that number is unknown.
     fn make(rt: &impl Threads) -> Permits {
         let processors = match thread::available_parallelism(rt) {
             Ok(processors) => processors.get(),
@@ -62,14 +66,14 @@ impl Permits {
     }
 }
 
-/// An auction that was carried out: its record, and the text of its result, unless it ended at its start.
+/// An auction that was run: its record, and the text of its result, unless it ended at its start.
 #[derive(Drop)]
 pub struct Ran {
     pub record: Record,
     pub result: Option<Vec<u8>>,
 }
 
-// The record of the auction of these inputs. Of the outside it calls the gate alone.
+// Returns the record of the auction of these inputs. Uses the gate, and neither folder nor sink.
 fn cached_auction_of<G: Gate + Sync, W: Threads + Wait + Sync>(
     rt: &W,
     alloc: Global,
@@ -85,7 +89,7 @@ fn cached_auction_of<G: Gate + Sync, W: Threads + Wait + Sync>(
     Ok(record)
 }
 
-// The text of the result of this auction, unless it ended at its start.
+// Returns the text of this auction's result, unless the auction ended at its start.
 fn result_of(alloc: Global, inputs: &Inputs, rec: &Record) -> Result<Option<Vec<u8>>, NoMemory>
     requires auction { IsOfAuction inputs.now.scenario inputs.now.book }
     requires of { IsRecordBy inputs.now rec.now rec.now.ending }
@@ -100,7 +104,7 @@ fn result_of(alloc: Global, inputs: &Inputs, rec: &Record) -> Result<Option<Vec<
     }
 }
 
-// Carries one auction out.
+// Runs one auction.
 fn carry_out<G: Gate + Sync, W: Threads + Wait + Sync>(
     rt: &W,
     alloc: Global,
@@ -116,7 +120,7 @@ fn carry_out<G: Gate + Sync, W: Threads + Wait + Sync>(
     Ok(Ran { record, result })
 }
 
-// Carries one auction out, once there is a permit for it.
+// Runs one auction once it has a permit. The permit is given back also if memory runs out.
 fn carry_out_in_turn<G: Gate + Sync, W: Threads + Wait + Sync>(
     rt: &W,
     alloc: Global,
@@ -134,8 +138,12 @@ fn carry_out_in_turn<G: Gate + Sync, W: Threads + Wait + Sync>(
     ran
 }
 
-/// Carries these auctions out, each in a thread of its own where one can be made, beside those of its workers, and as many at a
-/// time as the machine has processors. The only error is want of memory, of any of them.
+/// Runs these auctions, as many at a time as the machine has processors, and returns them in the order of their inputs. Each runs
+/// in a thread of its own if one can be made, beside the threads of its workers.
+///
+/// # Errors
+///
+/// Memory ran out, in one of the auctions or outside them. Then no auction is returned.
 pub fn run_all<G: Gate + Sync, W: Threads + Wait + Sync>(
     rt: &W,
     alloc: Global,
@@ -151,7 +159,7 @@ pub fn run_all<G: Gate + Sync, W: Threads + Wait + Sync>(
     all_of(alloc, rans)
 }
 
-// Carries these auctions out by a cache and permits that are given, and tells of each what came of it.
+// Runs these auctions with this cache and these permits. Returns for each of them what was run, or that it ran out of memory.
 fn run_each<G: Gate + Sync, W: Threads + Wait + Sync>(
     rt: &W,
     alloc: Global,
@@ -170,7 +178,7 @@ fn run_each<G: Gate + Sync, W: Threads + Wait + Sync>(
     thread::map_vec(rt, auctions, &part)
 }
 
-// All that came of these auctions, or want of memory of one of them.
+// Returns all these auctions. Fails if one of them ran out of memory, or if memory runs out here.
 fn all_of(alloc: Global, rans: Vec<Result<Ran, NoMemory>>) -> Result<Vec<Ran>, NoMemory>
     ensures { IfOk result (λ all. map (λ ran. Ok ran) all.items ≡ rans.items) }
 {

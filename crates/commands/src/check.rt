@@ -1,4 +1,6 @@
-//! The command `check`: the inputs are read and counted.
+//! The command `check`: reads the inputs and prints their counts.
+//!
+//! Only `auction_cmd` calls it.
 
 ghost use Rattle.std.specs.Prelude.{◌≡◌, [], IfOk, None};
 ghost use Rattle.commands.specs.Counts.{counts_text};
@@ -17,7 +19,7 @@ use outside_io::sink::Sink;
 use result_text::counts::push_count;
 use std::alloc::{AllocError as NoMemory, Global};
 
-// The counts of the inputs, each on a line of its own.
+// Returns the text of the inputs' counts, each on a line of its own.
 #[tactic(auto, unfolding(crate::specs::Counts::counts_text))]
 fn counts(alloc: Global, inputs: &Inputs) -> Result<Vec<u8>, NoMemory>
     ensures { IfOk result (λ text. text.items ≡ counts_text inputs.now) }
@@ -30,8 +32,10 @@ fn counts(alloc: Global, inputs: &Inputs) -> Result<Vec<u8>, NoMemory>
     Ok(text)
 }
 
-/// Reads the inputs and writes how many stations and pairs the book has, and how many fields of the rows file pair a
-/// station with itself, and how many others are of a pair one of whose stations has no domain row. It stores nothing.
+/// Reads the inputs and prints four counts. Stores nothing and returns no record.
+///
+/// The counts are the stations of the book, its pairs, and two counts of fields of the rows file. The first is of fields that
+/// pair a station with itself. The second is of other fields whose pair has a station without a domain row.
 pub fn check<F: Folder, K: Sink>(
     alloc: Global,
     files: &InputArgs<'_>,

@@ -1,5 +1,7 @@
-//! The constraint files, read in pieces: whatever the length of a file, no more of it is held than one piece and the line
-//! that a piece's end cuts.
+//! Reads the constraint files in pieces.
+//!
+//! Whatever the length of a file, no more of it is held than one piece and the line that the piece's end cuts. `sources` and
+//! `batch_inputs` call it.
 
 ghost use Rattle.std.specs.Prelude.{◌≡◌, ◌≤◌, ◌+◌, ◌++◌, ℕ, List, Ok, Some, length};
 ghost use Rattle.outside_io.specs.Files.{StoredFile};
@@ -9,7 +11,7 @@ ghost use Rattle.pack_defs.specs.declared.domain.Domain.{Domain};
 ghost use Rattle.commands.specs.Inputs.{Agrees, CountsFault, and_then, file_of, refused_by, rows_read};
 ghost use Rattle.commands.specs.Pieces.{IsBegun, IsFed, IsHandedOut};
 
-use crate::inputs::{FILE_LIMIT, Stop, stop_of};
+use crate::input_file::{FILE_LIMIT, Stop, stop_of};
 use crate::refusal::Refusal;
 use command_words::run_words::Input;
 use constraint_files::domains::{DomainReader, Domains};
@@ -18,7 +20,7 @@ use constraint_files::pairs::{PairReader, Pairs};
 use outside_io::folder::Folder;
 use std::alloc::Global;
 
-// Why the reading of a constraint file stops, where its reader answers so.
+// Returns why the reading of a constraint file stops, for this error of its reader.
 fn refused_by(input: Input, why: ReadErr) -> Stop
     ensures { result ≡ refused_by input why }
 {
@@ -28,7 +30,7 @@ fn refused_by(input: Input, why: ReadErr) -> Stop
     }
 }
 
-// Begins an input file.
+// Begins an input file, which `next_piece` then reads.
 fn begin<F: Folder>(folder: &mut F, name: &str, input: Input) -> Result<(), Stop>
     ensures told { (files : List StoredFile) → (F.told folder.old).files ≡ Some files →
         IsBegun (F.told folder.old).steady (file_of files name.now input) (F.left folder.new) result }
@@ -42,7 +44,7 @@ fn begin<F: Folder>(folder: &mut F, name: &str, input: Input) -> Result<(), Stop
     }
 }
 
-// Puts the next piece of the file that is begun in the place of the last one.
+// Replaces `piece` with the next piece of the file that is begun. An empty piece is the end of the file.
 fn next_piece<F: Folder>(folder: &mut F, input: Input, piece: &mut Vec<u8>) -> Result<(), Stop>
     ensures told { (rest : List ℕ) → F.left folder.old ≡ Some rest →
         IsHandedOut (F.told folder.old).steady rest (F.left folder.new) piece.new.items result }
@@ -59,7 +61,7 @@ fn next_piece<F: Folder>(folder: &mut F, input: Input, piece: &mut Vec<u8>) -> R
     }
 }
 
-// Feeds a reader of domains all that is left of the file that is begun.
+// Feeds the rest of the file that is begun to a reader of domains.
 fn feed_domains<F: Folder>(
     alloc: Global,
     folder: &mut F,
@@ -85,7 +87,12 @@ fn feed_domains<F: Folder>(
     }
 }
 
-/// The domains that a file holds.
+/// Returns the domains that the domains file of this name holds.
+///
+/// # Errors
+///
+/// `CannotRead` if the file cannot be read, `Refused` if it is too long or one of its records is rejected, `NoMemory` if memory
+/// runs out. No file is changed.
 pub(crate) fn domains_from<F: Folder>(
     alloc: Global,
     folder: &mut F,
@@ -107,7 +114,7 @@ pub(crate) fn domains_from<F: Folder>(
     }
 }
 
-// Feeds a reader of pairs all that is left of the file that is begun.
+// Feeds the rest of the file that is begun to a reader of pairs.
 fn feed_pairs<'a, F: Folder>(
     alloc: Global,
     folder: &mut F,
@@ -133,7 +140,12 @@ fn feed_pairs<'a, F: Folder>(
     }
 }
 
-/// The pairs that a file holds, over these domains.
+/// Returns the pairs that the rows file of this name holds, over these domains.
+///
+/// # Errors
+///
+/// `CannotRead` if the file cannot be read, `Refused` if it is too long or one of its records is rejected, `NoMemory` if memory
+/// runs out. No file is changed.
 pub(crate) fn pairs_from<F: Folder>(
     alloc: Global,
     folder: &mut F,

@@ -1,4 +1,6 @@
-//! How texts are delivered: each is stored under its name, and then another is printed.
+//! Stores texts under their names, and prints a summary after them.
+//!
+//! Every command that stores a file does it here. A command that also prints a summary prints it once all its files are stored.
 
 ghost use Rattle.std.specs.Prelude.{◌≡◌, IfErr, OnOk, map};
 ghost use Rattle.commands.specs.Delivery.{AreAllStored, Delivers, ExplainsStore, IsNotStored, IsStored, StopsAtOne, named, named_text};
@@ -11,7 +13,12 @@ use crate::status::{NO_MEMORY, UNWRITTEN};
 use outside_io::folder::{Folder, NewFile, StoreErr};
 use outside_io::sink::Sink;
 
-/// Stores a text under this name. Where it can't, a line says so, and the error is the status.
+/// Stores a text under this name.
+///
+/// # Errors
+///
+/// The exit status, `UNWRITTEN` or `NO_MEMORY`, if the text is not stored. A line on the sink says why. In a folder whose
+/// contents are part of the model, the name may then hold anything or be gone, and all other files are unchanged.
 pub fn store<F: Folder, K: Sink>(
     folder: &mut F,
     out: &mut K,
@@ -32,8 +39,13 @@ pub fn store<F: Folder, K: Sink>(
     }
 }
 
-/// Stores these texts under their names, in order: over the system's files none is in its place before all are written. Where one
-/// can't be stored, a line says so, and the error is the status.
+/// Stores these texts under their names, in order. Over the system's files, none is in its place before all are written.
+///
+/// # Errors
+///
+/// The exit status, `UNWRITTEN` or `NO_MEMORY`, if a text is not stored. A line on the sink says why. In a folder whose contents
+/// are part of the model, the texts before that one are stored, its name may hold anything or be gone, and other files are
+/// unchanged.
 pub fn store_all<F: Folder, K: Sink>(
     folder: &mut F,
     out: &mut K,
@@ -54,7 +66,7 @@ pub fn store_all<F: Folder, K: Sink>(
     }
 }
 
-// Says why the text under this name was not stored. It gives the status, and takes no memory.
+// Prints why the text under this name was not stored, and returns the status for it. Allocates no memory.
 fn say_unstored<K: Sink>(out: &mut K, name: &str, why: StoreErr) -> u8
     ensures { ExplainsStore name.now why
         (K.told out.old).held (K.told out.new).held (K.told out.old).faults (K.told out.new).faults result }
@@ -71,7 +83,8 @@ fn say_unstored<K: Sink>(out: &mut K, name: &str, why: StoreErr) -> u8
     }
 }
 
-/// Stores these texts under their names, in order, and prints the summary. It gives the status, which is `done` where all is done.
+/// Stores these texts under their names, in order, and then prints the summary. Returns `done` if all succeeds, else the status
+/// of what failed. If a text is not stored, the summary is not printed.
 pub fn deliver<F: Folder, K: Sink>(
     folder: &mut F,
     out: &mut K,

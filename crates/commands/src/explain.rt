@@ -1,4 +1,6 @@
-//! The lines of a reading that stopped, and of want of memory.
+//! Prints why the reading of inputs stopped, and that memory ran out.
+//!
+//! The commands call it, and `auction_cmd` if memory runs out before a command begins.
 
 ghost use Rattle.std.specs.Prelude.{◌≡◌, ◌≤◌, [], None};
 ghost use Rattle.commands.specs.Ends.{ExplainsHalt};
@@ -8,14 +10,14 @@ ghost use Rattle.commands.specs.Statuses.{NO_MEMORY};
 ghost use Rattle.command_words.specs.Words.{inputs_seen};
 
 use crate::finish::Finish;
-use crate::inputs::Stop;
+use crate::input_file::Stop;
 use crate::refusal::say_refused;
 use crate::says::say;
 use crate::status::{NO_MEMORY, REFUSED, UNREAD};
 use command_words::run_words::InputArgs;
 use outside_io::sink::Sink;
 
-/// Says why these inputs were not read, and gives the status for it. It takes no memory.
+/// Prints why these inputs were not read, and returns the status for it: `UNREAD`, `REFUSED` or `NO_MEMORY`. Allocates no memory.
 pub fn explain<K: Sink>(out: &mut K, files: &InputArgs<'_>, stop: Stop) -> u8
     ensures explains { ExplainsHalt (inputs_seen files.now) stop
         (K.told out.old).held (K.told out.new).held (K.told out.old).faults (K.told out.new).faults result }
@@ -37,7 +39,7 @@ pub fn explain<K: Sink>(out: &mut K, files: &InputArgs<'_>, stop: Stop) -> u8
     }
 }
 
-/// Says that memory ran out. It takes none.
+/// Prints that memory ran out. Allocates none.
 pub fn say_memory<K: Sink>(out: &mut K)
     ensures says { IsSaidTo (K.told out.old) (K.told out.new) memory_line }
     ensures counted { (K.told out.old).faults ≤ (K.told out.new).faults }
@@ -45,7 +47,7 @@ pub fn say_memory<K: Sink>(out: &mut K)
     say(out, &["out of memory\n"]);
 }
 
-/// The end where memory ran out and nothing was stored.
+/// Prints that memory ran out, and returns the end with the status `NO_MEMORY` and no record.
 pub fn starve<K: Sink>(out: &mut K) -> Finish
     ensures status { result.status ≡ NO_MEMORY }
     ensures none { result.result ≡ None }

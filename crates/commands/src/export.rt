@@ -1,4 +1,6 @@
-//! The command `export`: the packing formula of a step's test is stored, for a prover of the reader's own.
+//! The command `export`: stores the packing formula of a step's test, for a prover of the user's own.
+//!
+//! `shown` reads and checks the transcript, and `open_tests` makes the formula. Only `auction_cmd` calls it.
 
 ghost use Rattle.std.specs.Prelude.{◌≡◌, [], IfOk, None};
 ghost use Rattle.auction_core.specs.Setup.{IsOfAuction};
@@ -25,7 +27,7 @@ use outside_io::folder::Folder;
 use outside_io::sink::Sink;
 use std::alloc::{AllocError as NoMemory, Global};
 
-// The text of the packing formula of the stations that a step asked about.
+// Returns the text of the packing formula of the stations that this step asked about.
 fn formula_of(alloc: Global, inputs: &Inputs, rec: &Record, step: u32) -> Result<Vec<u8>, NoMemory>
     requires auction { IsOfAuction inputs.now.scenario inputs.now.book }
     requires own { IsRecordIn rec.now.order inputs.now rec.now }
@@ -36,7 +38,7 @@ fn formula_of(alloc: Global, inputs: &Inputs, rec: &Record, step: u32) -> Result
     Ok(text)
 }
 
-// Stores the formula of the step. The inputs and the record are those that the transcript shows.
+// Stores the formula of the step. `inputs` and `rec` are what `shown_by` returned.
 fn store_formula<F: Folder, K: Sink>(
     alloc: Global,
     files: &ExportArgs<'_>,
@@ -67,8 +69,9 @@ fn store_formula<F: Folder, K: Sink>(
     }
 }
 
-/// Reads the inputs and the transcript, checks each step of it, and stores the packing formula of the stations that a step asked
-/// about, as DIMACS CNF. A formula that has no model says that they don't fit. It prints nothing, and gives no record.
+/// Reads the inputs and the transcript, checks each step, and stores the packing formula of the stations that a step asked about,
+/// as DIMACS CNF. If the formula has no model, the stations do not fit. If all succeeds nothing is printed. No record is
+/// returned.
 pub fn export<F: Folder, K: Sink>(
     alloc: Global,
     files: &ExportArgs<'_>,

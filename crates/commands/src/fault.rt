@@ -1,4 +1,6 @@
-//! Why a transcript is refused, and the line that says so.
+//! Why a transcript is rejected, and the message that says so.
+//!
+//! `shown` and `resume` use it.
 
 ghost use Rattle.std.specs.Prelude.{◌≡◌, ◌≤◌, ◌++◌};
 ghost use Rattle.commands.specs.Outside.{IsSaidTo};
@@ -9,16 +11,16 @@ use outside_io::sink::Sink;
 use transcript_check::ShownWhy;
 use transcript_text::TextErr;
 
-/// Why a transcript is refused.
+/// Why a transcript is rejected.
 #[derive(Clone, Copy, Debug, PartialEq, Eq)]
 pub enum TranscriptFault {
-    /// Its text is none of a transcript.
+    /// The text is not a transcript.
     Unread(TextErr),
-    /// A step of it is not shown: the first one, where the start is step 0.
+    /// This is the first step that could not be verified. Step 0 is the start.
     Unshown { step: u64, why: ShownWhy },
 }
 
-// Why a step is not shown, and the line's end.
+// Returns the words for why a step could not be verified, with the line's end.
 #[tactic(auto, unfolding(crate::specs::Verified::why_text))]
 fn why_text(why: ShownWhy) -> &'static str
     ensures { result.now ≡ why_text why }
@@ -29,7 +31,7 @@ fn why_text(why: ShownWhy) -> &'static str
     }
 }
 
-// Says why the text of this name is none of a transcript.
+// Prints why the text of this name is not a transcript.
 #[tactic(auto, unfolding(crate::specs::Verified::unread_text))]
 fn say_unread<K: Sink>(out: &mut K, name: &str, why: TextErr)
     ensures says { IsSaidTo (K.told out.old) (K.told out.new) (name.now ++ unread_text why) }
@@ -43,7 +45,7 @@ fn say_unread<K: Sink>(out: &mut K, name: &str, why: TextErr)
     }
 }
 
-/// Says why the transcript of this name is refused. It takes no memory.
+/// Prints why the transcript of this name is rejected. Allocates no memory.
 #[tactic(auto, unfolding(crate::specs::Verified::fault_text))]
 pub fn say_fault<K: Sink>(out: &mut K, name: &str, fault: TranscriptFault)
     ensures says { IsSaidTo (K.told out.old) (K.told out.new) (fault_line name.now fault) }

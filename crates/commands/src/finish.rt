@@ -1,11 +1,13 @@
-//! How the program ended: its status, and the record where it comes back, or the records of a batch.
+//! How the program ended: its exit status, and the record of its auction or the records of a batch, if any are returned.
+//!
+//! Every command returns a `Finish`, and `auction_cmd` returns it to its caller.
 
 ghost use Rattle.std.specs.Prelude.{◌≡◌, [], None, Some};
 
 use auction_core::record::Record;
 use std::marker::Model;
 
-/// The records of a batch, in the order of its list; none, where there was none.
+/// The records of a batch, in the order of its list; empty if no batch was run.
 #[derive(Debug, Drop)]
 pub struct Records {
     kept: Option<Vec<Record>>,
@@ -22,14 +24,14 @@ impl Model for Records {
 }
 
 impl Records {
-    /// No records. It takes no memory.
+    /// Returns no records. Allocates no memory.
     pub fn none() -> Records
         ensures { result ≡ [] }
     {
         Records { kept: None }
     }
 
-    /// These records.
+    /// Returns these records as those of a batch.
     pub fn of(records: Vec<Record>) -> Records
         ensures { result ≡ records.items }
     {
@@ -38,7 +40,7 @@ impl Records {
         }
     }
 
-    /// The records, in order.
+    /// Returns the records, in order.
     pub fn as_slice(&self) -> &[Record]
         ensures { result.now ≡ self.now }
     {
@@ -52,25 +54,30 @@ impl Records {
 /// How the program ended.
 #[derive(Debug, Drop)]
 pub struct Finish {
-    /// The exit status.
+    /// The exit status, one of the constants of `status`.
     pub status: u8,
-    /// The record of the auction, where it comes back, by the statuses of `status`: of `run` at `DONE`, `LEFT_OPEN`,
-    /// `UNWRITTEN`, `START_UNFIT` and `START_OPEN`, and at `NO_MEMORY` where memory ran out at a store; of `verify` at `DONE`,
-    /// `LEFT_OPEN` and `UNWRITTEN`; of `make` at `DONE` and `LEFT_OPEN`, and at `UNWRITTEN` where the files are stored; of
-    /// `import` at `DONE`, `LEFT_OPEN` and `UNWRITTEN`, and at `NO_MEMORY` where memory ran out at a store; of `seek` that of the
-    /// start set alone up to the top channel that was found at `DONE`, `LEFT_OPEN` and `UNWRITTEN`, and at `NO_MEMORY` where
-    /// memory ran out at the store, and up to the scenario's own at `START_UNFIT` and `START_OPEN`.
+    /// The record of the auction, if it is returned. Each command returns it at these statuses:
+    ///
+    /// - `run` and `resume`: `DONE`, `LEFT_OPEN`, `UNWRITTEN`, `START_UNFIT`, `START_OPEN`, and `NO_MEMORY` if memory ran out in
+    ///   a store.
+    /// - `verify`: `DONE`, `LEFT_OPEN` and `UNWRITTEN`.
+    /// - `make`: `DONE`, `LEFT_OPEN`, and `UNWRITTEN` if the files are stored.
+    /// - `import`: `DONE`, `LEFT_OPEN`, `UNWRITTEN`, and `NO_MEMORY` if memory ran out in a store.
+    /// - `seek`: `DONE`, `LEFT_OPEN`, `UNWRITTEN`, and `NO_MEMORY` if memory ran out in the store. The record is of the start set
+    ///   alone, up to the top channel that was found.
+    /// - `seek` also at `START_UNFIT` and `START_OPEN`. The record is of the start set alone, up to the scenario's own top
+    ///   channel.
     pub result: Option<Record>,
-    /// The record of the start set alone up to one channel less, of `seek` where `result` is that up to the top channel that was
-    /// found and that channel is above 14.
+    /// The record of the start set alone up to one channel less. `seek` returns it if `result` is the record up to the top
+    /// channel that was found, and that channel is above 14.
     pub below: Option<Record>,
-    /// The records of the auctions of `batch`, one for each line of its list, in order: at `DONE`, `LEFT_OPEN`, `UNWRITTEN` and
-    /// `SOME_UNSTARTED`, and at `NO_MEMORY` where memory ran out at a store.
+    /// The records of the auctions of `batch`, one for each line of its list, in order. They are returned at `DONE`, `LEFT_OPEN`,
+    /// `UNWRITTEN`, `SOME_UNSTARTED`, and at `NO_MEMORY` if memory ran out in a store.
     pub batch: Records,
 }
 
 impl Finish {
-    /// An end without a record.
+    /// Returns an end without a record.
     pub fn without_record(status: u8) -> Finish
         ensures status { result.status ≡ status }
         ensures none { result.result ≡ None }
@@ -85,7 +92,7 @@ impl Finish {
         }
     }
 
-    /// An end with this record.
+    /// Returns an end with this record.
     pub fn with_record(status: u8, kept: Record) -> Finish
         ensures status { result.status ≡ status }
         ensures kept { result.result ≡ Some kept }
@@ -100,7 +107,7 @@ impl Finish {
         }
     }
 
-    /// An end with this record, and, if there is one, that of one channel less.
+    /// Returns an end with this record and, if there is one, the record of one channel less.
     pub fn with_both(status: u8, kept: Record, below: Option<Record>) -> Finish
         ensures status { result.status ≡ status }
         ensures kept { result.result ≡ Some kept }
@@ -115,7 +122,7 @@ impl Finish {
         }
     }
 
-    /// The end of a batch with these records.
+    /// Returns the end of a batch with these records.
     pub fn with_batch(status: u8, records: Vec<Record>) -> Finish
         ensures status { result.status ≡ status }
         ensures none { result.result ≡ None }

@@ -1,4 +1,6 @@
-//! The command `import`: a step that was left open is settled by a proof from outside.
+//! The command `import`: settles an undecided step by a proof from outside.
+//!
+//! `shown` reads and checks the transcript, and `open_tests` settles the step. Only `auction_cmd` calls it.
 
 ghost use Rattle.std.specs.Prelude.{◌≡◌, [], IfOk, None};
 ghost use Rattle.pack_defs.specs.Scenario.{IsWithinLimits};
@@ -34,7 +36,7 @@ use std::alloc::{AllocError as NoMemory, Global};
 use transcript_text::again::keeps_ascending_fits;
 use transcript_text::write::write_transcript;
 
-// The texts of a record of which a step was settled.
+// The texts of a record in which a step was settled.
 #[derive(Drop)]
 struct Texts {
     result: Vec<u8>,
@@ -42,7 +44,7 @@ struct Texts {
     summary: Vec<u8>,
 }
 
-// The record, its undecided step of this number settled by the log of this text. It touches nothing outside.
+// Returns the record with its undecided step of this number settled by the log in this text. Uses neither folder nor sink.
 fn settled_by(
     alloc: Global,
     inputs: &Inputs,
@@ -59,7 +61,7 @@ fn settled_by(
     settle_by_text(alloc, rec, &inputs.book, step, text)
 }
 
-// Says why the log of this name settled nothing. It gives the status.
+// Prints why the log of this name settled nothing, and returns the status for it.
 fn say_unsettled<K: Sink>(out: &mut K, name: &str, why: SettleErr) -> u8
     ensures { ExplainsLog name.now why
         (K.told out.old).held (K.told out.new).held (K.told out.old).faults (K.told out.new).faults result }
@@ -72,7 +74,7 @@ fn say_unsettled<K: Sink>(out: &mut K, name: &str, why: SettleErr) -> u8
     NOT_SETTLED
 }
 
-// The texts of this record, which is one of the inputs' auction. It touches nothing outside.
+// Returns the texts of this record, which is one of the inputs' auction. Uses neither folder nor sink.
 fn texts_of(alloc: Global, inputs: &Inputs, rec: &Record) -> Result<Texts, NoMemory>
     requires limits { IsWithinLimits inputs.now.scenario }
     requires of { IsRecordIn rec.now.order inputs.now rec.now }
@@ -90,7 +92,8 @@ fn texts_of(alloc: Global, inputs: &Inputs, rec: &Record) -> Result<Texts, NoMem
     })
 }
 
-// Settles the step by the log, and delivers what comes of it. The inputs and the record are those that the transcript shows.
+// Settles the step by the log, and stores and prints the texts of the new record. `inputs` and `rec` are what `shown_by`
+// returned.
 fn settle<F: Folder, K: Sink>(
     alloc: Global,
     files: &ImportArgs<'_>,
@@ -139,9 +142,11 @@ fn settle<F: Folder, K: Sink>(
     Finish::with_record(status, settled)
 }
 
-/// Reads the inputs and the transcript, checks each step of it, and settles an undecided step by a log that refutes the step's
-/// set: the log in LRAT's lines over the clauses that `export` stores for that step, of which what stands behind its first empty
-/// line is passed over. The result and the transcript of the new record are stored, in this order, and the summary is written.
+/// Reads the inputs and the transcript, checks each step, and settles an undecided step by a log that refutes the step's set.
+///
+/// The log is in the lines of LRAT (Cruz-Filipe et al. 2017), over the clauses that `export` stores for that step. What comes
+/// after the log's first empty line is read, but not used. The result and the transcript of the new record are stored, in this
+/// order, and its summary is printed.
 pub fn import<F: Folder, K: Sink>(
     alloc: Global,
     files: &ImportArgs<'_>,

@@ -1,115 +1,40 @@
-//! The inputs of an auction, read from three files; and what its owners say, where it is live, read from a fourth.
+//! Reads the inputs of an auction from three files, and the owners' answers of a live auction from a fourth.
+//!
+//! `run`, `check`, `resume` and `shown` call `read_inputs`. It reads the three files through `sources`, and the fourth itself.
 
 ghost use Rattle.std.specs.Prelude.{◌≡◌, List, Some, IfOk, option_map};
 ghost use Rattle.outside_io.specs.Files.{StoredFile};
 ghost use Rattle.pack_defs.specs.Book.{stations_of};
 ghost use Rattle.pack_defs.specs.Scenario.{IsWithinLimits, facilities};
-ghost use Rattle.scenario_json.specs.ScenarioOf.{scenario_of};
-ghost use Rattle.commands.specs.declared.inputs.Stop.TheVariants.{NoMemory};
-ghost use Rattle.commands.specs.Inputs.{Agrees, CountsFault, and_then, file_of, inputs_of, said_in, scenario_read, stop_of, valued_of, with_said};
+ghost use Rattle.commands.specs.Inputs.{Agrees, CountsFault, inputs_of, said_in, valued_of, with_said};
 ghost use Rattle.command_words.specs.Words.{inputs_seen};
 
+use crate::input_file::{Stop, load};
 use crate::refusal::Refusal;
 use crate::sources::{book_of, read_sources};
 use command_words::run_words::{Input, InputArgs};
 use offer_sched::offers::last_round;
-use outside_io::folder::{Folder, LoadErr};
+use outside_io::folder::Folder;
 use owner_line::error::OwnerErr;
 use owner_line::read::read_owners;
 use pack_defs::book::Book;
 use pack_defs::owners::Owners;
 use pack_defs::scenario::Scenario;
-use scenario_json::error::ScenarioErr;
-use scenario_json::scenario::read_scenario;
 use std::alloc::{AllocError, Global};
-
-/// The greatest length of an input file, in bytes.
-pub const FILE_LIMIT: u64 = 268_435_456;
-
-/// Why the inputs were not read.
-#[derive(Clone, Copy, Debug, PartialEq, Eq)]
-pub enum Stop {
-    /// The file can't be read.
-    CannotRead(Input),
-    /// A file is too long, or what it holds is refused.
-    Refused(Refusal),
-    /// Memory ran out.
-    NoMemory,
-}
-
-impl From<AllocError> for Stop {
-    ghost from_gives = { λ _ e. e ≡ NoMemory };
-
-    fn from(_error: AllocError) -> Stop {
-        Stop::NoMemory
-    }
-}
 
 /// The inputs of an auction.
 #[derive(Drop)]
 pub struct Inputs {
-    /// The scenario; of a live auction with what its owners say.
+    /// The scenario. In a live auction it has the owners' answers.
     pub scenario: Scenario,
     pub book: Book,
-    /// The fields of the rows file that pair a station with itself.
+    /// How many fields of the rows file pair a station with itself.
     pub self_pairs: u64,
-    /// Those of a pair one of whose stations has no domain row.
+    /// How many other fields of the rows file make a pair with a station that has no domain row.
     pub strangers: u64,
 }
 
-/// Why the reading of an input file stops, where the folder answers so.
-pub(crate) fn stop_of(why: LoadErr, input: Input) -> Stop
-    ensures { result ≡ stop_of why input }
-{
-    match why {
-        LoadErr::Failed => Stop::CannotRead(input),
-        LoadErr::TooLong => Stop::Refused(Refusal::TooLong(input)),
-        LoadErr::NoMemory => Stop::NoMemory,
-    }
-}
-
-// The bytes of an input file.
-pub(crate) fn load<F: Folder>(
-    alloc: Global,
-    folder: &mut F,
-    name: &str,
-    input: Input,
-) -> Result<Vec<u8>, Stop>
-    ensures told { (files : List StoredFile) → (F.told folder.old).files ≡ Some files →
-        Agrees (λ v. v.items) (F.told folder.old).steady (file_of files name.now input) result }
-    ensures files { (F.told folder.new).files ≡ (F.told folder.old).files }
-    ensures steady { (F.told folder.new).steady ≡ (F.told folder.old).steady }
-    ensures counted { CountsFault (F.told folder.old).faults (F.told folder.new).faults result }
-{
-    let mut bytes = Vec::new(alloc);
-    match folder.load(name, FILE_LIMIT, &mut bytes) {
-        Ok(()) => Ok(bytes),
-        Err(why) => Err(stop_of(why, input)),
-    }
-}
-
-// The scenario that a file holds.
-pub(crate) fn scenario_from<F: Folder>(
-    alloc: Global,
-    folder: &mut F,
-    name: &str,
-) -> Result<Scenario, Stop>
-    ensures told { (files : List StoredFile) → (F.told folder.old).files ≡ Some files → Agrees (λ sc. sc) (F.told folder.old).steady
-        (and_then (file_of files name.now Input.Scenario) (λ bytes. scenario_read (scenario_of bytes))) result }
-    ensures limits { IfOk result IsWithinLimits }
-    ensures files { (F.told folder.new).files ≡ (F.told folder.old).files }
-    ensures steady { (F.told folder.new).steady ≡ (F.told folder.old).steady }
-    ensures counted { CountsFault (F.told folder.old).faults (F.told folder.new).faults result }
-{
-    let bytes = load(alloc, folder, name, Input::Scenario)?;
-    match read_scenario(alloc, &bytes) {
-        Ok(scenario) => Ok(scenario),
-        Err(ScenarioErr::NoMemory) => Err(Stop::NoMemory),
-        Err(why) => Err(Stop::Refused(Refusal::Scenario(why))),
-    }
-}
-
-// The inputs that the domains, the rows and the scenario hold, read in this order, and the book that they make.
+// Returns what the domains, the rows and the scenario hold, read in this order, with the book that they make.
 fn read_valued<F: Folder>(
     alloc: Global,
     folder: &mut F,
@@ -133,7 +58,7 @@ fn read_valued<F: Folder>(
     })
 }
 
-// The facility numbers of the stations.
+// Returns the facility numbers of the scenario's stations, in order.
 fn ids_of(alloc: Global, scenario: &Scenario) -> Result<Vec<u32>, AllocError>
     ensures { IfOk result (λ v. v.items ≡ facilities scenario.now) }
 {
@@ -141,7 +66,7 @@ fn ids_of(alloc: Global, scenario: &Scenario) -> Result<Vec<u32>, AllocError>
     stations.iter().map(|station| station.id).collect(alloc)
 }
 
-// What the owners' file says of the stations of this scenario.
+// Returns the owners' answers for the stations of this scenario, from the owners' file of this name.
 fn owners_from<F: Folder>(
     alloc: Global,
     folder: &mut F,
@@ -165,7 +90,7 @@ fn owners_from<F: Folder>(
     }
 }
 
-// These inputs with what the owners' file says, where one is named.
+// Returns these inputs, with the owners' answers if an owners' file is named.
 fn with_said<F: Folder>(
     alloc: Global,
     folder: &mut F,
@@ -190,17 +115,22 @@ fn with_said<F: Folder>(
     Ok(live)
 }
 
-/// The inputs that these files of the folder hold: the domains, the rows and the scenario, read in this order, and the
-/// book that they make; and then, where an owners' file is named, what the owners say. The error is the first of these files
-/// that can't be read or is refused, one that is too long among the latter; or, before the owners' file, the least station
-/// that has no domain row; or want of memory.
+/// Returns the inputs that these files of the folder hold.
+///
+/// The domains, the rows and the scenario are read in this order, and the book is made of them. If an owners' file is named, the
+/// owners' answers are then read from it.
+///
+/// # Errors
+///
+/// `CannotRead` or `Refused` for the first of these files that cannot be read, is too long or is rejected. `Refused` also, before
+/// the owners' file is read, for the least station that has no domain row. `NoMemory` if memory runs out. No file is changed.
 #[tactic(auto, unfolding(crate::specs::Inputs::inputs_of))]
 pub fn read_inputs<F: Folder>(
     alloc: Global,
     folder: &mut F,
     names: &InputArgs<'_>,
 ) -> Result<Inputs, Stop>
-    // The answer is what the files hold.
+    // The result is what the files hold.
     ensures told { (files : List StoredFile) → (F.told folder.old).files ≡ Some files →
         Agrees (λ i. i) (F.told folder.old).steady (inputs_of files (inputs_seen names.now)) result }
     ensures limits { IfOk result (λ i. IsWithinLimits i.scenario) }

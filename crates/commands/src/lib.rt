@@ -1,11 +1,13 @@
-//! The program's commands, over any folder, any sink and any gate: an auction from files to result.
+//! The program's commands: each runs from its input files to its exit status, over any folder, any sink and any gate.
 //!
-//! It may call every crate below. `auction_cmd` alone calls it, once it knows which command the words are.
+//! This crate may call every crate below it. `auction_cmd` alone calls the commands, once it knows which one the words name.
+//! `auction_cli` uses a constant of `status`.
 //!
-//! Read `run` first, with `inputs`, `sources` and `constraints`, which read, and `conclude` with `delivery`, which store and write. The others are
-//! like it: `check`; `verify`, with `shown`; `resume`; `seek`, with `tops`; `batch`, with `batch_inputs` and `batch_run`; `make`;
-//! `export` and `import`, with `settling`. How a command ends is in `finish` and `status`, and what it says in `says`, `explain`,
-//! `refusal` and `fault`.
+//! Read `run` first: `inputs`, `sources`, `constraints` and `input_file` read its files, and its `conclude` stores and prints
+//! through `delivery`. The other commands are in `check`, `verify`, `resume`, `seek`, `batch`, `make`, `export` and `import`, and have
+//! the same shape. `verify`, `export` and `import` share `shown`, and the last two `settling`. `seek` uses `tops`, and `batch`
+//! uses `batch_inputs` and `batch_run`. `finish` and `status` define how a command ends. `says`, `explain`, `refusal` and `fault`
+//! print its messages.
 #![tactic(auto)]
 
 pub mod batch;
@@ -19,6 +21,7 @@ pub mod export;
 mod fault;
 pub mod finish;
 pub mod import;
+pub mod input_file;
 pub mod inputs;
 pub mod make;
 mod refusal;

@@ -1,4 +1,6 @@
-//! The command `make`: the files of an auction that is made from a number are stored, and it is carried out.
+//! The command `make`: generates the files of an auction from a number, stores them, and runs the auction.
+//!
+//! `scenario_make` generates the files. Only `auction_cmd` calls it.
 
 ghost use Rattle.std.specs.Prelude.{◌≡◌, ◌≤◌, [], IfErr, IfOk, Ok, OnOk, None};
 ghost use Rattle.pack_defs.specs.Book.{stations_of};
@@ -38,14 +40,14 @@ use std::alloc::{AllocError as NoMemory, Global};
 use std::sync::Wait;
 use std::thread::Threads;
 
-// An auction that was carried out.
+// A generated auction that was run.
 #[derive(Drop)]
 struct Carried {
     record: Record,
     summary: Vec<u8>,
 }
 
-// The inputs that made files hold. They are accepted, so that the only error is want of memory.
+// Returns the inputs that generated files hold. Fails only if memory runs out, since the readers accept these files.
 #[tactic(auto, unfolding(crate::specs::Made::inputs_in))]
 fn inputs_in(alloc: Global, made: &Made) -> Result<Inputs, NoMemory>
     requires { AreAccepted made.now.domains.items made.now.rows.items made.now.scenario.items }
@@ -74,7 +76,7 @@ fn inputs_in(alloc: Global, made: &Made) -> Result<Inputs, NoMemory>
     })
 }
 
-// The record of the auction of these inputs, where nobody starts on air: so it is carried through.
+// Returns the record of the auction of these inputs. The auction does not end at its start, since no station starts on air.
 fn record_of<G: Gate + Sync, W: Threads + Wait + Sync>(
     rt: &W,
     alloc: Global,
@@ -89,7 +91,7 @@ fn record_of<G: Gate + Sync, W: Threads + Wait + Sync>(
     Ok(record)
 }
 
-// The summary of the record, which is that of the inputs.
+// Returns the summary of the record, which depends only on the inputs and on which tests are undecided.
 fn summary_of(alloc: Global, inputs: &Inputs, rec: &Record) -> Result<Vec<u8>, NoMemory>
     requires limits { IsWithinLimits inputs.now.scenario }
     requires of { IsRecordOf inputs.now rec.now }
@@ -99,7 +101,7 @@ fn summary_of(alloc: Global, inputs: &Inputs, rec: &Record) -> Result<Vec<u8>, N
     Ok(text)
 }
 
-// Carries out the auction of made files. Of the outside it calls the gate alone.
+// Runs the auction of generated files. Uses the gate, and neither folder nor sink.
 fn carry_out<G: Gate + Sync, W: Threads + Wait + Sync>(
     rt: &W,
     alloc: Global,
@@ -115,7 +117,7 @@ fn carry_out<G: Gate + Sync, W: Threads + Wait + Sync>(
     Ok(Carried { record, summary })
 }
 
-// Stores made files under these names, in order. Where it can't, a line says so, and the error is the status.
+// Stores generated files under these names, in order. If one is not stored, a line says why, and the error is the status.
 fn store_files<F: Folder, K: Sink>(
     folder: &mut F,
     out: &mut K,
@@ -148,9 +150,10 @@ fn store_files<F: Folder, K: Sink>(
     store_all(folder, out, &files)
 }
 
-/// Makes the files of the auction of a seed and a size, stores them, carries the auction out and writes the summary. The
-/// files are accepted, and nobody is on air at the start: so want of memory aside, all is done, unless a store or the write
-/// fails.
+/// Generates the files of the auction of a seed and a size, stores them, runs the auction and prints the summary.
+///
+/// The size is the number of stations. The generated files are accepted, and no station is on air at the start. The command fails
+/// only if memory runs out, or a store or the print fails.
 pub fn make<F: Folder, K: Sink, G: Gate + Sync, W: Threads + Wait + Sync>(
     rt: &W,
     alloc: Global,

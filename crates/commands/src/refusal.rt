@@ -1,4 +1,6 @@
-//! Why an input is refused, and the line that says so.
+//! Why an input is rejected, and the message that says so.
+//!
+//! The modules that read inputs return a `Refusal`, and `explain` prints it.
 
 ghost use Rattle.std.specs.Prelude.{◌≡◌, ◌≤◌, ◌++◌, codes, decimal};
 ghost use Rattle.commands.specs.Outside.{IsSaidTo};
@@ -13,27 +15,27 @@ use outside_io::sink::Sink;
 use owner_line::error::OwnerWhy;
 use scenario_json::error::ScenarioErr;
 
-/// Why the inputs are refused.
+/// Why the inputs are rejected.
 #[derive(Clone, Copy, Debug, PartialEq, Eq)]
 pub enum Refusal {
-    /// The file is longer than the limit.
+    /// This file is longer than the limit.
     TooLong(Input),
-    /// A record of a constraint file is refused. It stands in this line, where the first line is 1.
+    /// A record of a constraint file is rejected. It is in this line; the first line is 1.
     Row {
         input: Input,
         line: u64,
         why: RowWhy,
     },
-    /// The scenario is refused.
+    /// The scenario is rejected.
     Scenario(ScenarioErr),
-    /// The least station of the scenario that has no row in the domains file.
+    /// This is the least station of the scenario that has no row in the domains file.
     MissingDomain(u32),
-    /// A record of the owners' file is refused. It stands in this line, where the first line is 1.
+    /// A record of the owners' file is rejected. It is in this line; the first line is 1.
     Owners {
         line: u64,
         why: OwnerWhy,
     },
-    /// A record of a batch's list is refused. It stands in this line, where the first line is 1.
+    /// A record of a batch's list is rejected. It is in this line; the first line is 1.
     BadLine {
         line: u64,
     },
@@ -42,7 +44,7 @@ pub enum Refusal {
 }
 
 impl Refusal {
-    /// The file that is refused.
+    /// Returns the file that is rejected.
     pub fn input(&self) -> Input
         ensures { result ≡ input_of self.now }
     {
@@ -57,7 +59,7 @@ impl Refusal {
     }
 }
 
-// The words for the refusal of a record.
+// Returns the words for a rejected record of a constraint file.
 #[tactic(auto, unfolding(crate::specs::Refusals::row_text))]
 fn row_text(why: RowWhy) -> &'static str
     ensures { result.now ≡ row_text why }
@@ -73,7 +75,7 @@ fn row_text(why: RowWhy) -> &'static str
     }
 }
 
-// The words for the refusal of an owner's line.
+// Returns the words for a rejected record of the owners' file.
 #[tactic(auto, unfolding(crate::specs::Refusals::owner_text))]
 fn owner_text(why: OwnerWhy) -> &'static str
     ensures { result.now ≡ owner_text why }
@@ -88,7 +90,8 @@ fn owner_text(why: OwnerWhy) -> &'static str
     }
 }
 
-// Says of a member of the scenario, in the file of this name, what is wrong, and the place in its list, if it has one.
+// Prints what is wrong with a member of the scenario in the file of this name. If `at` is not 0, it is the member's place in its
+// list and is printed too.
 fn say_member<'p, K: Sink>(out: &mut K, file: &'p str, what: &'p str, member: &'p str, at: u64)
     ensures says { IsSaidTo (K.told out.old) (K.told out.new) (file.now ++ (what.now ++ (member.now ++ place_text at))) }
     ensures counted { (K.told out.old).faults ≤ (K.told out.new).faults }
@@ -101,7 +104,7 @@ fn say_member<'p, K: Sink>(out: &mut K, file: &'p str, what: &'p str, member: &'
     say(out, &[file, what, member, " at ", place.format(at), "\n"]);
 }
 
-// Says why a record in this line of the file of this name is refused.
+// Prints why the record in this line of the file of this name is rejected.
 fn say_row<'p, K: Sink>(out: &mut K, file: &'p str, line: u64, why: &'p str)
     ensures says { IsSaidTo (K.told out.old) (K.told out.new)
         (file.now ++ codes ": line " ++ decimal line ++ codes ": " ++ why.now ++ codes "\n") }
@@ -114,7 +117,7 @@ fn say_row<'p, K: Sink>(out: &mut K, file: &'p str, line: u64, why: &'p str)
     );
 }
 
-// Says why the scenario, in the file of this name, is refused.
+// Prints why the scenario in the file of this name is rejected.
 #[tactic(auto, unfolding(crate::specs::Refusals::scenario_text))]
 fn say_scenario<K: Sink>(out: &mut K, file: &str, error: ScenarioErr)
     ensures says { IsSaidTo (K.told out.old) (K.told out.new) (file.now ++ scenario_text error) }
@@ -153,7 +156,7 @@ fn say_scenario<K: Sink>(out: &mut K, file: &str, error: ScenarioErr)
     }
 }
 
-// Says why the file of this name is refused.
+// Prints why the file of this name is rejected.
 #[tactic(auto, unfolding(crate::specs::Refusals::refusal_text))]
 fn say_refusal<K: Sink>(out: &mut K, file: &str, refusal: Refusal)
     ensures says { IsSaidTo (K.told out.old) (K.told out.new) (file.now ++ refusal_text refusal) }
@@ -181,7 +184,7 @@ fn say_refusal<K: Sink>(out: &mut K, file: &str, refusal: Refusal)
     }
 }
 
-/// Says which of these files is refused, and why. It takes no memory.
+/// Prints which of these files is rejected, and why. Allocates no memory.
 pub fn say_refused<K: Sink>(out: &mut K, files: &InputArgs<'_>, refusal: Refusal)
     ensures says { IsSaidTo (K.told out.old) (K.told out.new) (refusal_line (inputs_seen files.now) refusal) }
     ensures counted { (K.told out.old).faults ≤ (K.told out.new).faults }

@@ -1,11 +1,13 @@
-//! The command `resume`: an auction goes on from the beginning of a transcript.
+//! The command `resume`: continues an auction from the beginning of its transcript.
 //!
-//! The inputs and the beginning are read; what is there whole of it is checked step by step, as `verify` checks a transcript; the
-//! auction goes on behind the last kept step, and concludes as that of `run` does.
+//! The inputs and the beginning are read, the beginning piece by piece. Each complete step of the beginning is kept, and checked
+//! as `verify` checks a transcript. The auction continues after the last kept step, and ends as in `run`. Only `auction_cmd`
+//! calls it.
 
-ghost use Rattle.std.specs.Prelude.{◌≡◌, [], IfErr, IfOk, None, Ok, OnOk};
+ghost use Rattle.std.specs.Prelude.{◌≡◌, [], ℕ, IfErr, IfOk, List, None, Ok, OnOk};
 ghost use Rattle.auction_core.specs.declared.prefix.Prefix.{Prefix};
 ghost use Rattle.auction_core.specs.Setup.{IsOfAuction};
+ghost use Rattle.transcript_text.specs.Pieces.{HasRead};
 ghost use Rattle.commands.specs.Faults.{AreFaultsCounted};
 ghost use Rattle.commands.specs.Outside.{outside};
 ghost use Rattle.commands.specs.Records.{IsEndedRecordIn};
@@ -18,7 +20,7 @@ use crate::fault::TranscriptFault;
 use crate::finish::Finish;
 use crate::inputs::{Inputs, read_inputs};
 use crate::run::conclude;
-use crate::shown::{Denied, file_bytes, not_read, say_denied, say_unloaded};
+use crate::shown::{Denied, not_read, read_text, say_denied, say_unloaded};
 use auction_core::auction::Auction;
 use auction_core::prefix::{Prefix, ResumeErr};
 use auction_core::record::Record;
@@ -31,16 +33,16 @@ use std::alloc::{AllocError as NoMemory, Global};
 use std::sync::Wait;
 use std::thread::Threads;
 use transcript_text::again::keeps_named_numbers;
-use transcript_text::beginning::read_prefix;
+use transcript_text::reader::TranscriptReader;
 
-// The inputs, and the auction that stands behind the beginning of a transcript of it.
+// The inputs, and their auction at the point where the beginning of its transcript ends.
 #[derive(Drop)]
 struct BegunAuction {
     inputs: Inputs,
     auction: Auction,
 }
 
-// The auction that stands behind what was kept of a transcript.
+// Returns the auction at the point where what was kept of a transcript ends.
 fn auction_behind(alloc: Global, inputs: &Inputs, kept: Prefix) -> Result<Auction, Denied>
     requires { IsOfAuction inputs.now.scenario inputs.now.book }
     ensures { IsResumption inputs.now (begun_by inputs.now (Ok kept)) result }
@@ -54,19 +56,21 @@ fn auction_behind(alloc: Global, inputs: &Inputs, kept: Prefix) -> Result<Auctio
     }
 }
 
-// The auction that stands behind the beginning of a transcript that this text is. It touches nothing outside.
-fn begun(alloc: Global, inputs: &Inputs, text: &[u8]) -> Result<Auction, Denied>
+// Returns the auction at the point where the beginning of a transcript ends, from the reader of that beginning. Uses neither
+// folder nor sink.
+fn begun(alloc: Global, inputs: &Inputs, read: TranscriptReader) -> Result<Auction, Denied>
     requires { IsOfAuction inputs.now.scenario inputs.now.book }
-    ensures { IsResumption inputs.now (begun inputs.now text.now) result }
+    ensures { (text : List ℕ) → HasRead inputs.now.scenario inputs.now.book text read → IsResumption inputs.now (begun inputs.now text) result }
 {
-    match read_prefix(alloc, text, &inputs.scenario, &inputs.book) {
+    match read.finish_prefix(&inputs.scenario, &inputs.book) {
         Ok(kept) => auction_behind(alloc, inputs, kept),
         Err(why) => Err(not_read(why)),
     }
 }
 
-// Reads the inputs and the beginning, and checks each kept step. Where it can't, or a step is not shown, a line says why, and the
-// error is how the program ends. It stores nothing, and where an auction goes on from it nothing outside is changed.
+// Reads the inputs and the beginning, and checks each kept step. The error is how the program ends: a file cannot be read or is
+// rejected, a step cannot be verified, or memory ran out. A line says why. Stores nothing. On success nothing outside has
+// changed.
 fn resumable<F: Folder, K: Sink>(
     alloc: Global,
     files: &ResumeArgs<'_>,
@@ -89,18 +93,18 @@ fn resumable<F: Folder, K: Sink>(
         Ok(inputs) => inputs,
         Err(stop) => return Err(Finish::without_record(explain(out, &names, stop))),
     };
-    let text = match file_bytes(alloc, folder, files.prefix) {
-        Ok(text) => text,
+    let read = match read_text(alloc, folder, &inputs, files.prefix) {
+        Ok(read) => read,
         Err(why) => return Err(Finish::without_record(say_unloaded(out, files.prefix, why))),
     };
     keeps_named_numbers(&inputs.scenario, &inputs.book);
-    match begun(alloc, &inputs, &text) {
+    match begun(alloc, &inputs, read) {
         Ok(auction) => Ok(BegunAuction { inputs, auction }),
         Err(why) => Err(Finish::without_record(say_denied(out, files.prefix, why))),
     }
 }
 
-// The record of this auction of the inputs, carried on to its end. Of the outside it calls the gate alone.
+// Returns the record of this auction of the inputs, continued to its end. Uses the gate, and neither folder nor sink.
 fn carried_on<G: Gate + Sync, W: Threads + Wait + Sync>(
     rt: &W,
     alloc: Global,
@@ -120,9 +124,11 @@ fn carried_on<G: Gate + Sync, W: Threads + Wait + Sync>(
     Ok(rec)
 }
 
-/// Reads the inputs and the beginning of a transcript of their auction, cut anywhere, and checks each step that is there whole of
-/// it. The auction goes on behind them, and concludes as that of `run` does: where the beginning has no verdict on the start, that
-/// may not fit or be left open, and then nothing is stored.
+/// Reads the inputs and the beginning of a transcript of their auction, checks each complete step, and continues the auction
+/// after them.
+///
+/// The beginning may be cut anywhere. The auction ends as in `run`: the three texts are stored and the summary is printed. If the
+/// beginning has no verdict on the start set, the set may turn out not to fit or stay undecided. In both cases nothing is stored.
 pub fn resume<F: Folder, K: Sink, G: Gate + Sync, W: Threads + Wait + Sync>(
     rt: &W,
     alloc: Global,

@@ -1,4 +1,7 @@
-//! The command `run`: the auction from files to result.
+//! The command `run`: runs an auction from its input files to its result.
+//!
+//! Only `auction_cmd` calls `run`, for `live` too. Other commands use its parts: `resume` concludes an auction with `conclude`,
+//! and `make` and `tops` run one with `auction_of`.
 
 ghost use Rattle.std.specs.Prelude.{◌≡◌, [], IfOk, None};
 ghost use Rattle.std.specs.List.{list_any};
@@ -34,7 +37,7 @@ use std::thread::Threads;
 use transcript_text::again::{keeps_ascending_fits, keeps_named_numbers};
 use transcript_text::write::write_transcript;
 
-// The texts of a finished auction.
+// The texts of an auction that did not end at its start.
 #[derive(Drop)]
 struct Texts {
     result: Vec<u8>,
@@ -43,7 +46,11 @@ struct Texts {
     summary: Vec<u8>,
 }
 
-/// The record of the auction of these inputs. Of the outside it calls the gate alone. The only error is want of memory.
+/// Returns the record of the auction of these inputs. Uses the gate, and neither folder nor sink.
+///
+/// # Errors
+///
+/// Memory ran out. Then no record is returned.
 pub fn auction_of<G: Gate + Sync, W: Threads + Wait + Sync>(
     rt: &W,
     alloc: Global,
@@ -58,21 +65,21 @@ pub fn auction_of<G: Gate + Sync, W: Threads + Wait + Sync>(
     Ok(record)
 }
 
-// Whether the step's test was left open.
+// Whether the step's test is undecided.
 fn is_undecided(step: &Step) -> bool
     ensures { result ≡ is_undecided step.now.shown }
 {
     matches!(step.shown, Shown::Undecided(_))
 }
 
-// Whether some step's test was left open.
+// Whether the test of some step is undecided.
 fn any_undecided(steps: &[Step]) -> bool
     ensures { result ≡ list_any (λ x. is_undecided x.shown) steps.now }
 {
     steps.iter().any(is_undecided)
 }
 
-// The status of an auction that was carried through: whether a test of it was left open.
+// Returns the status of an auction that did not end at its start: `LEFT_OPEN` if a test is undecided, else `DONE`.
 pub fn done_status(rec: &Record) -> u8
     ensures { result ≡ done_status (undecided_of rec.now.steps) }
 {
@@ -82,7 +89,7 @@ pub fn done_status(rec: &Record) -> u8
     DONE
 }
 
-// The texts of this record, which is one of the inputs' auction. It touches nothing outside.
+// Returns the texts of this record, which is one of the inputs' auction. Uses neither folder nor sink.
 fn texts_of(alloc: Global, inputs: &Inputs, rec: &Record) -> Result<Texts, NoMemory>
     requires limits { IsWithinLimits inputs.now.scenario }
     requires of { IsRecordIn rec.now.order inputs.now rec.now }
@@ -103,8 +110,10 @@ fn texts_of(alloc: Global, inputs: &Inputs, rec: &Record) -> Result<Texts, NoMem
     })
 }
 
-/// Concludes the auction of which this is the record: stores the result, the channels and the transcript, and writes the summary.
-/// Where the start set doesn't fit, or its test was left open, a line says so, and nothing is stored.
+/// Concludes the auction of this record: stores the result, the channels and the transcript, and prints the summary.
+///
+/// If the start set does not fit, or whether it fits is undecided, a line reports this and nothing is stored. The record is
+/// returned, unless memory runs out before the first store.
 pub fn conclude<F: Folder, K: Sink>(
     alloc: Global,
     inputs: &Inputs,
@@ -157,10 +166,11 @@ pub fn conclude<F: Folder, K: Sink>(
     Finish::with_record(status, rec)
 }
 
-/// Reads the inputs, carries the auction out, stores the result, the channels and the transcript, and writes the summary. The
-/// solvers of all the scenario's workers try each query at once, each in a thread of its own, and, by turns, one after another
-/// on this thread. Where the start set doesn't fit, or no worker decides whether it does, there is no auction, and nothing is
-/// stored.
+/// Reads the inputs, runs the auction, stores the result, the channels and the transcript, and prints the summary.
+///
+/// The solvers of the scenario's workers race for each query, each in a thread of its own if one can be made. After a race they
+/// try the current query one after another on this thread. If the start set does not fit, or no worker decides whether it fits,
+/// no auction follows and nothing is stored.
 pub fn run<F: Folder, K: Sink, G: Gate + Sync, W: Threads + Wait + Sync>(
     rt: &W,
     alloc: Global,

@@ -1,4 +1,7 @@
-//! The lines that the program writes at its end.
+//! Prints the messages that say why a command ended.
+//!
+//! The other modules print their messages with it, and so does `auction_cmd`. A failed write of a message is ignored: the status
+//! still says how the command ended.
 
 ghost use Rattle.std.specs.Prelude.{◌≤◌, ◌++◌, OnErr, decimal};
 ghost use Rattle.std.specs.List.{flat_map};
@@ -9,7 +12,7 @@ ghost use Rattle.commands.specs.Outside.{IsSaidTo};
 use itoa::Buffer;
 use outside_io::sink::{Failed, Sink};
 
-// Writes these parts, up to the first that fails, as one write of them all would. It takes no memory.
+// Writes these parts, up to the first that fails, with the effect of a single write of them all. Allocates no memory.
 fn write_parts<K: Sink>(out: &mut K, parts: &[&str]) -> Result<(), Failed>
     ensures told { Writes (K.told out.old).held (K.told out.new).held (flat_map (λ part. part.now) parts.now) result }
     ensures counted { (K.told out.old).faults ≤ (K.told out.new).faults }
@@ -22,7 +25,7 @@ fn write_parts<K: Sink>(out: &mut K, parts: &[&str]) -> Result<(), Failed>
     write_parts(out, rest)
 }
 
-/// Writes a line of these parts, as far as the sink takes it. It takes no memory.
+/// Prints a line of these parts, as far as the sink takes it. Allocates no memory.
 pub fn say<K: Sink>(out: &mut K, parts: &[&str])
     ensures says { IsSaidTo (K.told out.old) (K.told out.new) (flat_map (λ part. part.now) parts.now) }
     ensures counted { (K.told out.old).faults ≤ (K.told out.new).faults }
@@ -30,7 +33,7 @@ pub fn say<K: Sink>(out: &mut K, parts: &[&str])
     let _ = write_parts(out, parts);
 }
 
-/// Says of the file of this name what is wrong with it at this place. It takes no memory.
+/// Prints what is wrong with the file of this name and at which place. Allocates no memory.
 pub fn say_at<'p, K: Sink>(out: &mut K, name: &'p str, what: &'p str, at: u64, why: &'p str)
     ensures says { IsSaidTo (K.told out.old) (K.told out.new) (name.now ++ (what.now ++ (decimal at ++ why.now))) }
     ensures counted { (K.told out.old).faults ≤ (K.told out.new).faults }

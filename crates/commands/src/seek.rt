@@ -1,4 +1,6 @@
-//! The command `seek`: the least top channel at which the stations fit that start on air, and a channel for each of them there.
+//! The command `seek`: finds the least top channel at which the stations that start on air fit, and a channel for each of them.
+//!
+//! `sources` reads the files, and `tops` tests the top channels. Only `auction_cmd` calls it.
 
 ghost use Rattle.std.specs.Prelude.{◌≡◌, ◌≤◌, [], List, Some, IfOk};
 ghost use Rattle.outside_io.specs.Files.{StoredFile};
@@ -13,7 +15,7 @@ ghost use Rattle.command_words.specs.Words.{inputs_seen, seek_seen};
 use crate::delivery::deliver;
 use crate::explain::{explain, starve};
 use crate::finish::Finish;
-use crate::inputs::Stop;
+use crate::input_file::Stop;
 use crate::says::say;
 use crate::sources::{Sources, book_of, read_sources};
 use crate::status::{DONE, LEFT_OPEN, START_OPEN, START_UNFIT};
@@ -30,14 +32,15 @@ use std::alloc::{AllocError as NoMemory, Global};
 use std::sync::Wait;
 use std::thread::Threads;
 
-// The texts of a top channel that was found.
+// The texts about a top channel that was found.
 #[derive(Drop)]
 struct Texts {
     channels: Vec<u8>,
     top: Vec<u8>,
 }
 
-// What the three files hold, where each station of the scenario has a domain row.
+// Returns what the three files hold. Fails also if a station of the scenario has no domain row; the book is made only to check
+// this.
 fn read_seekable<F: Folder>(
     alloc: Global,
     folder: &mut F,
@@ -55,7 +58,8 @@ fn read_seekable<F: Folder>(
     Ok(sources)
 }
 
-// What is printed of a top channel that was found.
+// Returns what is printed about a top channel that was found: the channel and, if the test of one channel less is undecided, that
+// channel.
 fn top_text(alloc: Global, top: u8, is_open: bool) -> Result<Vec<u8>, NoMemory>
     requires { 1 ≤ top }
     ensures { IfOk result (λ text. text.items ≡ top_text top is_open) }
@@ -69,7 +73,7 @@ fn top_text(alloc: Global, top: u8, is_open: bool) -> Result<Vec<u8>, NoMemory>
     Ok(text)
 }
 
-// The texts of what was found. It touches nothing outside.
+// Returns the texts about what was found. Uses neither folder nor sink.
 fn texts_of(alloc: Global, rec: &Record, top: u8, is_open: bool) -> Result<Texts, NoMemory>
     requires { 1 ≤ top }
     ensures channels { IfOk result (λ texts. texts.channels.items ≡ channels_text rec.now.map) }
@@ -80,7 +84,7 @@ fn texts_of(alloc: Global, rec: &Record, top: u8, is_open: bool) -> Result<Texts
     Ok(Texts { channels, top })
 }
 
-// The status of a top channel that was found: whether the test of one channel less was left open.
+// Returns the status for a top channel that was found: `LEFT_OPEN` if the test of one channel less is undecided, else `DONE`.
 fn top_status(is_open: bool) -> u8
     ensures { result ≡ top_status is_open }
 {
@@ -90,9 +94,14 @@ fn top_status(is_open: bool) -> u8
     DONE
 }
 
-/// Reads the inputs, and seeks the least top channel, from 14 to the scenario's own, at which the stations fit that start on air.
-/// Where there is one it stores a channel for each of them, prints the top channel, and, where the test of one channel less was
-/// left open, that channel. Up to each top that it asks about the solvers of the scenario's workers race as in any auction.
+/// Reads the inputs and seeks the least top channel, from 14 to the scenario's own, at which the stations that start on air fit.
+///
+/// If one is found, a channel for each of these stations is stored and the top channel is printed. If the test of one channel
+/// less is undecided, that channel is printed too. For each top channel that is tested, the solvers of the scenario's workers
+/// race as in any auction.
+///
+/// If the stations do not fit at the scenario's own top channel, or their test is undecided, a line reports this and nothing is
+/// stored.
 pub fn seek<F: Folder, K: Sink, G: Gate + Sync, W: Threads + Wait + Sync>(
     rt: &W,
     alloc: Global,

@@ -1,4 +1,6 @@
-//! Which step of a verified record can be exported or settled, and the lines of what is at fault with a step and with a log.
+//! Checks whether a step of a verified record can be exported or settled, and prints why a step or a log is rejected.
+//!
+//! `export` and `import` use it.
 
 ghost use Rattle.std.specs.Prelude.{◌≡◌, ◌≤◌, ◌++◌, option_map};
 ghost use Rattle.commands.specs.Outside.{IsSaidTo};
@@ -12,7 +14,7 @@ use lrat_text::LratErr;
 use open_tests::settle::SettleErr;
 use outside_io::sink::Sink;
 
-/// Why a step isn't exported or settled.
+/// Why a step is not exported or settled.
 #[derive(Clone, Copy, Debug, PartialEq, Eq)]
 pub enum StepFault {
     /// The record has no step of this number.
@@ -21,7 +23,7 @@ pub enum StepFault {
     NotUndecided,
 }
 
-// The step of this number, from 1, if there is one.
+// Returns the step of this number, counted from 1, if there is one.
 fn step_at(rec: &Record, step: u32) -> Option<&Step>
     ensures { option_map (λ x. x.now) result ≡ step_numbered rec.now.steps step }
 {
@@ -29,7 +31,7 @@ fn step_at(rec: &Record, step: u32) -> Option<&Step>
     rec.steps.as_slice().get(place)
 }
 
-/// Why this step can't be exported, if it can't.
+/// Returns why this step cannot be exported, or nothing if it can.
 pub fn missing_fault(rec: &Record, step: u32) -> Option<StepFault>
     ensures { result ≡ missing_fault (step_numbered rec.now.steps step) }
 {
@@ -39,7 +41,7 @@ pub fn missing_fault(rec: &Record, step: u32) -> Option<StepFault>
     }
 }
 
-/// Why this step can't be settled, if it can't.
+/// Returns why this step cannot be settled, or nothing if it can.
 pub fn open_fault(rec: &Record, step: u32) -> Option<StepFault>
     ensures { result ≡ open_fault (step_numbered rec.now.steps step) }
 {
@@ -52,7 +54,7 @@ pub fn open_fault(rec: &Record, step: u32) -> Option<StepFault>
     }
 }
 
-// Why a step isn't exported or settled, and the line's end.
+// Returns the words for why a step is not exported or settled, with the line's end.
 #[tactic(auto, unfolding(crate::specs::Settling::step_why))]
 fn step_why(fault: StepFault) -> &'static str
     ensures { result.now ≡ step_why fault }
@@ -63,7 +65,7 @@ fn step_why(fault: StepFault) -> &'static str
     }
 }
 
-/// Says why the step of this number isn't exported or settled. It takes no memory.
+/// Prints why the step of this number is not exported or settled. Allocates no memory.
 pub fn say_step<K: Sink>(out: &mut K, step: u32, fault: StepFault)
     ensures says { IsSaidTo (K.told out.old) (K.told out.new) (step_line step fault) }
     ensures counted { (K.told out.old).faults ≤ (K.told out.new).faults }
@@ -72,7 +74,7 @@ pub fn say_step<K: Sink>(out: &mut K, step: u32, fault: StepFault)
     say(out, &["step ", number.format(step), step_why(fault)]);
 }
 
-// Says why the text of this name is none of a log.
+// Prints why the text of this name is not a log.
 #[tactic(auto, unfolding(crate::specs::Settling::unlogged_text))]
 fn say_unread<K: Sink>(out: &mut K, name: &str, why: LratErr)
     ensures says { IsSaidTo (K.told out.old) (K.told out.new) (name.now ++ unlogged_text why) }
@@ -86,7 +88,7 @@ fn say_unread<K: Sink>(out: &mut K, name: &str, why: LratErr)
     }
 }
 
-/// Says why the log of this name doesn't settle the step. It takes no memory.
+/// Prints why the log of this name does not settle the step. Allocates no memory.
 #[tactic(auto, unfolding(crate::specs::Settling::log_why))]
 pub fn say_log<K: Sink>(out: &mut K, name: &str, fault: SettleErr)
     ensures says { IsSaidTo (K.told out.old) (K.told out.new) (unsettled_line name.now fault) }

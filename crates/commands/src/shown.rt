@@ -1,5 +1,6 @@
-//! What a transcript shows: the inputs and the transcript are read, each of its steps is checked, and its record comes of it. So
-//! `verify`, `export` and `import` begin.
+//! Reads the inputs and a transcript, checks each of its steps, and returns the record that the transcript certifies.
+//!
+//! `verify`, `export` and `import` begin with `shown_by`. `resume` uses `read_text` and the messages.
 
 ghost use Rattle.std.specs.Prelude.{◌≡◌, ◌≢◌, ◌≤◌, [], ℕ, IfErr, IfOk, List, None, Ok, Err, OnOk};
 ghost use Rattle.pack_defs.specs.Scenario.{IsWithinLimits};
@@ -15,7 +16,8 @@ ghost use Rattle.command_words.specs.Words.{verify_seen};
 use crate::explain::{explain, say_memory};
 use crate::fault::{TranscriptFault, say_fault};
 use crate::finish::Finish;
-use crate::inputs::{FILE_LIMIT, Inputs, read_inputs};
+use crate::input_file::{FILE_LIMIT, TRANSCRIPT_LIMIT};
+use crate::inputs::{Inputs, read_inputs};
 use crate::says::say;
 use crate::status::{NO_MEMORY, NOT_SHOWN, REFUSED, UNREAD};
 use auction_core::record::Record;
@@ -30,23 +32,32 @@ use transcript_text::TextErr;
 use transcript_text::again::keeps_named_numbers;
 use transcript_text::reader::TranscriptReader;
 
-/// The inputs, and the record that a transcript of their auction shows.
+/// The inputs, and the record that a transcript of their auction certifies.
 #[derive(Drop)]
 pub struct ShownAuction {
     pub inputs: Inputs,
     pub record: Record,
 }
 
-// Why there is no record of a transcript.
+// Why a transcript has no record.
 pub enum Denied {
-    // The transcript is at fault.
+    // The transcript is rejected.
     Fault(TranscriptFault),
     // Memory ran out.
     NoMemory,
 }
 
-// What is read of the transcript of this name, up to its end. A fault of its text is told once it has been read.
-fn read_text<F: Folder>(
+/// Reads the transcript of this name to the end of its file, and returns the reader. The text may also be the beginning of a
+/// transcript.
+///
+/// The text is read in pieces. No more of it is held than one piece and the step that is read; for the start and receipts, up to
+/// twice the step (see `transcript_text::reader`). An invalid text is reported only when the reader finishes.
+///
+/// # Errors
+///
+/// `Failed` if the file cannot be read, `TooLong` if it has more than `TRANSCRIPT_LIMIT` bytes, `NoMemory` if memory runs out. No
+/// file is changed.
+pub(crate) fn read_text<F: Folder>(
     alloc: Global,
     folder: &mut F,
     inputs: &Inputs,
@@ -62,7 +73,7 @@ fn read_text<F: Folder>(
 {
     let mut reader = TranscriptReader::new(alloc);
     let mut piece = Vec::new(alloc);
-    folder.begin(name, FILE_LIMIT)?;
+    folder.begin(name, TRANSCRIPT_LIMIT)?;
     loop {
         folder.piece(&mut piece)?;
         if piece.is_empty() {
@@ -72,7 +83,12 @@ fn read_text<F: Folder>(
     }
 }
 
-/// The bytes of the file of this name.
+/// Returns the bytes of the file of this name.
+///
+/// # Errors
+///
+/// `Failed` if the file cannot be read, `TooLong` if it has more than `FILE_LIMIT` bytes, `NoMemory` if memory runs out. No file
+/// is changed.
 pub(crate) fn file_bytes<F: Folder>(
     alloc: Global,
     folder: &mut F,
@@ -90,7 +106,8 @@ pub(crate) fn file_bytes<F: Folder>(
     Ok(bytes)
 }
 
-/// Says why the file of this name was not loaded. It gives the status, and takes no memory.
+/// Prints why the file of this name was not loaded, and returns the status for it: `UNREAD`, `REFUSED` or `NO_MEMORY`. Allocates
+/// no memory.
 pub fn say_unloaded<K: Sink>(out: &mut K, name: &str, why: LoadErr) -> u8
     ensures { ExplainsLoad name.now why
         (K.told out.old).held (K.told out.new).held (K.told out.old).faults (K.told out.new).faults result }
@@ -111,7 +128,7 @@ pub fn say_unloaded<K: Sink>(out: &mut K, name: &str, why: LoadErr) -> u8
     }
 }
 
-// The record that a transcript shows.
+// Returns the record that a transcript certifies, if each of its steps can be verified.
 fn record_from(alloc: Global, inputs: &Inputs, transcript: Transcript) -> Result<Record, Denied>
     requires { IsOfAuction inputs.now.scenario inputs.now.book }
     ensures { IsVerdict inputs.now (record_by inputs.now (Ok transcript)) result }
@@ -126,7 +143,7 @@ fn record_from(alloc: Global, inputs: &Inputs, transcript: Transcript) -> Result
     }
 }
 
-/// Why there is no record of a text that was not read so.
+/// Returns why there is no record, for this error in the reading of a transcript's text.
 pub(crate) fn not_read(why: TextErr) -> Denied
     ensures { result ≡ not_read why }
 {
@@ -138,7 +155,7 @@ pub(crate) fn not_read(why: TextErr) -> Denied
     }
 }
 
-// The record that the text of a transcript shows, of which this was read. It touches nothing outside.
+// Returns the record that a transcript certifies, from the reader of its text. Uses neither folder nor sink.
 fn record_of(alloc: Global, inputs: &Inputs, read: TranscriptReader) -> Result<Record, Denied>
     requires { IsOfAuction inputs.now.scenario inputs.now.book }
     ensures { (text : List ℕ) → HasRead inputs.now.scenario inputs.now.book text read → IsVerdict inputs.now (verified inputs.now text) result }
@@ -149,7 +166,7 @@ fn record_of(alloc: Global, inputs: &Inputs, read: TranscriptReader) -> Result<R
     }
 }
 
-/// Says why there is no record of the transcript of this name. It gives the status.
+/// Prints why the transcript of this name has no record, and returns the status for it: `NOT_SHOWN` or `NO_MEMORY`.
 pub(crate) fn say_denied<K: Sink>(out: &mut K, name: &str, why: Denied) -> u8
     ensures { ExplainsDenied name.now why
         (K.told out.old).held (K.told out.new).held (K.told out.old).faults (K.told out.new).faults result }
@@ -166,8 +183,14 @@ pub(crate) fn say_denied<K: Sink>(out: &mut K, name: &str, why: Denied) -> u8
     }
 }
 
-/// Reads the inputs and the transcript, and checks each step of it. Where it can't, or a step is not shown, a line says why, and
-/// the error is how the program ends. It stores nothing, and where the transcript is sound nothing outside is changed.
+/// Reads the inputs and the transcript, checks each step, and returns the inputs and the record that the transcript certifies.
+///
+/// Stores nothing. If it succeeds, nothing outside has changed.
+///
+/// # Errors
+///
+/// The error is how the program ends, without a record. A file cannot be read or is rejected, a step cannot be verified, or
+/// memory ran out. A line on the sink says why.
 pub fn shown_by<F: Folder, K: Sink>(
     alloc: Global,
     files: &VerifyArgs<'_>,

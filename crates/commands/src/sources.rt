@@ -1,22 +1,27 @@
-//! What the three input files hold, before a top channel cuts it to a book.
+//! Reads the three input files, before a scenario's top channel cuts what they hold to a book.
+//!
+//! `inputs` and `seek` read them with it. `inputs` makes one book of them, and `tops` one for each top channel that it tests.
 
 ghost use Rattle.std.specs.Prelude.{◌≡◌, List, Some, IfOk};
 ghost use Rattle.outside_io.specs.Files.{StoredFile};
 ghost use Rattle.pack_defs.specs.Book.{stations_of};
 ghost use Rattle.pack_defs.specs.Scenario.{IsWithinLimits, facilities};
-ghost use Rattle.commands.specs.Inputs.{Agrees, CountsFault, IsBookOf, sources_of};
+ghost use Rattle.scenario_json.specs.ScenarioOf.{scenario_of};
+ghost use Rattle.commands.specs.Inputs.{Agrees, CountsFault, IsBookOf, and_then, file_of, scenario_read, sources_of};
 ghost use Rattle.command_words.specs.Words.{inputs_seen};
 
 use crate::constraints::{domains_from, pairs_from};
-use crate::inputs::{Stop, scenario_from};
+use crate::input_file::{Stop, load};
 use crate::refusal::Refusal;
-use command_words::run_words::InputArgs;
+use command_words::run_words::{Input, InputArgs};
 use constraint_files::domains::Domains;
 use constraint_files::pairs::Pairs;
 use outside_io::folder::Folder;
 use pack_defs::book::Book;
 use pack_defs::scenario::Scenario;
+use scenario_json::error::ScenarioErr;
 use scenario_json::join::{JoinErr, join};
+use scenario_json::scenario::read_scenario;
 use std::alloc::Global;
 
 /// What the three input files hold.
@@ -27,8 +32,33 @@ pub struct Sources {
     pub scenario: Scenario,
 }
 
-/// What the domains, the rows and the scenario hold, read in this order. The error is the first of these files that can't be
-/// read or is refused, one that is too long among the latter, or want of memory.
+// Returns the scenario that the file of this name holds.
+pub(crate) fn scenario_from<F: Folder>(
+    alloc: Global,
+    folder: &mut F,
+    name: &str,
+) -> Result<Scenario, Stop>
+    ensures told { (files : List StoredFile) → (F.told folder.old).files ≡ Some files → Agrees (λ sc. sc) (F.told folder.old).steady
+        (and_then (file_of files name.now Input.Scenario) (λ bytes. scenario_read (scenario_of bytes))) result }
+    ensures limits { IfOk result IsWithinLimits }
+    ensures files { (F.told folder.new).files ≡ (F.told folder.old).files }
+    ensures steady { (F.told folder.new).steady ≡ (F.told folder.old).steady }
+    ensures counted { CountsFault (F.told folder.old).faults (F.told folder.new).faults result }
+{
+    let bytes = load(alloc, folder, name, Input::Scenario)?;
+    match read_scenario(alloc, &bytes) {
+        Ok(scenario) => Ok(scenario),
+        Err(ScenarioErr::NoMemory) => Err(Stop::NoMemory),
+        Err(why) => Err(Stop::Refused(Refusal::Scenario(why))),
+    }
+}
+
+/// Returns what the domains, the rows and the scenario hold, read in this order.
+///
+/// # Errors
+///
+/// `CannotRead` or `Refused` for the first of these files that cannot be read, is too long or is rejected. `NoMemory` if memory
+/// runs out. No file is changed.
 #[tactic(auto, unfolding(crate::specs::Inputs::sources_of))]
 pub fn read_sources<F: Folder>(
     alloc: Global,
@@ -52,8 +82,11 @@ pub fn read_sources<F: Folder>(
     })
 }
 
-/// The book of the scenario's stations up to its top channel, or the least of them that has no domain row. The only other
-/// error is want of memory.
+/// Returns the book of the scenario's stations up to its top channel.
+///
+/// # Errors
+///
+/// `Refused` for the least station of the scenario that has no domain row, `NoMemory` if memory runs out.
 pub fn book_of(alloc: Global, sources: &Sources) -> Result<Book, Stop>
     requires { IsWithinLimits sources.now.scenario }
     ensures book { IsBookOf sources.now result }

@@ -1,24 +1,26 @@
-//! The statuses at which the program ends, a name for each.
+//! The exit statuses of the program.
+//!
+//! Every command ends with one of them. Contracts use the same numbers, in the specification `Statuses`.
 
-/// All is done, and every test was decided.
+/// All is done, and no test is undecided.
 pub const DONE: u8 = 0;
 
-/// All is done, and some test was left open.
+/// All is done, and some test is undecided.
 pub const LEFT_OPEN: u8 = 1;
 
-/// The words are no command, help and version included.
+/// The words are no command, or ask for help or the version.
 pub const NO_COMMAND: u8 = 2;
 
-/// A file can't be read.
+/// A file cannot be read.
 pub const UNREAD: u8 = 3;
 
-/// A file can't be stored, or what is printed can't be written.
+/// A file cannot be stored, or the output cannot be printed.
 pub const UNWRITTEN: u8 = 4;
 
-/// An input is refused, a file is too long, or the name of a file to store is given twice.
+/// An input is rejected, a file is too long, or the name of a file to store is given twice.
 pub const REFUSED: u8 = 5;
 
-/// The start set doesn't fit.
+/// The start set does not fit.
 pub const START_UNFIT: u8 = 6;
 
 /// No worker decides whether the start set fits.
@@ -27,10 +29,10 @@ pub const START_OPEN: u8 = 7;
 /// Memory ran out.
 pub const NO_MEMORY: u8 = 8;
 
-/// A transcript's text is refused, or a step of it isn't shown.
+/// A transcript's text is rejected, or a step of it cannot be verified.
 pub const NOT_SHOWN: u8 = 9;
 
-/// A transcript has no such step, or the step isn't settled so.
+/// A transcript has no step of this number, the step is already decided, or the log does not settle it.
 pub const NOT_SETTLED: u8 = 10;
 
 /// All of a batch is done, and an auction of it ended at its start.

@@ -1,5 +1,8 @@
-//! The tests of top channels: for each top that is asked about, the auction of the start set alone, whose start test asks whether
-//! the set fits up to it. The records of these auctions are kept, and of what was found the two that show it are picked.
+//! Tests whether the start set fits at a top channel, and seeks the least one at which it does.
+//!
+//! For each top channel that is tested, the auction of the start set alone is run. Its start test asks whether the set fits up to
+//! that channel. The records of these auctions are kept, and the two that certify what was found are picked. `seek` calls it, and
+//! `target_seek` chooses the top channels.
 
 ghost use Rattle.std.specs.Prelude.{◌≡◌, ◌≢◌, ◌≤◌, ◌<◌, ◌++◌, ◌-◌, [], ◌∷◌, IfErr, IfOk, List, MatchOption, None, OnOk, false, length, true};
 ghost use Rattle.std.specs.List.{list_any};
@@ -25,7 +28,7 @@ use target_seek::search::TopSearch;
 use target_seek::seek::Sought;
 use target_seek::top_test::TopAnswer;
 
-/// The least top channel that is asked about.
+/// The least top channel that is tested.
 const FIRST: u8 = LEAST_CHANNEL;
 
 /// The record of the auction of the start set alone up to a top channel.
@@ -35,7 +38,7 @@ pub struct TopRecord {
     pub rec: Record,
 }
 
-/// What was read, and the records of the tops that were asked about so far.
+/// What was read, and the records of the top channels that were tested so far.
 #[derive(Drop)]
 pub struct TopRecords {
     sources: Sources,
@@ -52,29 +55,29 @@ impl Model for TopRecords {
     ghost invariant = { λ t. AreTopRecords (base_of t.sources) t.kept.items };
 }
 
-/// A top channel up to which the start set fits, with the record that shows it and, where it is above 14, that of one channel
-/// less.
+/// A top channel up to which the start set fits, with its record and, if it is above 14, the record of one channel less.
 #[derive(Drop)]
 pub struct LeastTop {
     pub top: u8,
     pub rec: Record,
     pub below: Option<Record>,
-    /// Whether the test of one channel less was left open. Else the set doesn't fit there.
+    /// Whether the test of one channel less is undecided. If it is not, and `top` is above 14, the set does not fit up to that
+    /// channel.
     pub is_open: bool,
 }
 
 /// What a search for the least top channel found.
 #[derive(Drop)]
 pub enum FoundTop {
-    /// Up to the scenario's own top channel the start set doesn't fit.
+    /// The start set does not fit up to the scenario's own top channel.
     NoneFits(Record),
-    /// Whether it fits there was left open.
+    /// Whether it fits up to the scenario's own top channel is undecided.
     LastOpen(Record),
     /// A top channel up to which it fits.
     Found(LeastTop),
 }
 
-// What an auction of the start set alone says of it, by how it ended.
+// Returns whether the start set fits, by how the auction of the start set alone ended.
 fn answer_of(ending: Ending) -> TopAnswer
     ensures { result ≡ answer_of ending }
 {
@@ -86,7 +89,7 @@ fn answer_of(ending: Ending) -> TopAnswer
 }
 
 impl TopRecords {
-    /// Nothing was asked about yet.
+    /// Returns what was read, with no top channel tested yet.
     fn new(alloc: Global, sources: Sources) -> TopRecords
         requires { IsSeekable (base_of sources) }
         ensures { result ≡ record { base = base_of sources; kept = [] } }
@@ -97,7 +100,7 @@ impl TopRecords {
         }
     }
 
-    /// The inputs of the auction of the start set alone up to this top channel. The only error is want of memory, since each
+    /// Returns the inputs of the auction of the start set alone up to this top channel. Fails only if memory runs out, since each
     /// station has a domain row.
     fn inputs_at(&self, alloc: Global, top: u8) -> Result<Inputs, NoMemory>
         requires least { LEAST_CHANNEL ≤ top }
@@ -108,8 +111,8 @@ impl TopRecords {
         inputs_up_to(alloc, &self.sources, top)
     }
 
-    /// Carries out the auction of the start set alone up to this top channel, and keeps its record. After an error, which is want
-    /// of memory, nothing was kept.
+    /// Runs the auction of the start set alone up to this top channel, keeps its record, and returns whether the set fits. Fails
+    /// only if memory runs out, and then nothing is kept.
     fn ask<G: Gate + Sync, W: Threads + Wait + Sync>(
         &mut self,
         rt: &W,
@@ -130,14 +133,14 @@ impl TopRecords {
         Ok(answer)
     }
 
-    /// Each record is of the auction of the start set alone up to its top channel.
+    /// Proves that each record is of the auction of the start set alone up to its top channel. Does nothing when run.
     fn keeps_records(&self)
         ensures { AreTopRecords self.now.base self.now.kept }
     {
         let _kept = &self.kept;
     }
 
-    /// Keeps the record of this top channel. After an error nothing was kept.
+    /// Keeps the record of this top channel. Fails only if memory runs out, and then nothing is kept.
     fn keep(&mut self, top: u8, rec: Record) -> Result<(), NoMemory>
         requires { IsTopRecord self.old.base (record { top = top; rec = rec }) }
         ensures kept { OnOk result (self.new ≡ record self.old { kept = self.old.kept ++ record { top = top; rec = rec } ∷ [] }) }
@@ -148,7 +151,8 @@ impl TopRecords {
     }
 }
 
-// The inputs of the auction of the start set alone up to this top channel.
+// Returns the inputs of the auction of the start set alone up to this top channel. The counts of the rows file are zero, since
+// the auction does not depend on them.
 fn inputs_up_to(alloc: Global, sources: &Sources, top: u8) -> Result<Inputs, NoMemory>
     requires seekable { IsSeekable (base_of sources.now) }
     requires least { LEAST_CHANNEL ≤ top }
@@ -168,14 +172,14 @@ fn inputs_up_to(alloc: Global, sources: &Sources, top: u8) -> Result<Inputs, NoM
     })
 }
 
-// What a search found, and the records of what it asked.
+// What a search found, and the records of the top channels that it tested.
 #[derive(Drop)]
 struct Search {
     sought: Sought,
     records: TopRecords,
 }
 
-// Seeks the least top channel, from 14 to the scenario's own.
+// Seeks the least top channel, from 14 to the scenario's own, and keeps the records of those that it tests.
 fn searched<G: Gate + Sync, W: Threads + Wait + Sync>(
     rt: &W,
     alloc: Global,
@@ -200,14 +204,14 @@ fn searched<G: Gate + Sync, W: Threads + Wait + Sync>(
     Ok(Search { sought, records })
 }
 
-// A top channel, and an answer that was given of it.
+// A top channel, and the answer to its test.
 #[derive(Clone, Copy)]
 struct Told {
     top: u8,
     answer: TopAnswer,
 }
 
-// Whether the two answers are one.
+// Whether the two answers are the same.
 fn is_same(one: TopAnswer, other: TopAnswer) -> bool
     ensures { result ≡ same_answer one other }
 {
@@ -218,21 +222,22 @@ fn is_same(one: TopAnswer, other: TopAnswer) -> bool
     }
 }
 
-// Whether the record is of this top channel and answers so.
+// Whether the record is of this top channel and has this answer.
 fn is_told(x: &TopRecord, told: Told) -> bool
     ensures { result ≡ is_told told.top told.answer x.now }
 {
     x.top == told.top && is_same(answer_of(x.rec.ending), told.answer)
 }
 
-// Two records that were picked from some, as far as these were looked at.
+// The two records that are picked so far, each if it was found.
 #[derive(Drop)]
 struct TwoRecords {
     first: Option<Record>,
     second: Option<Record>,
 }
 
-// What is picked with one record more, where that is one of the two that are asked for.
+// Returns what is picked after one more record. That record is picked if it is one of the two that are asked for, and else
+// dropped.
 fn with_one(picked: TwoRecords, x: TopRecord, first: Told, second: Told) -> TwoRecords
     requires apart { first.top ≢ second.top }
     ensures first { (base : SeekBase) (all left : List TopRecord) → IsTopRecord base x →
@@ -255,7 +260,7 @@ fn with_one(picked: TwoRecords, x: TopRecord, first: Told, second: Told) -> TwoR
     picked
 }
 
-// Two records, of these top channels with these answers, each where there is one. The others are let go.
+// Returns the records of these two top channels with these answers, each if there is one. The other records are dropped.
 fn picked(records: TopRecords, first: Told, second: Told) -> TwoRecords
     requires apart { first.top ≢ second.top }
     ensures first { Picks records.base records.kept [] first.top first.answer result.first }
@@ -275,7 +280,8 @@ fn picked(records: TopRecords, first: Told, second: Told) -> TwoRecords
     picked
 }
 
-// The record of a top channel that was told so.
+// Returns the record of this top channel with this answer. `picked` picks two records, and is also asked for top channel 0, which
+// no record has.
 fn the_one(records: TopRecords, top: u8, answer: TopAnswer) -> Record
     requires least { LEAST_CHANNEL ≤ top }
     requires told { list_any (is_told top answer) records.kept ≡ true }
@@ -290,7 +296,7 @@ fn the_one(records: TopRecords, top: u8, answer: TopAnswer) -> Record
     rec
 }
 
-// What was found where the set fits up to this top channel, and this was told of one channel less.
+// Returns what was found, if the set fits up to this top channel and the test of one channel less has this answer.
 fn both(records: TopRecords, top: u8, below: TopAnswer) -> LeastTop
     requires least { LEAST_CHANNEL < top }
     requires told { list_any (is_told top TopAnswer.Fits) records.kept ≡ true }
@@ -320,7 +326,7 @@ fn both(records: TopRecords, top: u8, below: TopAnswer) -> LeastTop
     }
 }
 
-// What was found where the set fits up to the first top channel.
+// Returns what was found, if the set fits up to the first top channel. No lower one is tested.
 fn at_first(records: TopRecords) -> LeastTop
     requires { list_any (is_told LEAST_CHANNEL TopAnswer.Fits) records.kept ≡ true }
     ensures top { result.top ≡ LEAST_CHANNEL }
@@ -336,7 +342,7 @@ fn at_first(records: TopRecords) -> LeastTop
     }
 }
 
-// What was found, by what the search answers, with the records that show it.
+// Returns what was found, by the answer of the search, with the records that certify it.
 fn found_by(records: TopRecords, last: u8, sought: Sought) -> FoundTop
     requires last { last ≡ records.base.scenario.top }
     requires least { LEAST_CHANNEL ≤ last }
@@ -357,9 +363,15 @@ fn found_by(records: TopRecords, last: u8, sought: Sought) -> FoundTop
     }
 }
 
-/// Seeks the least top channel, from 14 to the scenario's own, at which the start set fits. At each top that it asks about, at
-/// most seven, the auction of the start set alone is carried out, whose solvers race as in any auction. The only error is want
-/// of memory.
+/// Returns the least top channel, from 14 to the scenario's own, at which the start set fits, as far as the tests decide it.
+///
+/// At most seven top channels are tested: the scenario's own, and then by binary search. For each, the auction of the start set
+/// alone is run, and its solvers race as in any auction. A top channel whose test is undecided counts as one at which the set
+/// does not fit.
+///
+/// # Errors
+///
+/// Memory ran out. Then no record is returned.
 pub fn least_top<G: Gate + Sync, W: Threads + Wait + Sync>(
     rt: &W,
     alloc: Global,

@@ -1,4 +1,7 @@
-//! The command `verify`: a transcript is checked step by step, and the result that it shows is printed.
+//! The command `verify`: checks a transcript step by step and prints the result that it certifies.
+//!
+//! `shown` reads and checks the transcript. Only `auction_cmd` calls `verify`, for `verify-live` too. `import` also uses
+//! `result_text`.
 
 ghost use Rattle.std.specs.Prelude.{◌≡◌, [], IfOk, None};
 ghost use Rattle.pack_defs.specs.Scenario.{IsWithinLimits};
@@ -22,7 +25,11 @@ use outside_io::sink::Sink;
 use result_text::rows::result_csv;
 use std::alloc::{AllocError as NoMemory, Global};
 
-/// The text of the record's result. The only error is want of memory.
+/// Returns the text of the record's result.
+///
+/// # Errors
+///
+/// Memory ran out. Then no text is returned.
 pub fn result_text(alloc: Global, inputs: &Inputs, rec: &Record) -> Result<Vec<u8>, NoMemory>
     requires limits { IsWithinLimits inputs.now.scenario }
     requires of { IsRecordIn rec.now.order inputs.now rec.now }
@@ -32,8 +39,8 @@ pub fn result_text(alloc: Global, inputs: &Inputs, rec: &Record) -> Result<Vec<u
     Ok(text)
 }
 
-/// Reads the inputs and the transcript, checks each step of it, and prints the result of the record that it shows. It stores
-/// nothing.
+/// Reads the inputs and the transcript, checks each step, and prints the result of the record that the transcript certifies.
+/// Stores nothing.
 pub fn verify<F: Folder, K: Sink>(
     alloc: Global,
     files: &VerifyArgs<'_>,

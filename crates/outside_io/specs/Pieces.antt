@@ -21,13 +21,13 @@ BeginsFile None limit (Err Failed) left = ⊤
 BeginsFile None limit (Err TooLong) left = ⊥
 BeginsFile None limit (Err NoMemory) left = ⊤
 
--- over a folder that tells its files; one that doesn't tell them doesn't tell the file that it begins either, and never finds
--- it too long before a piece
+-- over a folder that tells its files; one that doesn't tell them doesn't tell the file that it begins either, and may find it too
+-- long
 abbrev pub Begins : Option (List StoredFile) → List ℕ → ℕ → Result (Unit {0}) LoadErr → Option (List ℕ) → Type 0
 Begins (Some files) name limit result left = BeginsFile (bytes_of files name) limit result left
 Begins None name limit (Ok u) left = left ≡ None
 Begins None name limit (Err Failed) left = ⊤
-Begins None name limit (Err TooLong) left = ⊥
+Begins None name limit (Err TooLong) left = ⊤
 Begins None name limit (Err NoMemory) left = ⊤
 
 -- What a piece is, by the bytes left before it and after it: as many of the first ones as a piece may have, and the others

@@ -2,10 +2,10 @@
 ghost use Rattle.std.specs.Prelude.{◌≡◌, ◌<◌, ◌≤◌, [], length, IfErr, IfOk};
 
 use crate::folder::{NewFile, StoreErr, Unstored};
-use crate::real::write_all;
 use crate::sink::Failed;
+use crate::writing::write_all;
 use std::alloc::{AllocError as NoMemory, Global};
-use std::fs::{Files, Metadata, OpenFile, OpenOptions};
+use std::fs::{Files, Metadata, OpenFile};
 use std::path::{Path, PathBuf};
 use std::{fs, io};
 
@@ -15,9 +15,9 @@ const MOST_NAMES: u32 = 1_000;
 // A file that is written beside its place; none, where the place itself was written.
 type Beside = Option<PathBuf<Global>>;
 
-/// Stores these texts, and syncs them to the disk. Where a place is free or has a plain file, the text comes into it at once, with
-/// all others that do: until each is written no such place is touched, and after an error none that stands behind it is. A device,
-/// a pipe or a link is written itself. The error tells which text was not stored, and why.
+/// Stores these texts. Where a place is free or has a plain file, the text is synced to the disk and comes into its place at once,
+/// with all others that do: until each is written no such place is touched, and after an error none that stands behind it is. A
+/// device, a pipe or a link is written itself, and not synced. The error says which text was not stored, and why.
 pub(crate) fn store_together<R: Files>(
     files: &R,
     alloc: Global,
@@ -124,7 +124,11 @@ fn fill<F: io::Write + OpenFile>(
     write_all(file, bytes)?;
     match file.sync_all() {
         Ok(()) => Ok(()),
-        Err(_) => Err(Failed),
+        Err(error) => match error.kind() {
+            // Some file systems sync no file.
+            io::ErrorKind::InvalidInput | io::ErrorKind::Unsupported => Ok(()),
+            _ => Err(Failed),
+        },
     }
 }
 

@@ -127,7 +127,7 @@ pub trait Folder {
         ensures most { most self.new ≡ most self.old };
 
     /// Begins a file of at most `limit` bytes, in place of the one that was begun. After an error no file is begun: no bytes
-    /// are left. Where the folder doesn't tell its files, it doesn't tell this one either, and that it is too long shows only
+    /// are left. Where the folder doesn't tell its files, it doesn't tell this one either, and that it is too long may show only
     /// at a piece.
     fn begin(&mut self, name: &str, limit: u64) -> Result<(), LoadErr>
         ensures told { Begins (told self.old).files name.now limit result (left self.new) }

@@ -20,3 +20,4 @@ pub mod memory_folder;
 pub mod memory_sink;
 pub mod real;
 pub mod sink;
+mod writing;

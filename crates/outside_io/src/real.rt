@@ -1,13 +1,15 @@
 //! The outside of the system: its files, and its standard output. They tell nothing of what is there.
-ghost use Rattle.std.specs.Prelude.{◌≡◌, ◌<◌, ◌≤◌, [], length, false, IsOk, OnOk, OnErr, IfSome};
-ghost use Rattle.std.specs.Io.KnownBytes.{Appends, Consumes};
+ghost use Rattle.std.specs.Prelude.{◌≡◌, ◌<◌, ◌≤◌, [], length, false, OnOk, OnErr, IfSome};
+ghost use Rattle.std.specs.Io.KnownBytes.{Consumes};
 ghost use Rattle.outside_io.specs.Pieces.{piece_size};
 
 use crate::beside::store_together;
 use crate::folder::{Folder, LoadErr, NewFile, PIECE_SIZE, StoreErr, Unstored};
 use crate::sink::{Failed, Sink};
+use crate::writing::write_all;
 use std::alloc::Global;
-use std::io::{Read, Write};
+use std::fs::OpenFile;
+use std::io::Read;
 use std::marker::Model;
 use std::rt::Files;
 use std::{fs, io};
@@ -123,20 +125,12 @@ fn read_piece<F: Read>(file: &mut F, room: u64, into: &mut Vec<u8>) -> Result<()
     Ok(())
 }
 
-/// Gives all of these bytes to a writer. One that takes nothing fails.
-pub(crate) fn write_all<W: Write>(to: &mut W, bytes: &[u8]) -> Result<(), Failed>
-    ensures nothing { length bytes.now ≡ 0 → IsOk result }
-    // Where the writer tells what it holds, it holds all of the bytes then.
-    ensures whole { OnOk result (Appends (W.contents to.old) (W.contents to.new) bytes.now) }
-{
-    let mut rest = bytes;
-    while !rest.is_empty() {
-        match to.write(rest) {
-            Ok(count) if count > 0 => rest = &rest[count..],
-            _ => return Err(Failed),
-        }
+// Whether a plain file has more bytes than this, as far as the system says. One that grows later is found too long when it is read.
+fn is_longer<F: OpenFile>(file: &F, limit: u64) -> bool {
+    match file.metadata() {
+        Ok(found) => found.is_file() && found.len() > limit,
+        Err(_) => false,
     }
-    Ok(())
 }
 
 impl<'r, R: Files> Folder for RealFolder<'r, R> {
@@ -190,6 +184,9 @@ impl<'r, R: Files> Folder for RealFolder<'r, R> {
             self.faults = self.faults.saturating_add(1);
             return Err(LoadErr::Failed);
         };
+        if is_longer(&file, limit) {
+            return Err(LoadErr::TooLong);
+        }
         self.begun = Some(file);
         Ok(())
     }

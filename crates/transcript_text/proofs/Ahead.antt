@@ -144,7 +144,7 @@ stop-at-end sc book now rest NoMemory e = tt
 
 -- ---- where no line comes behind
 
-with-nothing : (lines : LinesLeft) → with_lines lines [] ≡ lines
+pub with-nothing : (lines : LinesLeft) → with_lines lines [] ≡ lines
 with-nothing lines = ap (λ (left : List (List ℕ)). record { number = lines.number; left = left }) (append-nil lines.left)
 
 goes-with-nothing : (sc : Scenario) (book : BookView) (begun : Transcript) (whole : Bool) (lines : LinesLeft) → goes_on sc book begun whole lines ≡ goes_on sc book begun whole (with_lines lines [])

@@ -75,14 +75,15 @@ kept-lines text part behind kept w l e = record {
   end = λ more. ap (λ (k : List ℕ). is_whole (k ++ more)) e ∙ ap is_whole (append_assoc part behind more) ∙ whole-append part (behind ++ more) w;
 }
 
--- bytes behind the last line of a transcript are a fault, whatever comes behind them
-pub some-bytes : (c : ℕ) (text : List ℕ) → (is_empty (ended_lines (c ∷ text)) && is_whole (c ∷ text)) ≡ false
-some-bytes c text = go (is_whole (c ∷ text)) refl
+-- a text that has a whole line has one, whatever comes behind it
+pub lines-stay : (text more : List ℕ) → is_empty (ended_lines text) ≡ false → is_empty (ended_lines (text ++ more)) ≡ false
+unfolding ended_lines
+lines-stay [] more some = absurd cc some
+lines-stay (c ∷ rest) more some = go (c == 10) (ended_lines rest) (ended_lines (rest ++ more)) (lines-stay rest more) some
   where
-    last : (b : Bool) → (b && false) ≡ false
-    last true = refl
-    last false = refl
-
-    go : (b : Bool) → is_whole (c ∷ text) ≡ b → (is_empty (ended_lines (c ∷ text)) && b) ≡ false
-    go true e = ap (λ b. b && true) (some-line c text e)
-    go false e = last (is_empty (ended_lines (c ∷ text)))
+    go : (b : Bool) (lines all : List (List ℕ)) → (is_empty lines ≡ false → is_empty all ≡ false)
+        → is_empty (if b then [] ∷ lines else onto_first_line c lines) ≡ false → is_empty (if b then [] ∷ all else onto_first_line c all) ≡ false
+    go true lines all stay h = refl
+    go false [] all stay h = absurd cc h
+    go false (line ∷ lines) [] stay h = absurd cc (stay refl)
+    go false (line ∷ lines) (first ∷ all) stay h = refl

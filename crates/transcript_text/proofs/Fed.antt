@@ -1,21 +1,25 @@
 -- What a reader of pieces makes of them.
-use Rattle.std.proofs.Common.{◌≡◌, ◌<◌, ◌∙◌, ◌==◌, ℕ, Bool, true, false, List, [], ◌∷◌, ◌++◌, Result, Ok, Err, IfOk, sym, ap, subst, arith, length, take, drop, append_assoc, append-nil, if◌then◌else◌}
+use Rattle.std.proofs.Common.{◌≡◌, ◌∙◌, ◌&&◌, ℕ, Bool, true, false, List, [], ◌∷◌, ◌++◌, Result, Ok, Err, IfOk, sym, ap, subst, length, take, drop, append_assoc, append-nil, if◌then◌else◌}
 use Rattle.std.proofs.lemmas.List.{take-append-drop}
 use Rattle.pack_defs.specs.declared.scenario.Scenario.{Scenario}
 use Rattle.pack_defs.specs.Book.{BookView}
+use Rattle.pack_defs.specs.Lists.{is_empty}
 use Rattle.lrat_text.specs.Lines.{is_whole, ended_lines}
 use Rattle.transcript_text.specs.declared.error.TextErr.{TextErr}
 use Rattle.transcript_text.specs.declared.error.TextErr.TheVariants.{Version, BadLine, Truncated, NoMemory}
 use Rattle.transcript_text.specs.declared.reader.Stage.{Stage}
 use Rattle.transcript_text.specs.declared.reader.Stage.TheVariants.{Opening, Steps, Whole, Refused}
+use Rattle.auction_core.specs.declared.prefix.Prefix.{Prefix}
 use Rattle.auction_core.specs.declared.transcript.Transcript.{Transcript}
 use Rattle.pack_defs.specs.Steps.{◌>>=◌}
 use Rattle.transcript_text.specs.Steps.{Fails, Gives}
 use Rattle.transcript_text.specs.Fields.{LinesLeft}
 use Rattle.transcript_text.specs.Reading.{transcript_of}
-use Rattle.transcript_text.specs.Pieces.{HasLinesOf, HasRead, IsStageBy, ReadSoFar, ReadsOn, ReadsSame, SaysSame, StepsSoFar, comes_to, ended_by, ends_or_goes_on, goes_on, opened_at, said_by, with_lines}
+use Rattle.transcript_text.specs.PrefixReading.{goes_on_there, prefix_of, transcript_there}
+use Rattle.transcript_text.specs.Pieces.{AreStepsThere, HasLinesOf, HasRead, IsFaulty, IsStageBy, ReadSoFar, ReadsOn, ReadsSame, SaysSame, StepsSoFar, comes_there, comes_to, ended_by, ended_or_goes_on_there, ends_or_goes_on, goes_on, opened_at, said_by, there_by, there_of, with_lines}
 use Rattle.transcript_text.proofs.Ahead.{begins-from, begins-not, stays-fails, transcript-begins}
-use Rattle.transcript_text.proofs.Cuts.{lines-append, some-bytes, whole-append}
+use Rattle.transcript_text.proofs.Cuts.{lines-append, lines-stay, whole-append}
+use Rattle.transcript_text.proofs.PrefixSteps.{line-not-there, prefix-begins, there-from, version-not-there}
 use Rattle.transcript_text.proofs.Stays.{opened-stays}
 
 -- ---- from stage to stage
@@ -24,41 +28,60 @@ use Rattle.transcript_text.proofs.Stays.{opened-stays}
 read-seen : (sc : Scenario) (book : BookView) (begun : Transcript) (asked lines : LinesLeft) (x y : StepsSoFar) → asked ≡ lines → y ≡ x → ReadsOn sc book begun asked (Ok x) → ReadsOn sc book begun lines (Ok y)
 read-seen sc book begun asked lines x y p q read = subst (λ (y : StepsSoFar). ReadsOn sc book begun lines (Ok y)) (sym q) (subst (λ (ls : LinesLeft). ReadsOn sc book begun ls (Ok x)) p read)
 
-pub whole-says : (sc : Scenario) (book : BookView) (begun : Transcript) (asked lines : LinesLeft) (x y : StepsSoFar) → asked ≡ lines → y ≡ x → ReadsOn sc book begun asked (Ok x) → y.ended ≡ true
-    → SaysSame sc book (Steps begun) lines (Whole y.begun) y.rest
-unfolding comes_to
-whole-says sc book begun asked lines x y p q read e = λ whole more.
-    read-seen sc book begun asked lines x y p q read whole more ∙ ap (λ (ended : Bool). ends_or_goes_on sc book ended y.begun whole (with_lines y.rest more)) e
+there-seen : (sc : Scenario) (book : BookView) (begun : Transcript) (asked lines : LinesLeft) (x y : StepsSoFar) → asked ≡ lines → y ≡ x → AreStepsThere sc book begun asked (Ok x) → AreStepsThere sc book begun lines (Ok y)
+there-seen sc book begun asked lines x y p q there =
+    subst (λ (y : StepsSoFar). AreStepsThere sc book begun lines (Ok y)) (sym q) (subst (λ (ls : LinesLeft). AreStepsThere sc book begun ls (Ok x)) p there)
 
-pub steps-say : (sc : Scenario) (book : BookView) (begun : Transcript) (asked lines : LinesLeft) (x y : StepsSoFar) → asked ≡ lines → y ≡ x → ReadsOn sc book begun asked (Ok x) → y.ended ≡ false
+pub whole-says : (sc : Scenario) (book : BookView) (begun : Transcript) (asked lines : LinesLeft) (x y : StepsSoFar) → asked ≡ lines → y ≡ x → ReadsOn sc book begun asked (Ok x) → AreStepsThere sc book begun asked (Ok x) → y.ended ≡ true
+    → SaysSame sc book (Steps begun) lines (Whole y.begun) y.rest
+unfolding comes_to comes_there
+whole-says sc book begun asked lines x y p q read there e = record {
+  says = λ whole more. read-seen sc book begun asked lines x y p q read whole more ∙ ap (λ (ended : Bool). ends_or_goes_on sc book ended y.begun whole (with_lines y.rest more)) e;
+  there = λ more. there-seen sc book begun asked lines x y p q there more ∙ ap (λ (ended : Bool). ended_or_goes_on_there sc book ended y.begun (with_lines y.rest more)) e;
+}
+
+pub steps-say : (sc : Scenario) (book : BookView) (begun : Transcript) (asked lines : LinesLeft) (x y : StepsSoFar) → asked ≡ lines → y ≡ x → ReadsOn sc book begun asked (Ok x) → AreStepsThere sc book begun asked (Ok x) → y.ended ≡ false
     → SaysSame sc book (Steps begun) lines (Steps y.begun) y.rest
-unfolding comes_to
-steps-say sc book begun asked lines x y p q read e = λ whole more.
-    read-seen sc book begun asked lines x y p q read whole more ∙ ap (λ (ended : Bool). ends_or_goes_on sc book ended y.begun whole (with_lines y.rest more)) e
+unfolding comes_to comes_there
+steps-say sc book begun asked lines x y p q read there e = record {
+  says = λ whole more. read-seen sc book begun asked lines x y p q read whole more ∙ ap (λ (ended : Bool). ends_or_goes_on sc book ended y.begun whole (with_lines y.rest more)) e;
+  there = λ more. there-seen sc book begun asked lines x y p q there more ∙ ap (λ (ended : Bool). ended_or_goes_on_there sc book ended y.begun (with_lines y.rest more)) e;
+}
 
 refused-says : (sc : Scenario) (book : BookView) (before stage : Stage) (lines : LinesLeft) (why : TextErr) → stage ≡ Refused why
-    → ((whole : Bool) (more : List (List ℕ)) → comes_to sc book before whole (with_lines lines more) ≡ Err why) → SaysSame sc book before lines stage lines
-unfolding comes_to
-refused-says sc book before stage lines why is h = λ whole more. h whole more ∙ sym (ap (λ (s : Stage). comes_to sc book s whole (with_lines lines more)) is)
+    → ((whole : Bool) (more : List (List ℕ)) → comes_to sc book before whole (with_lines lines more) ≡ Err why) → ((more : List (List ℕ)) → comes_there sc book before (with_lines lines more) ≡ Err why)
+    → SaysSame sc book before lines stage lines
+unfolding comes_to comes_there
+refused-says sc book before stage lines why is h k = record {
+  says = λ whole more. h whole more ∙ sym (ap (λ (s : Stage). comes_to sc book s whole (with_lines lines more)) is);
+  there = λ more. k more ∙ sym (ap (λ (s : Stage). comes_there sc book s (with_lines lines more)) is);
+}
 
-stopped-says : (sc : Scenario) (book : BookView) (begun : Transcript) (lines : LinesLeft) (why : TextErr) (stage : Stage) → ReadsOn sc book begun lines (Err why) → IsStageBy why (Refused why) stage → SaysSame sc book (Steps begun) lines stage lines
-unfolding comes_to
-stopped-says sc book begun lines Version stage read is = refused-says sc book (Steps begun) stage lines Version is read
-stopped-says sc book begun lines (BadLine n) stage read is = refused-says sc book (Steps begun) stage lines (BadLine n) is read
-stopped-says sc book begun lines Truncated stage read is = refused-says sc book (Steps begun) stage lines Truncated is read
-stopped-says sc book begun lines NoMemory stage read is = absurd is
-
-pub steps-stopped : (sc : Scenario) (book : BookView) (begun : Transcript) (asked lines : LinesLeft) (why : TextErr) (stage : Stage) → asked ≡ lines → ReadsOn sc book begun asked (Err why) → IsStageBy why (Refused why) stage
+stopped-says : (sc : Scenario) (book : BookView) (begun : Transcript) (lines : LinesLeft) (why : TextErr) (stage : Stage) → ReadsOn sc book begun lines (Err why) → AreStepsThere sc book begun lines (Err why) → IsStageBy why (Refused why) stage
     → SaysSame sc book (Steps begun) lines stage lines
-steps-stopped sc book begun asked lines why stage p read is = stopped-says sc book begun lines why stage (subst (λ (ls : LinesLeft). ReadsOn sc book begun ls (Err why)) p read) is
+unfolding comes_to comes_there
+stopped-says sc book begun lines Version stage read there is = refused-says sc book (Steps begun) stage lines Version is read there
+stopped-says sc book begun lines (BadLine n) stage read there is = refused-says sc book (Steps begun) stage lines (BadLine n) is read there
+stopped-says sc book begun lines Truncated stage read there is = refused-says sc book (Steps begun) stage lines Truncated is read there
+stopped-says sc book begun lines NoMemory stage read there is = absurd is
+
+pub steps-stopped : (sc : Scenario) (book : BookView) (begun : Transcript) (asked lines : LinesLeft) (why : TextErr) (stage : Stage) → asked ≡ lines → ReadsOn sc book begun asked (Err why) → AreStepsThere sc book begun asked (Err why)
+    → IsStageBy why (Refused why) stage → SaysSame sc book (Steps begun) lines stage lines
+steps-stopped sc book begun asked lines why stage p read there is =
+    stopped-says sc book begun lines why stage (subst (λ (ls : LinesLeft). ReadsOn sc book begun ls (Err why)) p read) (subst (λ (ls : LinesLeft). AreStepsThere sc book begun ls (Err why)) p there) is
 
 opening-stays : (sc : Scenario) (book : BookView) (lines : LinesLeft) (why : TextErr) (stage : Stage) → Fails why (opened_at sc lines.left) → IsStageBy why Opening stage → SaysSame sc book Opening lines stage lines
-unfolding comes_to
+unfolding comes_to comes_there
 opening-stays sc book lines Version stage h is =
-    refused-says sc book Opening stage lines Version is (λ whole more. begins-not sc book lines.left Version whole more (stays-fails more _ _ Version (opened-stays more sc lines.left) h))
+    let never : (more : List (List ℕ)) → opened_at sc (lines.left ++ more) ≡ Err Version = λ more. stays-fails more _ _ Version (opened-stays more sc lines.left) h in
+    refused-says sc book Opening stage lines Version is (λ whole more. begins-not sc book lines.left Version whole more (never more)) (λ more. version-not-there sc book lines.left more (never more))
 opening-stays sc book lines (BadLine n) stage h is =
-    refused-says sc book Opening stage lines (BadLine n) is (λ whole more. begins-not sc book lines.left (BadLine n) whole more (stays-fails more _ _ (BadLine n) (opened-stays more sc lines.left) h))
-opening-stays sc book lines Truncated stage h is = λ whole more. sym (ap (λ (s : Stage). comes_to sc book s whole (with_lines lines more)) is)
+    let never : (more : List (List ℕ)) → opened_at sc (lines.left ++ more) ≡ Err (BadLine n) = λ more. stays-fails more _ _ (BadLine n) (opened-stays more sc lines.left) h in
+    refused-says sc book Opening stage lines (BadLine n) is (λ whole more. begins-not sc book lines.left (BadLine n) whole more (never more)) (λ more. line-not-there sc book lines.left n more (never more))
+opening-stays sc book lines Truncated stage h is = record {
+  says = λ whole more. sym (ap (λ (s : Stage). comes_to sc book s whole (with_lines lines more)) is);
+  there = λ more. sym (ap (λ (s : Stage). comes_there sc book s (with_lines lines more)) is);
+}
 opening-stays sc book lines NoMemory stage h is = absurd is
 
 pub opening-stopped : (sc : Scenario) (book : BookView) (asked : List (List ℕ)) (lines : LinesLeft) (why : TextErr) (stage : Stage) → asked ≡ lines.left → Fails why (opened_at sc asked) → IsStageBy why Opening stage
@@ -67,9 +90,13 @@ opening-stopped sc book asked lines why stage p h is = opening-stays sc book lin
 
 pub opening-says : {E : Type 0} (sc : Scenario) (book : BookView) (asked : List (List ℕ)) (lines behind : LinesLeft) (begun : Transcript) (r : Result (Stage × LinesLeft) E) → asked ≡ lines.left → opened_at sc asked ≡ Ok (begun, behind)
     → IfOk r (λ x. SaysSame sc book (Steps begun) behind x.0 x.1) → IfOk r (λ x. SaysSame sc book Opening lines x.0 x.1)
-unfolding comes_to
-opening-says sc book asked lines behind begun (Ok x) p e h = λ whole more.
-    begins-from sc book lines.left begun behind whole more (subst (λ (ls : List (List ℕ)). opened_at sc ls ≡ Ok (begun, behind)) p e) ∙ h whole more
+unfolding comes_to comes_there
+opening-says sc book asked lines behind begun (Ok x) p e h =
+    let opens : opened_at sc lines.left ≡ Ok (begun, behind) = subst (λ (ls : List (List ℕ)). opened_at sc ls ≡ Ok (begun, behind)) p e in
+    record {
+      says = λ whole more. begins-from sc book lines.left begun behind whole more opens ∙ h.says whole more;
+      there = λ more. there-from sc book lines.left begun behind more opens ∙ h.there more;
+    }
 opening-says sc book asked lines behind begun (Err e') p e h = tt
 
 -- ---- from bytes to bytes
@@ -82,6 +109,12 @@ said-apart sc book read text part behind e w =
     ∙ ap (λ (b : Bool). comes_to sc book read.stage b (record { number = read.number; left = ended_lines (part ++ behind) })) (whole-append part behind w)
     ∙ ap (λ (ls : List (List ℕ)). comes_to sc book read.stage (is_whole behind) (record { number = read.number; left = ls })) (lines-append part behind w)
 
+there-apart : (sc : Scenario) (book : BookView) (read : ReadSoFar) (text part behind : List ℕ) → text ≡ part ++ behind → is_whole part ≡ true
+    → there_of sc book read text ≡ comes_there sc book read.stage (with_lines (record { number = read.number; left = ended_lines part }) (ended_lines behind))
+there-apart sc book read text part behind e w =
+    ap (λ (bytes : List ℕ). there_of sc book read bytes) e
+    ∙ ap (λ (ls : List (List ℕ)). comes_there sc book read.stage (record { number = read.number; left = ls })) (lines-append part behind w)
+
 said-with : (sc : Scenario) (book : BookView) (read : ReadSoFar) (rest : LinesLeft) (text behind more : List ℕ) → rest ≡ record { number = read.number; left = ended_lines text } → HasLinesOf text behind read.left
     → said_by sc book read (read.left ++ more) ≡ comes_to sc book read.stage (is_whole (behind ++ more)) (with_lines rest (ended_lines (behind ++ more)))
 said-with sc book read rest text behind more is h =
@@ -89,55 +122,87 @@ said-with sc book read rest text behind more is h =
     ∙ ap (λ (ls : List (List ℕ)). comes_to sc book read.stage (is_whole (behind ++ more)) (record { number = read.number; left = ls })) (h.lines more)
     ∙ sym (ap (λ (ls : LinesLeft). comes_to sc book read.stage (is_whole (behind ++ more)) (with_lines ls (ended_lines (behind ++ more)))) is)
 
+there-of-with : (sc : Scenario) (book : BookView) (read : ReadSoFar) (rest : LinesLeft) (text behind more : List ℕ) → rest ≡ record { number = read.number; left = ended_lines text } → HasLinesOf text behind read.left
+    → there_of sc book read (read.left ++ more) ≡ comes_there sc book read.stage (with_lines rest (ended_lines (behind ++ more)))
+there-of-with sc book read rest text behind more is h =
+    ap (λ (ls : List (List ℕ)). comes_there sc book read.stage (record { number = read.number; left = ls })) (h.lines more)
+    ∙ sym (ap (λ (ls : LinesLeft). comes_there sc book read.stage (with_lines ls (ended_lines (behind ++ more)))) is)
+
 pub reads-same : (sc : Scenario) (book : BookView) (old new : ReadSoFar) (lines rest : LinesLeft) (part text : List ℕ) → part ≡ take (length part) old.left → is_whole part ≡ true
     → lines ≡ record { number = old.number; left = ended_lines part } → SaysSame sc book old.stage lines new.stage rest → rest ≡ record { number = new.number; left = ended_lines text }
     → HasLinesOf text (drop (length part) old.left) new.left → ReadsSame sc book old new
-reads-same sc book old new lines rest part text front w are same is kept = λ more.
-    let behind = drop (length part) old.left in
-    let apart : old.left ++ more ≡ part ++ (behind ++ more) =
+reads-same sc book old new lines rest part text front w are same is kept =
+    let behind : List ℕ = drop (length part) old.left in
+    let apart : (more : List ℕ) → old.left ++ more ≡ part ++ (behind ++ more) = λ more.
     ap (λ (bytes : List ℕ). bytes ++ more) (sym (take-append-drop (length part) old.left) ∙ ap (λ (bytes : List ℕ). bytes ++ behind) (sym front)) ∙ append_assoc part behind more in
-    said-apart sc book old (old.left ++ more) part (behind ++ more) apart w
-    ∙ sym (ap (λ (ls : LinesLeft). comes_to sc book old.stage (is_whole (behind ++ more)) (with_lines ls (ended_lines (behind ++ more)))) are)
-    ∙ same (is_whole (behind ++ more)) (ended_lines (behind ++ more))
-    ∙ sym (said-with sc book new rest text behind more is kept)
+    record {
+      says = λ more.
+          said-apart sc book old (old.left ++ more) part (behind ++ more) (apart more) w
+          ∙ sym (ap (λ (ls : LinesLeft). comes_to sc book old.stage (is_whole (behind ++ more)) (with_lines ls (ended_lines (behind ++ more)))) are)
+          ∙ same.says (is_whole (behind ++ more)) (ended_lines (behind ++ more))
+          ∙ sym (said-with sc book new rest text behind more is kept);
+      there = λ more.
+          there-apart sc book old (old.left ++ more) part (behind ++ more) (apart more) w
+          ∙ sym (ap (λ (ls : LinesLeft). comes_there sc book old.stage (with_lines ls (ended_lines (behind ++ more)))) are)
+          ∙ same.there (ended_lines (behind ++ more))
+          ∙ sym (there-of-with sc book new rest text behind more is kept);
+    }
 
-pub refused-said : (sc : Scenario) (book : BookView) (read : ReadSoFar) (why : TextErr) (bytes : List ℕ) → read.stage ≡ Refused why → said_by sc book read bytes ≡ Err why
+refused-said : (sc : Scenario) (book : BookView) (read : ReadSoFar) (why : TextErr) (bytes : List ℕ) → read.stage ≡ Refused why → said_by sc book read bytes ≡ Err why
 unfolding comes_to
 refused-said sc book read why bytes is = ap (λ (s : Stage). comes_to sc book s (is_whole bytes) (record { number = read.number; left = ended_lines bytes })) is
 
-pub behind-said : (sc : Scenario) (book : BookView) (read : ReadSoFar) (t : Transcript) (more : List ℕ) → read.stage ≡ Whole t → 0 < length read.left → said_by sc book read (read.left ++ more) ≡ Err (BadLine read.number)
-unfolding comes_to
-behind-said sc book read t more is some =
-    ap (λ (s : Stage). comes_to sc book s (is_whole (read.left ++ more)) (record { number = read.number; left = ended_lines (read.left ++ more) })) is ∙ go read.left some
-  where
-    go : (left : List ℕ) → 0 < length left → comes_to sc book (Whole t) (is_whole (left ++ more)) (record { number = read.number; left = ended_lines (left ++ more) }) ≡ Err (BadLine read.number)
-    go [] h = absurd (omega (arith, h))
-    go (c ∷ left) h = ap (λ (b : Bool). (if b then Ok tt else Err (BadLine read.number)) >>= λ u. Ok t) (some-bytes c (left ++ more))
+refused-there : (sc : Scenario) (book : BookView) (read : ReadSoFar) (why : TextErr) (bytes : List ℕ) → read.stage ≡ Refused why → there_of sc book read bytes ≡ Err why
+unfolding comes_there
+refused-there sc book read why bytes is = ap (λ (s : Stage). comes_there sc book s (record { number = read.number; left = ended_lines bytes })) is
 
-pub some-there : (n : ℕ) (xs : List ℕ) → n ≡ length xs → false ≡ (n == 0) → 0 < length xs
-some-there n [] is some = absurd cc (some ∙ ap (λ (n : ℕ). n == 0) is)
-some-there n (x ∷ xs) is some = omega arith
+pub refused-faulty : (sc : Scenario) (book : BookView) (read : ReadSoFar) (why : TextErr) → read.stage ≡ Refused why → IsFaulty sc book read why
+refused-faulty sc book read why is = record {
+  says = λ more. refused-said sc book read why (read.left ++ more) is;
+  there = λ more. refused-there sc book read why (read.left ++ more) is;
+}
+
+-- a line behind the last one of a transcript is a fault, whatever comes behind it
+pub behind-faulty : (sc : Scenario) (book : BookView) (read : ReadSoFar) (t : Transcript) (line : List ℕ) (lines : List (List ℕ)) → read.stage ≡ Whole t → ended_lines read.left ≡ line ∷ lines → IsFaulty sc book read (BadLine read.number)
+unfolding comes_to comes_there
+behind-faulty sc book read t line lines is some =
+    let still : (more : List ℕ) → is_empty (ended_lines (read.left ++ more)) ≡ false = λ more. lines-stay read.left more (ap is_empty some) in
+    record {
+      says = λ more.
+          ap (λ (s : Stage). comes_to sc book s (is_whole (read.left ++ more)) (record { number = read.number; left = ended_lines (read.left ++ more) })) is
+          ∙ ap (λ (b : Bool). (if b && is_whole (read.left ++ more) then Ok tt else Err (BadLine read.number)) >>= λ u. Ok t) (still more);
+      there = λ more.
+          ap (λ (s : Stage). comes_there sc book s (record { number = read.number; left = ended_lines (read.left ++ more) })) is
+          ∙ ap (λ (b : Bool). (if b && true then Ok tt else Err (BadLine read.number)) >>= λ u. Ok (transcript_there t true)) (still more);
+    }
 
 -- ---- the reader
 
 pub has-none : (sc : Scenario) (book : BookView) (read : ReadSoFar) → read.stage ≡ Opening → read.left ≡ [] → HasRead sc book [] read
-unfolding comes_to
+unfolding comes_to comes_there
 has-none sc book read is empty = record {
   says = λ more. transcript-begins sc book more
       ∙ sym (ap (λ (s : Stage). comes_to sc book s (is_whole more) (record { number = read.number; left = ended_lines more })) is)
       ∙ sym (ap (λ (left : List ℕ). said_by sc book read (left ++ more)) empty);
+  there = λ more. prefix-begins sc book more
+      ∙ sym (ap (λ (s : Stage). comes_there sc book s (record { number = read.number; left = ended_lines more })) is)
+      ∙ sym (ap (λ (left : List ℕ). there_of sc book read (left ++ more)) empty);
 }
 
 pub has-piece : (sc : Scenario) (book : BookView) (bytes piece : List ℕ) (old new : ReadSoFar) → HasRead sc book bytes old → new ≡ record { stage = old.stage; number = old.number; left = old.left ++ piece } → HasRead sc book (bytes ++ piece) new
 has-piece sc book bytes piece old new h is = subst (λ (read : ReadSoFar). HasRead sc book (bytes ++ piece) read) (sym is) (record {
   says = λ more. ap (transcript_of sc book) (append_assoc bytes piece more) ∙ h.says (piece ++ more) ∙ sym (ap (said_by sc book old) (append_assoc old.left piece more));
+  there = λ more. ap (prefix_of sc book) (append_assoc bytes piece more) ∙ h.there (piece ++ more) ∙ sym (ap (there_of sc book old) (append_assoc old.left piece more));
 })
 
 pub has-same : (sc : Scenario) (book : BookView) (bytes : List ℕ) (old new : ReadSoFar) → HasRead sc book bytes old → ReadsSame sc book old new → HasRead sc book bytes new
-has-same sc book bytes old new h same = record { says = λ more. h.says more ∙ same more }
+has-same sc book bytes old new h same = record { says = λ more. h.says more ∙ same.says more; there = λ more. h.there more ∙ same.there more }
 
-pub has-fault : (sc : Scenario) (book : BookView) (bytes : List ℕ) (old new : ReadSoFar) (why : TextErr) → HasRead sc book bytes old → ((more : List ℕ) → said_by sc book old (old.left ++ more) ≡ Err why) → new.stage ≡ Refused why → HasRead sc book bytes new
-has-fault sc book bytes old new why h fault is = record { says = λ more. h.says more ∙ fault more ∙ sym (refused-said sc book new why (new.left ++ more) is) }
+pub has-fault : (sc : Scenario) (book : BookView) (bytes : List ℕ) (old new : ReadSoFar) (why : TextErr) → HasRead sc book bytes old → IsFaulty sc book old why → new.stage ≡ Refused why → HasRead sc book bytes new
+has-fault sc book bytes old new why h fault is = record {
+  says = λ more. h.says more ∙ fault.says more ∙ sym (refused-said sc book new why (new.left ++ more) is);
+  there = λ more. h.there more ∙ fault.there more ∙ sym (refused-there sc book new why (new.left ++ more) is);
+}
 
 -- ---- the end
 
@@ -183,3 +248,40 @@ whole-ends sc book bytes read begun whole lines text again result h is l t w a =
 pub refused-ends : (sc : Scenario) (book : BookView) (bytes : List ℕ) (read : ReadSoFar) (why : TextErr) → HasRead sc book bytes read → read.stage ≡ Refused why → Fails why (transcript_of sc book bytes)
 unfolding comes_to
 refused-ends sc book bytes read why h is = err-fails (transcript_of sc book bytes) why (says-all sc book bytes read (Refused why) h is)
+
+-- ---- the end of a beginning
+
+there-all : (sc : Scenario) (book : BookView) (bytes : List ℕ) (read : ReadSoFar) (stage : Stage) → HasRead sc book bytes read → read.stage ≡ stage
+    → prefix_of sc book bytes ≡ comes_there sc book stage (record { number = read.number; left = ended_lines read.left })
+there-all sc book bytes read stage h is =
+    ap (prefix_of sc book) (sym (append-nil bytes)) ∙ h.there [] ∙ ap (there_of sc book read) (append-nil read.left)
+    ∙ ap (λ (s : Stage). comes_there sc book s (record { number = read.number; left = ended_lines read.left })) is
+
+there-now : (sc : Scenario) (book : BookView) (bytes : List ℕ) (read : ReadSoFar) (stage : Stage) (lines : LinesLeft) (text : List ℕ) → HasRead sc book bytes read → read.stage ≡ stage
+    → lines ≡ record { number = read.number; left = ended_lines text } → text ≡ read.left → prefix_of sc book bytes ≡ comes_there sc book stage lines
+there-now sc book bytes read stage lines text h is l t =
+    there-all sc book bytes read stage h is ∙ ap (λ (ls : LinesLeft). comes_there sc book stage ls) (sym (l ∙ ap (λ (xs : List ℕ). record { number = read.number; left = ended_lines xs }) t))
+
+pub opening-there : (sc : Scenario) (book : BookView) (bytes text : List ℕ) (read : ReadSoFar) (result : Result Prefix TextErr) → HasRead sc book bytes read → read.stage ≡ Opening → text ≡ read.left
+    → Gives (λ (p : Prefix). p) (prefix_of sc book text) result → Gives (λ (p : Prefix). p) (prefix_of sc book bytes) result
+unfolding comes_there
+opening-there sc book bytes text read result h is t =
+    subst (λ (r : Result Prefix TextErr). Gives (λ (p : Prefix). p) r result) (ap (prefix_of sc book) t ∙ prefix-begins sc book read.left ∙ sym (there-all sc book bytes read Opening h is))
+
+pub steps-are-there : (sc : Scenario) (book : BookView) (bytes : List ℕ) (read : ReadSoFar) (begun : Transcript) (lines : LinesLeft) (text : List ℕ) (result : Result Prefix TextErr) → HasRead sc book bytes read
+    → read.stage ≡ Steps begun → lines ≡ record { number = read.number; left = ended_lines text } → text ≡ read.left
+    → Gives (λ (p : Prefix). p) (goes_on_there sc book begun lines) result → Gives (λ (p : Prefix). p) (prefix_of sc book bytes) result
+unfolding comes_there
+steps-are-there sc book bytes read begun lines text result h is l t =
+    subst (λ (r : Result Prefix TextErr). Gives (λ (p : Prefix). p) r result) (sym (there-now sc book bytes read (Steps begun) lines text h is l t))
+
+pub whole-there : (sc : Scenario) (book : BookView) (bytes : List ℕ) (read : ReadSoFar) (begun : Transcript) (lines : LinesLeft) (text : List ℕ) (result : Result Prefix TextErr) → HasRead sc book bytes read
+    → read.stage ≡ Whole begun → lines ≡ record { number = read.number; left = ended_lines text } → text ≡ read.left
+    → Gives (λ (p : Prefix). p) (there_by (record { begun = begun; rest = lines; ended = true })) result → Gives (λ (p : Prefix). p) (prefix_of sc book bytes) result
+unfolding comes_there there_by
+whole-there sc book bytes read begun lines text result h is l t =
+    subst (λ (r : Result Prefix TextErr). Gives (λ (p : Prefix). p) r result) (sym (there-now sc book bytes read (Whole begun) lines text h is l t))
+
+pub refused-not-there : (sc : Scenario) (book : BookView) (bytes : List ℕ) (read : ReadSoFar) (why : TextErr) → HasRead sc book bytes read → read.stage ≡ Refused why → Fails why (prefix_of sc book bytes)
+unfolding comes_there
+refused-not-there sc book bytes read why h is = err-fails (prefix_of sc book bytes) why (there-all sc book bytes read (Refused why) h is)

@@ -1,5 +1,5 @@
 -- The steps that are there of a beginning, one after the other.
-use Rattle.std.proofs.Common.{◌≡◌, ◌≤◌, ◌+◌, ◌∙◌, ℕ, zero, suc, true, false, List, [], ◌∷◌, ◌++◌, Option, Some, None, Result, Ok, Err, refl, sym, ap, subst, arith, length, length-append, append_assoc}
+use Rattle.std.proofs.Common.{◌≡◌, ◌≤◌, ◌+◌, ◌∙◌, ℕ, zero, suc, Bool, true, false, if◌then◌else◌, List, [], ◌∷◌, ◌++◌, Option, Some, None, Result, Ok, Err, refl, sym, ap, subst, arith, length, length-append, append_assoc}
 use Rattle.pack_defs.specs.declared.scenario.Scenario.{Scenario}
 use Rattle.pack_defs.specs.declared.order.Order.{Order}
 use Rattle.pack_defs.specs.Book.{BookView}
@@ -11,12 +11,13 @@ use Rattle.auction_core.specs.declared.prefix.Prefix.{Prefix}
 use Rattle.auction_core.specs.declared.transcript.Transcript.{Transcript}
 use Rattle.auction_core.specs.declared.transcript.TranscriptStep.{TranscriptStep}
 use Rattle.transcript_text.specs.Fields.{LinesLeft}
-use Rattle.transcript_text.specs.Pieces.{stopped}
-use Rattle.transcript_text.specs.PrefixReading.{AreStepsThere, StepsThere, goes_on_there, if_there, kept_at, no_more, nothing_there, order_there, prefix_of, start_there, steps_there, there_by, there_or, transcript_there}
+use Rattle.transcript_text.specs.Pieces.{AreStepsThere, IsAtEnd, StepsSoFar, begins_there, ended_or_goes_on_there, opened_at, stopped, there_by, with_lines}
+use Rattle.transcript_text.specs.PrefixReading.{StepsThere, goes_on_there, if_there, kept_at, no_more, nothing_there, order_there, prefix_of, start_there, steps_there, there_or, transcript_there}
 use Rattle.transcript_text.specs.Reading.{next_step, start_at, text_end, version_at}
 use Rattle.pack_defs.specs.Steps.{◌>>=◌}
 use Rattle.transcript_text.specs.Steps.{Fails, Gives}
-use Rattle.transcript_text.proofs.Ahead.{with-none, with_step}
+use Rattle.transcript_text.proofs.Ahead.{stays-fails, stays-ok, with-none, with-nothing, with_step}
+use Rattle.transcript_text.proofs.Stays.{next-step-stays, opened-stays}
 use Rattle.transcript_text.proofs.StepLoop.{Fewer, next-truncated, step-fewer}
 
 -- ---- any bound on the steps will do that is no less than the lines
@@ -91,28 +92,56 @@ there-by-step sc book begun lines =
 
 -- ---- the loop over steps
 
-there-with : (sc : Scenario) (book : BookView) (begun now : Transcript) (lines rest : LinesLeft) (r : Result (Option TranscriptStep × LinesLeft) TextErr) → goes_on_there sc book begun lines ≡ goes_on_there sc book now rest
-    → next_step sc book (length now.steps) rest ≡ r → goes_on_there sc book begun lines ≡ if_there (transcript_there now false) r (turned_there sc book now)
-there-with sc book begun now lines rest r h e = h ∙ there-by-step sc book now rest ∙ ap (λ r. if_there (transcript_there now false) r (turned_there sc book now)) e
+-- whatever comes behind, these steps and lines have there what the first have
+abbrev pub AreThere : Scenario → BookView → Transcript → LinesLeft → Transcript → LinesLeft → Type 0
+AreThere sc book begun lines now rest = (more : List (List ℕ)) → goes_on_there sc book begun (with_lines lines more) ≡ goes_on_there sc book now (with_lines rest more)
 
-pub step-there : (sc : Scenario) (book : BookView) (begun now : Transcript) (lines rest after : LinesLeft) (x : TranscriptStep) (steps : List TranscriptStep) → goes_on_there sc book begun lines ≡ goes_on_there sc book now rest
-    → next_step sc book (length now.steps) rest ≡ Ok (Some x, after) → steps ≡ now.steps ++ x ∷ [] → goes_on_there sc book begun lines ≡ goes_on_there sc book (record { order = now.order; start = now.start; steps = steps }) after
-step-there sc book begun now lines rest after x steps h e is =
-    there-with sc book begun now lines rest (Ok (Some x, after)) h e
-    ∙ sym (ap (λ (xs : List TranscriptStep). goes_on_there sc book (record { order = now.order; start = now.start; steps = xs }) after) is)
+there-with : (sc : Scenario) (book : BookView) (begun now : Transcript) (lines rest : LinesLeft) (r : Result (Option TranscriptStep × LinesLeft) TextErr) (more : List (List ℕ)) → AreThere sc book begun lines now rest
+    → next_step sc book (length now.steps) (with_lines rest more) ≡ r → goes_on_there sc book begun (with_lines lines more) ≡ if_there (transcript_there now false) r (turned_there sc book now)
+there-with sc book begun now lines rest r more h e = h more ∙ there-by-step sc book now (with_lines rest more) ∙ ap (λ r. if_there (transcript_there now false) r (turned_there sc book now)) e
 
-pub end-there : (sc : Scenario) (book : BookView) (begun now : Transcript) (lines rest after : LinesLeft) → goes_on_there sc book begun lines ≡ goes_on_there sc book now rest
+pub step-there : (sc : Scenario) (book : BookView) (begun now : Transcript) (lines rest after : LinesLeft) (x : TranscriptStep) (steps : List TranscriptStep) → AreThere sc book begun lines now rest
+    → next_step sc book (length now.steps) rest ≡ Ok (Some x, after) → steps ≡ now.steps ++ x ∷ [] → AreThere sc book begun lines (record { order = now.order; start = now.start; steps = steps }) after
+step-there sc book begun now lines rest after x steps h e is = λ more.
+    there-with sc book begun now lines rest (Ok (Some x, with_lines after more)) more h (stays-ok more _ _ (Some x) after (next-step-stays more sc book (length now.steps) rest) e)
+    ∙ sym (ap (λ (xs : List TranscriptStep). goes_on_there sc book (record { order = now.order; start = now.start; steps = xs }) (with_lines after more)) is)
+
+pub end-there : (sc : Scenario) (book : BookView) (begun now : Transcript) (lines rest after : LinesLeft) → AreThere sc book begun lines now rest
     → next_step sc book (length now.steps) rest ≡ Ok (None, after) → AreStepsThere sc book begun lines (Ok (record { begun = now; rest = after; ended = true }))
-unfolding there_by
-end-there sc book begun now lines rest after h e = there-with sc book begun now lines rest (Ok (None, after)) h e
+end-there sc book begun now lines rest after h e = λ more.
+    there-with sc book begun now lines rest (Ok (None, with_lines after more)) more h (stays-ok more _ _ None after (next-step-stays more sc book (length now.steps) rest) e)
 
-pub stop-there : (sc : Scenario) (book : BookView) (begun now : Transcript) (lines rest : LinesLeft) (why : TextErr) → goes_on_there sc book begun lines ≡ goes_on_there sc book now rest
+pub stop-there : (sc : Scenario) (book : BookView) (begun now : Transcript) (lines rest : LinesLeft) (why : TextErr) → AreThere sc book begun lines now rest
     → Fails why (next_step sc book (length now.steps) rest) → AreStepsThere sc book begun lines (stopped why (record { begun = now; rest = rest; ended = false }))
+stop-there sc book begun now lines rest Version h e = λ more.
+    there-with sc book begun now lines rest (Err Version) more h (stays-fails more _ _ Version (next-step-stays more sc book (length now.steps) rest) e)
+stop-there sc book begun now lines rest (BadLine n) h e = λ more.
+    there-with sc book begun now lines rest (Err (BadLine n)) more h (stays-fails more _ _ (BadLine n) (next-step-stays more sc book (length now.steps) rest) e)
+stop-there sc book begun now lines rest Truncated h e = h
+stop-there sc book begun now lines rest NoMemory h e = λ more. tt
+
+-- ---- where no line comes behind
+
+there-with-nothing : (sc : Scenario) (book : BookView) (begun : Transcript) (lines : LinesLeft) → goes_on_there sc book begun lines ≡ goes_on_there sc book begun (with_lines lines [])
+there-with-nothing sc book begun lines = sym (ap (λ (ls : LinesLeft). goes_on_there sc book begun ls) (with-nothing lines))
+
+ends-there : (sc : Scenario) (book : BookView) (begun : Transcript) (lines : LinesLeft) (x : StepsSoFar) (ended : Bool) → AreStepsThere sc book begun lines (Ok x) → x.ended ≡ ended
+    → goes_on_there sc book begun lines ≡ ended_or_goes_on_there sc book ended x.begun (with_lines x.rest [])
+ends-there sc book begun lines x ended there e =
+    there-with-nothing sc book begun lines ∙ there [] ∙ ap (λ (b : Bool). ended_or_goes_on_there sc book b x.begun (with_lines x.rest [])) e
+
+pub all-there : (sc : Scenario) (book : BookView) (begun : Transcript) (lines : LinesLeft) (x : StepsSoFar) → AreStepsThere sc book begun lines (Ok x) → IsAtEnd sc book x → goes_on_there sc book begun lines ≡ there_by x
 unfolding there_by
-stop-there sc book begun now lines rest Version h e = there-with sc book begun now lines rest (Err Version) h e
-stop-there sc book begun now lines rest (BadLine n) h e = there-with sc book begun now lines rest (Err (BadLine n)) h e
-stop-there sc book begun now lines rest Truncated h e = there-with sc book begun now lines rest (Err Truncated) h e
-stop-there sc book begun now lines rest NoMemory h e = tt
+all-there sc book begun lines x there waits = go x.ended refl
+  where
+    go : (ended : Bool) → x.ended ≡ ended → goes_on_there sc book begun lines ≡ (if ended then (text_end true x.rest >>= λ u. Ok (transcript_there x.begun true)) else Ok (transcript_there x.begun false))
+    go true e = ends-there sc book begun lines x true there e ∙ ap (λ (ls : LinesLeft). text_end true ls >>= λ u. Ok (transcript_there x.begun true)) (with-nothing x.rest)
+    go false e =
+        ends-there sc book begun lines x false there e ∙ sym (there-with-nothing sc book x.begun x.rest)
+        ∙ there-by-step sc book x.begun x.rest ∙ ap (λ r. if_there (transcript_there x.begun false) r (turned_there sc book x.begun)) (waits e)
+
+pub fault-there : (sc : Scenario) (book : BookView) (begun : Transcript) (lines : LinesLeft) (why : TextErr) → AreStepsThere sc book begun lines (Err why) → Fails why (goes_on_there sc book begun lines)
+fault-there sc book begun lines why there = subst (λ (ls : LinesLeft). Fails why (goes_on_there sc book begun ls)) (with-nothing lines) (there [])
 
 -- ---- a part that is there, and one that isn't
 
@@ -147,3 +176,47 @@ pub prefix-kept : (sc : Scenario) (book : BookView) (text : List ℕ) (why : Tex
 unfolding prefix_of
 prefix-kept sc book text why kept result h k e =
     subst (Gives (λ (p : Prefix). p) (prefix_of sc book text)) (sym (e ∙ ap (λ (p : Prefix). kept_at p why) k)) (kept-gives nothing_there (version_at (ended_lines text)) _ why h)
+
+-- ---- the whole, from where its first lines end
+
+-- what is there, where the opening comes to this
+abbrev Opens : Scenario → BookView → Result (Transcript × LinesLeft) TextErr → Result Prefix TextErr → Type 0
+Opens sc book (Ok o) there = there ≡ goes_on_there sc book o.0 o.1
+Opens sc book (Err Version) there = there ≡ Err Version
+Opens sc book (Err (BadLine n)) there = there ≡ Err (BadLine n)
+Opens sc book (Err Truncated) there = Unit {0}
+Opens sc book (Err NoMemory) there = Unit {0}
+
+there-opened : (sc : Scenario) (book : BookView) (lines : List (List ℕ)) (r : Result (Transcript × LinesLeft) TextErr) → opened_at sc lines ≡ r → Opens sc book r (begins_there sc book lines)
+unfolding begins_there opened_at start_there
+there-opened sc book lines r e = subst (λ (r : Result (Transcript × LinesLeft) TextErr). Opens sc book r (begins_there sc book lines)) e (go (version_at lines))
+  where
+    from : (order : Order) (s : Result (Shown × LinesLeft) TextErr)
+        → Opens sc book (s >>= λ start. Ok (record { order = order; start = start.0; steps = [] }, start.1)) (if_there (order_there order) s (λ start. goes_on_there sc book (record { order = order; start = start.0; steps = [] }) start.1))
+    from order (Ok start) = refl
+    from order (Err Version) = refl
+    from order (Err (BadLine n)) = refl
+    from order (Err Truncated) = tt
+    from order (Err NoMemory) = tt
+
+    go : (v : Result (Order × LinesLeft) TextErr)
+        → Opens sc book (v >>= λ version. start_at sc version.1 >>= λ start. Ok (record { order = version.0; start = start.0; steps = [] }, start.1)) (if_there nothing_there v (λ version. start_there sc book version.0 version.1))
+    go (Ok version) = from version.0 (start_at sc version.1)
+    go (Err Version) = refl
+    go (Err (BadLine n)) = refl
+    go (Err Truncated) = tt
+    go (Err NoMemory) = tt
+
+pub there-from : (sc : Scenario) (book : BookView) (lines : List (List ℕ)) (begun : Transcript) (rest : LinesLeft) (more : List (List ℕ))
+    → opened_at sc lines ≡ Ok (begun, rest) → begins_there sc book (lines ++ more) ≡ goes_on_there sc book begun (with_lines rest more)
+there-from sc book lines begun rest more e = there-opened sc book (lines ++ more) (Ok (begun, with_lines rest more)) (stays-ok more _ _ begun rest (opened-stays more sc lines) e)
+
+pub version-not-there : (sc : Scenario) (book : BookView) (lines : List (List ℕ)) (more : List (List ℕ)) → opened_at sc (lines ++ more) ≡ Err Version → begins_there sc book (lines ++ more) ≡ Err Version
+version-not-there sc book lines more e = there-opened sc book (lines ++ more) (Err Version) e
+
+pub line-not-there : (sc : Scenario) (book : BookView) (lines : List (List ℕ)) (n : ℕ) (more : List (List ℕ)) → opened_at sc (lines ++ more) ≡ Err (BadLine n) → begins_there sc book (lines ++ more) ≡ Err (BadLine n)
+line-not-there sc book lines n more e = there-opened sc book (lines ++ more) (Err (BadLine n)) e
+
+pub prefix-begins : (sc : Scenario) (book : BookView) (text : List ℕ) → prefix_of sc book text ≡ begins_there sc book (ended_lines text)
+unfolding prefix_of begins_there
+prefix-begins sc book text = refl

@@ -1,5 +1,5 @@
 -- What the beginning of a transcript's text says: what is all there of it, or the first fault of its whole lines.
-use Rattle.std.specs.Prelude.{◌≡◌, ◌++◌, ℕ, zero, suc, Bool, true, false, ◌+◌, if◌then◌else◌, List, [], ◌∷◌, length, take, Option, Some, None, Result, Ok, Err}
+use Rattle.std.specs.Prelude.{◌≡◌, ◌++◌, ℕ, zero, suc, Bool, true, false, ◌+◌, List, [], ◌∷◌, length, take, Option, Some, None, Result, Ok, Err}
 use Rattle.pack_defs.specs.Book.{BookView}
 use Rattle.pack_defs.specs.declared.scenario.Scenario.{Scenario}
 use Rattle.pack_defs.specs.declared.order.Order.{Order}
@@ -10,10 +10,8 @@ use Rattle.auction_core.specs.declared.prefix.Prefix.{Prefix}
 use Rattle.auction_core.specs.declared.transcript.Transcript.{Transcript}
 use Rattle.auction_core.specs.declared.transcript.TranscriptStep.{TranscriptStep}
 use Rattle.transcript_text.specs.Fields.{LinesLeft}
-use Rattle.transcript_text.specs.Pieces.{StepsSoFar}
 use Rattle.transcript_text.specs.Reading.{next_step, start_at, text_end, version_at}
 use Rattle.pack_defs.specs.Steps.{◌>>=◌}
-use Rattle.transcript_text.specs.Steps.{Fails}
 
 -- ---- what is kept where lines are wanted
 
@@ -84,18 +82,6 @@ start_there sc book order lines =
 unfoldable pub prefix_of : Scenario → BookView → List ℕ → Result Prefix TextErr
 prefix_of sc book text =
     if_there nothing_there (version_at (ended_lines text)) (λ version. start_there sc book version.0 version.1)
-
--- ---- what reading steps comes to
-
--- what they are, where no more whole lines come
-unfoldable pub there_by : StepsSoFar → Result Prefix TextErr
-there_by read =
-    if read.ended then (text_end true read.rest >>= λ u. Ok (transcript_there read.begun true)) else Ok (transcript_there read.begun false)
-
--- the steps that were read of these lines are all that are there, or an error is theirs
-abbrev pub AreStepsThere : Scenario → BookView → Transcript → LinesLeft → Result StepsSoFar TextErr → Type 0
-AreStepsThere sc book begun lines (Ok x) = goes_on_there sc book begun lines ≡ there_by x
-AreStepsThere sc book begun lines (Err e) = Fails e (goes_on_there sc book begun lines)
 
 -- ---- a beginning and the whole
 

@@ -2,7 +2,8 @@
 
 ghost use Rattle.std.specs.Prelude.{◌≡◌, [], None, false};
 ghost use Rattle.pack_defs.specs.Scenario.{StationsAscend};
-ghost use Rattle.transcript_text.specs.PrefixReading.{goes_on_there, kept_at, prefix_of, start_there, there_by};
+ghost use Rattle.transcript_text.specs.Pieces.{there_by};
+ghost use Rattle.transcript_text.specs.PrefixReading.{goes_on_there, kept_at, prefix_of, start_there};
 ghost use Rattle.transcript_text.specs.Steps.{Gives};
 
 use crate::error::TextErr;
@@ -53,9 +54,9 @@ fn started(alloc: Global, order: Order, start: Shown) -> Transcript
     }
 }
 
-// What reading steps came to, where no more whole lines come.
-#[tactic(auto, unfolding(crate::specs::PrefixReading::there_by))]
-fn there_by<'a>(read: StepsRead<'a>) -> Result<Prefix, TextErr>
+/// What is there of a transcript whose steps were read so, where no more whole lines come.
+#[tactic(auto, unfolding(crate::specs::Pieces::there_by))]
+pub(crate) fn there_by<'a>(read: StepsRead<'a>) -> Result<Prefix, TextErr>
     ensures { Gives (λ p. p) (there_by read.entry) result }
 {
     let StepsRead { begun, rest, ended } = read;
@@ -75,8 +76,8 @@ fn there_by<'a>(read: StepsRead<'a>) -> Result<Prefix, TextErr>
     })
 }
 
-// What is there behind the start.
-fn steps_there<'a>(
+/// What is there of the transcript that begins so, where these are its lines.
+pub(crate) fn steps_there<'a>(
     alloc: Global,
     sc: &Scenario,
     book: &Book,

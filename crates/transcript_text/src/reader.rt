@@ -1,16 +1,19 @@
 //! The reader of a transcript that comes in pieces. Whatever the text's length, it holds no more of it than the step that is
 //! read and one piece: a step is tried once as many lines are there as its first line counts. The start and receipts are
-//! counted by no first line; there each try wants twice the lines of the one before, and up to twice the step is held.
+//! counted by no first line; there each try wants twice the lines of the one before, and up to twice the step is held. The
+//! text may be a whole transcript, or the beginning of one.
 
-ghost use Rattle.std.specs.Prelude.{◌≡◌, ◌++◌, [], ℕ, Err, IfOk, IfSome, List};
+ghost use Rattle.std.specs.Prelude.{◌≡◌, ◌++◌, [], ℕ, IfOk, IfSome, List};
 ghost use Rattle.pack_defs.specs.Scenario.{StationsAscend};
 ghost use Rattle.pack_defs.specs.Book.{BookView};
 ghost use Rattle.pack_defs.specs.declared.scenario.Scenario.{Scenario};
 ghost use Rattle.transcript_text.specs.declared.reader.Stage.TheVariants.{Opening, Steps, Refused};
-ghost use Rattle.transcript_text.specs.Pieces.{HasRead, IsStageBy, ReadsSame, SaysSame, said_by};
+ghost use Rattle.transcript_text.specs.Pieces.{HasRead, IsFaulty, IsStageBy, ReadsSame, SaysSame};
+ghost use Rattle.transcript_text.specs.PrefixReading.{prefix_of};
 ghost use Rattle.transcript_text.specs.Reading.{transcript_of};
 ghost use Rattle.transcript_text.specs.Steps.{Gives};
 
+use crate::beginning::{read_prefix, steps_there, there_by};
 use crate::error::TextErr;
 use crate::fields::{TextLines, next_line};
 use crate::head::Head;
@@ -18,8 +21,9 @@ use crate::heads::head_at;
 use crate::pieces::{kept_of, line_ends, lines_from, whole_part};
 use crate::read::{ended_by, goes_on, opened_at, read_transcript};
 use crate::steps::{StepsRead, steps_on};
+use auction_core::prefix::Prefix;
 use auction_core::transcript::Transcript;
-use lrat_text::lines::is_whole;
+use lrat_text::lines::{is_whole, split_line};
 use pack_defs::book::Book;
 use pack_defs::scenario::Scenario;
 use std::alloc::{AllocError as NoMemory, Global};
@@ -158,7 +162,8 @@ fn lines_wanted<'a>(sc: &Scenario, stage: &Stage, lines: TextLines<'a>, there: u
     match stage {
         Stage::Opening => there.saturating_mul(2).max(1),
         Stage::Steps(begun) => step_lines(sc, begun.steps.as_slice().len(), lines, there),
-        _ => 0,
+        Stage::Whole(_) => 1,
+        Stage::Refused(_) => 0,
     }
 }
 
@@ -216,16 +221,14 @@ impl TranscriptReader {
 
     // The fault that the text has, whatever comes behind what is there.
     fn fault(&self) -> Option<TextErr>
-        ensures { IfSome result (λ why. (sc : Scenario) (book : BookView) (more : List ℕ) → said_by sc book self.now (self.now.left ++ more) ≡ Err why) }
+        ensures { IfSome result (λ why. (sc : Scenario) (book : BookView) → IsFaulty sc book self.now why) }
     {
         match &self.stage {
             Stage::Refused(why) => return Some(*why),
-            Stage::Whole(_) => {
-                if self.left.is_empty() {
-                    return None;
-                }
-                return Some(TextErr::BadLine { n: self.number });
-            }
+            Stage::Whole(_) => match split_line(&self.left) {
+                Some(_) => return Some(TextErr::BadLine { n: self.number }),
+                None => return None,
+            },
             _ => return None,
         }
     }
@@ -258,8 +261,8 @@ impl TranscriptReader {
         })
     }
 
-    /// Reads the next piece of the text, a transcript of an auction by this scenario and this book. A fault is told by
-    /// `finish`.
+    /// Reads the next piece of the text, a transcript of an auction by this scenario and this book, or the beginning of
+    /// one. A fault is told by `finish` and `finish_prefix`.
     ///
     /// # Errors
     ///
@@ -315,6 +318,39 @@ impl TranscriptReader {
                     ended: true,
                 };
                 return ended_by(is_whole(&left), read);
+            }
+            Stage::Refused(why) => return Err(why),
+        }
+    }
+
+    /// What is there of the transcript that begins with the text, which ends here.
+    ///
+    /// # Errors
+    ///
+    /// Those of [`read_prefix`](crate::beginning::read_prefix).
+    pub fn finish_prefix(self, sc: &Scenario, book: &Book) -> Result<Prefix, TextErr>
+        requires { StationsAscend sc.now }
+        ensures { (bytes : List ℕ) → HasRead sc.now book.now bytes self → Gives (λ p. p) (prefix_of sc.now book.now bytes) result }
+    {
+        let TranscriptReader {
+            alloc,
+            stage,
+            number,
+            left,
+            ..
+        } = self;
+        match stage {
+            Stage::Opening => return read_prefix(alloc, &left, sc, book),
+            Stage::Steps(begun) => {
+                return steps_there(alloc, sc, book, begun, lines_from(number, &left)?);
+            }
+            Stage::Whole(begun) => {
+                let rest = lines_from(number, &left)?;
+                return there_by(StepsRead {
+                    begun,
+                    rest,
+                    ended: true,
+                });
             }
             Stage::Refused(why) => return Err(why),
         }

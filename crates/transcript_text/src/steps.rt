@@ -4,8 +4,7 @@ ghost use Rattle.std.specs.Prelude.{◌≡◌, ◌≤◌, IfOk};
 ghost use Rattle.pack_defs.specs.Scenario.{StationsAscend};
 ghost use Rattle.transcript_text.specs.Fields.{most_counted};
 ghost use Rattle.transcript_text.specs.Reading.{IsHeadCounted, fit_step, log_step, next_step, outside_step, step_at, step_of, undecided_step};
-ghost use Rattle.transcript_text.specs.Pieces.{IsAtEnd, ReadsOn, stopped};
-ghost use Rattle.transcript_text.specs.PrefixReading.{AreStepsThere};
+ghost use Rattle.transcript_text.specs.Pieces.{AreStepsThere, IsAtEnd, ReadsOn, stopped};
 ghost use Rattle.transcript_text.specs.Steps.{Gives};
 
 use crate::error::TextErr;

@@ -13,6 +13,7 @@ use std::alloc::{AllocError as NoMemory, Global};
 use std::test::Fail;
 use transcript_text::TextErr;
 use transcript_text::beginning::read_prefix;
+use transcript_text::reader::TranscriptReader;
 
 // What is kept of a text.
 #[derive(Clone, Copy)]
@@ -76,13 +77,41 @@ fn is_kept(prefix: &Prefix, kept: Kept) -> bool {
     }
 }
 
-// Whether reading the text as a beginning gives this.
-fn keeps(alloc: Global, sc: &Scenario, book: &Book, text: &[u8], answer: Answer) -> bool {
-    match (read_prefix(alloc, text, sc, book), answer) {
+// Whether what was read as a beginning is this.
+fn is_answer(read: Result<Prefix, TextErr>, answer: Answer) -> bool {
+    match (read, answer) {
         (Ok(prefix), Ok(kept)) => is_kept(&prefix, kept),
         (Err(why), Err(wanted)) => why == wanted,
         _ => false,
     }
+}
+
+// What the reader of pieces makes of these, handed out in pieces of so many bytes behind a first one.
+fn read_pieces(
+    alloc: Global,
+    sc: &Scenario,
+    book: &Book,
+    text: &[u8],
+    first: usize,
+    others: usize,
+) -> Result<Prefix, TextErr> {
+    let mut reader = TranscriptReader::new(alloc).feed(sc, book, &text[..first])?;
+    for piece in text[first..].chunks(others) {
+        reader = reader.feed(sc, book, piece)?;
+    }
+    reader.finish_prefix(sc, book)
+}
+
+// Whether reading the text as a beginning gives this: at once, in two pieces cut anywhere, and in pieces of one and of seven bytes.
+fn keeps(alloc: Global, sc: &Scenario, book: &Book, text: &[u8], answer: Answer) -> bool {
+    for cut in 0..text.len() + 1 {
+        if !is_answer(read_pieces(alloc, sc, book, text, cut, text.len() + 1), answer) {
+            return false;
+        }
+    }
+    is_answer(read_prefix(alloc, text, sc, book), answer)
+        && is_answer(read_pieces(alloc, sc, book, text, 0, 1), answer)
+        && is_answer(read_pieces(alloc, sc, book, text, 0, 7), answer)
 }
 
 const NOTHING: Answer = Ok(Kept::Nothing);

@@ -5,7 +5,7 @@ use Rattle.std.specs.Prelude.{Err}
 use Rattle.auction_core.specs.Setup.{IsOfAuction}
 use Rattle.batch_list.specs.ListOf.{ListedNames}
 use Rattle.commands.specs.declared.inputs.Inputs.{Inputs}
-use Rattle.commands.specs.declared.inputs.Stop.TheVariants.{NoMemory}
+use Rattle.commands.specs.declared.input_file.Stop.TheVariants.{NoMemory}
 use Rattle.commands.specs.Batch.{Unread, each_inputs, inputs_beside}
 use Rattle.command_words.specs.Words.{inputs_with}
 use Rattle.commands.specs.BatchEnds.{StopsAsHeld}

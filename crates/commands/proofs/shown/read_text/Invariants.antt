@@ -1,5 +1,5 @@
 use Rattle.std.proofs.Common.{◌≡◌, ◌≤◌, ◌-◌}
-use Rattle.commands.specs.Inputs.{file_limit}
+use Rattle.commands.specs.Inputs.{transcript_limit}
 use Rattle.commands.proofs.TextReading.{IsReading}
 use Rattle.commands.proofs.shown.read_text.Given as goal
 
@@ -8,7 +8,7 @@ invariant-loop-piece g l = record {
   so_far : IsReading l.fn.inputs (g.F.Folder.told l.fn.folder).files l.fn.name (g.F.Folder.left l.folder) (g.F.Folder.come l.folder) l.reader;
   files : (g.F.Folder.told l.folder).files ≡ (g.F.Folder.told l.fn.folder).files;
   steady : (g.F.Folder.told l.folder).steady ≡ (g.F.Folder.told l.fn.folder).steady;
-  most : g.F.Folder.most l.folder ≡ file_limit;
+  most : g.F.Folder.most l.folder ≡ transcript_limit;
   kept : (g.F.Folder.told l.fn.folder).faults ≤ (g.F.Folder.told l.folder).faults;
   uncounted : (g.F.Folder.told l.folder).faults ≡ (g.F.Folder.told l.fn.folder).faults;
 }

@@ -4,12 +4,12 @@ use Rattle.transcript_text.proofs.reader.steps_read.Goals as goal
 pub returns-then-read : goal.returns-then-read
 returns-then-read c =
     whole-says c.args.sc.now c.args.book.now c.args.begun c.again.result c.args.lines c.in-Ok.read (record { begun = c.read.inside.begun; rest = c.read.inside.rest; ended = c.read.inside.ended }) c.again.ensures c.read.view_is
-    c.in-Ok.ensures.read c.if-read.true
+    c.in-Ok.ensures.read c.in-Ok.ensures.there c.if-read.true
 
 pub returns-in-Ok : goal.returns-in-Ok
 returns-in-Ok c =
     steps-say c.args.sc.now c.args.book.now c.args.begun c.again.result c.args.lines c.in-Ok.read (record { begun = c.read.inside.begun; rest = c.read.inside.rest; ended = c.read.inside.ended }) c.again.ensures c.read.view_is
-    c.in-Ok.ensures.read c.if-read.false
+    c.in-Ok.ensures.read c.in-Ok.ensures.there c.if-read.false
 
 pub returns-in-Err : goal.returns-in-Err
-returns-in-Err c = steps-stopped c.args.sc.now c.args.book.now c.args.begun c.again.result c.args.lines c.in-Err.why c.in_ok-stage_by-in-Err.field-0 c.again.ensures c.in-Err.ensures.read c.in_ok-stage_by-in-Err.ensures
+returns-in-Err c = steps-stopped c.args.sc.now c.args.book.now c.args.begun c.again.result c.args.lines c.in-Err.why c.in_ok-stage_by-in-Err.field-0 c.again.ensures c.in-Err.ensures.read c.in-Err.ensures.there c.in_ok-stage_by-in-Err.ensures

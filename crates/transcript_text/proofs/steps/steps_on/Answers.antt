@@ -1,6 +1,5 @@
 use Rattle.std.proofs.Common.{◌≡◌, ◌∙◌, Ok, ap, length, subst, sym}
-use Rattle.transcript_text.specs.Pieces.{ReadsOn, StepsSoFar, stopped}
-use Rattle.transcript_text.specs.PrefixReading.{AreStepsThere}
+use Rattle.transcript_text.specs.Pieces.{AreStepsThere, ReadsOn, StepsSoFar, stopped}
 use Rattle.transcript_text.specs.Reading.{next_step}
 use Rattle.transcript_text.specs.Steps.{Fails}
 use Rattle.transcript_text.proofs.Ahead.{asked-same, end-read, step-read-as, stop-read}

@@ -1,12 +1,12 @@
-use Rattle.std.proofs.Common.{◌≡◌, length}
-use Rattle.transcript_text.specs.PrefixReading.{goes_on_there}
+use Rattle.std.proofs.Common.{length}
 use Rattle.transcript_text.proofs.Ahead.{AreRead}
+use Rattle.transcript_text.proofs.PrefixSteps.{AreThere}
 use Rattle.transcript_text.proofs.steps.steps_on.Given as goal
 
 abbrev pub invariant-loop-next : goal.invariant-loop-next
 invariant-loop-next l = record {
   read : AreRead l.sc l.book l.fn.begun l.fn.lines (record { order = l.order; start = l.start; steps = l.steps.items }) l.rest;
-  there : goes_on_there l.sc l.book l.fn.begun l.fn.lines ≡ goes_on_there l.sc l.book (record { order = l.order; start = l.start; steps = l.steps.items }) l.rest;
+  there : AreThere l.sc l.book l.fn.begun l.fn.lines (record { order = l.order; start = l.start; steps = l.steps.items }) l.rest;
 }
 
 abbrev pub decreases-loop-next : goal.decreases-loop-next
