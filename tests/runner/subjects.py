@@ -10,8 +10,10 @@ from tree import TOP, units
 
 # The seconds that one test may take: those of large files are slow without optimization.
 SECONDS = 900
-# The seed and the number of the runs of `benchmarks/hostile`.
+# The seed and the number of the runs of `tests/search/hostile`.
 HOSTILE = ("--seed", "57", "--runs", "1500", "--jobs", "1")
+# Where the shell scripts are, beside `repack`.
+FOLDERS_OF_SCRIPTS = (".ci", "release", "tests", "tests/search", "benchmarks/time")
 NO_PROGRAM = "no program of these sources is built; ./repack --version builds it"
 NO_RT = "the toolchain's command rt is not on the path"
 NO_SHELLCHECK = "shellcheck is not installed"
@@ -157,12 +159,12 @@ def memory():
         is_told = status == 0 or any(result.outcome == "failed" for result in found)
         return found if found and is_told else [*found, *by_status("memory")(printed, 1)]
 
-    return program_job("memory", 90, ("benchmarks/memory", "--short"), read)
+    return program_job("memory", 90, ("tests/search/memory", "--short"), read)
 
 
 def hostile():
     """The job that runs the program on hostile words and files."""
-    return program_job("hostile", 80, ("benchmarks/hostile", *HOSTILE), by_status("hostile"))
+    return program_job("hostile", 80, ("tests/search/hostile", *HOSTILE), by_status("hostile"))
 
 
 def mutants():
@@ -172,7 +174,7 @@ def mutants():
 
 def shell_scripts():
     """The shell scripts of the repository."""
-    places = [TOP / "repack", *(place for folder in (".ci", "release", "tests", "benchmarks") for place in sorted((TOP / folder).iterdir()))]
+    places = [TOP / "repack", *(place for folder in FOLDERS_OF_SCRIPTS for place in sorted((TOP / folder).iterdir()))]
     return [place for place in places if place.is_file() and place.read_bytes().startswith(b"#!/bin/sh")]
 
 
@@ -196,5 +198,6 @@ OTHERS = {
     "hostile": lambda: [hostile()],
     "mutants": lambda: [mutants()],
     "documents": lambda: [cases("documents", 2, "tests/documents", plain_job)],
+    "plain": lambda: [cases("plain", 1, "tests/plain", plain_job)],
     "scripts": lambda: [script_job(script) for script in shell_scripts()],
 }
