@@ -7,6 +7,7 @@ use outside_io::real::{RealFolder, RealSink};
 use outside_io::sink::{Failed, Sink};
 use std::alloc::{AllocError as NoMemory, Global};
 use std::fs;
+use std::io::Write;
 use std::test::Fail;
 
 // Loads two files, the second only after the first.
@@ -381,10 +382,9 @@ fn the_system_gives_a_file_in_pieces(rt: HostRuntime) -> Result<(), Fail> {
     );
     const ROWS: &[(&str, u64, &str)] = &[
         ("pieces", 70_000, "-Wr0"),
-        ("pieces", 69_999, "-WT0"),
-        ("pieces", 65_536, "-WT0"),
-        ("pieces", 65_535, "-T00"),
-        ("pieces", 0, "-T00"),
+        ("pieces", 69_999, "T000"),
+        ("pieces", 65_535, "T000"),
+        ("pieces", 0, "T000"),
         ("absent", 9, "F000"),
         (".", 9, "-F00"),
     ];
@@ -393,6 +393,25 @@ fn the_system_gives_a_file_in_pieces(rt: HostRuntime) -> Result<(), Fail> {
         assert_eq!(rt; told.as_str(), *want, "{name} {limit}");
     }
     fs::remove_file(&rt, "pieces")?;
+    Ok(())
+}
+
+// A file that grows behind the limit once it is begun is too long at the piece that passes it.
+#[test]
+fn the_system_gives_a_file_that_grows(rt: HostRuntime) -> Result<(), Fail> {
+    let bytes = counted(rt.alloc(), 70_000)?;
+    let mut folder = RealFolder::new(&rt, rt.alloc());
+    let mut into = Vec::new(rt.alloc());
+    let mut told = String::new(rt.alloc());
+    assert_eq!(rt; folder.store("grows", &bytes), Ok(()));
+    assert_eq!(rt; folder.begin("grows", 70_000), Ok(()));
+    let mut grown = fs::OpenOptions::new().append(true).open(&rt, "grows")?;
+    assert_eq!(rt; grown.write(b"x")?, 1);
+    for _ in 0..3 {
+        told.push(answer(&mut folder, b'p', &mut into))?;
+    }
+    assert_eq!(rt; told.as_str(), "WT0");
+    fs::remove_file(&rt, "grows")?;
     Ok(())
 }
 

@@ -68,8 +68,8 @@ const PLAIN: &[ResumeRow] = &[
         Change::Nothing,
         SETTLED,
     ),
-    // A file or the sink fails: domains and rows are begun and handed out in pieces, of which the last is empty; the scenario and
-    // the beginning are one load each, and behind them come the stores.
+    // A file or the sink fails: domains, rows and the beginning are begun and handed out in pieces, of which the last is empty; the
+    // scenario is one load. Behind them come the stores.
     (
         TRANSCRIPT,
         "",
@@ -91,7 +91,26 @@ const PLAIN: &[ResumeRow] = &[
     (
         TRANSCRIPT,
         "",
+        Change::Call(9),
+        "status 3; said: cannot read p.txt\n; no record; no out.csv",
+    ),
+    (
+        TRANSCRIPT,
+        "",
         Change::Call(10),
+        "status 3; said: cannot read p.txt\n; no record; no out.csv",
+    ),
+    // A fault of the text is told once it has been read to its end.
+    (
+        "transcript 3\n",
+        "",
+        Change::Call(10),
+        "status 3; said: cannot read p.txt\n; no record; no out.csv",
+    ),
+    (
+        TRANSCRIPT,
+        "",
+        Change::Call(12),
         "status 4; said: cannot write chan.csv\n; a record; no chan.csv; no tr.txt; out.csv: facility,outcome,round,price\n1,exit,2,0\n2,exit,1,0\n3,frozen,2,60\n",
     ),
     (
