@@ -1,7 +1,7 @@
 """What the launcher says of a scenario whose members may be misspelt: the program passes over a member of a name that it doesn't know,
 and a station whose `value` is called otherwise has none.
 
-A name is told where it is like one that is absent beside it; a note of the author's own is not.
+A name is reported if it is like one that is absent beside it; a note of the author's own is not.
 """
 import difflib
 import functools
