@@ -74,16 +74,16 @@ unread-begun inputs text NoRoom is = tt
 -- ---- the ends before an auction goes on
 
 -- the end where the beginning was not loaded
-pub prefix-unloaded : (names : ResumeNames) (before after : Outside) (status : ℕ) (found : Option Record) (inputs : Inputs) (why : LoadErr) (told : Option (List StoredFile)) (steady : Bool) (faults : ℕ) →
+pub prefix-unloaded : (names : ResumeNames) (before after : Outside) (status : ℕ) (found : Option Record) (inputs : Inputs) (why : LoadErr) (told : Option (List StoredFile)) (steady : Bool) (faults come : ℕ) →
     AreInputsOf names.run_files.inputs before inputs → told ≡ before.files → steady ≡ before.steady → before.faults ≤ faults →
-    IsTextRead inputs told steady faults after.faults names.prefix (Err why) →
+    IsTextRead inputs told steady faults after.faults come names.prefix (Err why) →
     ExplainsLoad names.prefix why before.held after.held before.cuts after.cuts status →
     found ≡ None → after.files ≡ before.files → ResumeEnds names before after status found
-prefix-unloaded names before after status found inputs Failed told steady faults are is same kept h e none files =
+prefix-unloaded names before after status found inputs Failed told steady faults come are is same kept h e none files =
     PrefixNotLoaded inputs are (Unloaded e.0 (rises-before before.faults faults after.faults kept h.0) (λ own at still. h.1 own (is ∙ at) (same ∙ still)) e.1) none files
-prefix-unloaded names before after status found inputs TooLong told steady faults are is same kept h e none files =
+prefix-unloaded names before after status found inputs TooLong told steady faults come are is same kept h e none files =
     PrefixNotLoaded inputs are (LongText e.0 (λ own at. h own (is ∙ at)) e.1) none files
-prefix-unloaded names before after status found inputs NoLoad told steady faults are is same kept h e none files =
+prefix-unloaded names before after status found inputs NoLoad told steady faults come are is same kept h e none files =
     ResumeStarved (record { status_is = e.0; found_is = none; line = e.1; files = files })
 
 -- the end where no auction goes on from it

@@ -1,10 +1,10 @@
 -- A transcript's file, read piece by piece: the reader has read what was handed out.
-use Rattle.std.proofs.Common.{◌≡◌, ◌≢◌, ◌∙◌, ◌≤◌, ◌<◌, ◌+◌, ◌++◌, [], ℕ, Bool, true, List, length, refl, sym, ap, subst, arith}
+use Rattle.std.proofs.Common.{◌≡◌, ◌≢◌, ◌∙◌, ◌≤◌, ◌<◌, ◌+◌, ◌++◌, [], ◌∷◌, ℕ, suc, Bool, true, List, length, take, drop, refl, sym, ap, subst, arith}
 use Rattle.std.proofs.lemmas.List.{length-append}
 use Rattle.std.specs.Prelude.{Option, Some, None, Result, Ok, Err}
 use Rattle.outside_io.specs.Faults.{HasRisen}
 use Rattle.outside_io.specs.Files.{StoredFile, bytes_of}
-use Rattle.outside_io.specs.Pieces.{Begins, BeginsFile, HandedAll, HandedSoFar, HandsOut}
+use Rattle.outside_io.specs.Pieces.{Begins, BeginsFile, HandedAll, HandedSoFar, HandsOut, piece_size}
 use Rattle.outside_io.specs.declared.folder.LoadErr.{LoadErr}
 use Rattle.outside_io.specs.declared.folder.LoadErr.TheVariants.{Failed, TooLong, NoMemory as NoLoad}
 use Rattle.outside_io.proofs.PieceLaws.{begun-none, handed-all, handed-more}
@@ -42,10 +42,10 @@ reading-goes-on inputs told name left after come now piece read more u r hands c
 -- a piece of no bytes ends the file
 pub reading-ends : (inputs : Inputs) (told : Option (List StoredFile)) (name : List ℕ) (left after : Option (List ℕ)) (come now most : ℕ) (piece : List ℕ) (read : ReadSoFar) (u : Unit {0}) (steady : Bool) (before faults : ℕ) → IsReading inputs told name left come read
     → HandsOut left after (Ok u) piece → length piece ≡ 0 → now ≡ come + length piece → now ≤ most → most ≡ transcript_limit
-    → IsTextRead inputs told steady before faults name (Ok read)
+    → IsTextRead inputs told steady before faults now name (Ok read)
 reading-ends inputs told name left after come now most piece read u steady before faults r hands none counts within limit =
     let all = handed-all told name r.bytes piece left after u r.handed hands none in
-    (r.bytes, r.has_read, λ files at. (subst (λ o. HandedAll o name r.bytes) at all, omega (arith, r.so_many, none, counts, within, limit)))
+    (r.bytes, r.has_read, omega (arith, r.so_many, none, counts), λ files at. (subst (λ o. HandedAll o name r.bytes) at all, omega (arith, r.so_many, none, counts, within, limit)))
 
 -- ---- the file that isn't read to its end
 
@@ -61,26 +61,43 @@ abbrev failing : LoadErr → Result (Unit {0}) LoadErr
 failing why = Err why
 
 -- it isn't begun
-pub begin-fails : (inputs : Inputs) (told : Option (List StoredFile)) (name : List ℕ) (left : Option (List ℕ)) (steady : Bool) (before now : ℕ) (why : LoadErr) → Begins told name transcript_limit (Err why) left
+pub begin-fails : (inputs : Inputs) (told : Option (List StoredFile)) (name : List ℕ) (left : Option (List ℕ)) (steady : Bool) (before now come : ℕ) (why : LoadErr) → Begins told name transcript_limit (Err why) left
     → (failing why ≡ Err Failed → HasRisen before now)
     → ((files : List StoredFile) (bytes : List ℕ) → steady ≡ true → told ≡ Some files → bytes_of files name ≡ Some bytes → failing why ≢ Err Failed)
-    → IsTextRead inputs told steady before now name (Err why)
-begin-fails inputs told name left steady before now Failed begun rises surely =
+    → IsTextRead inputs told steady before now come name (Err why)
+begin-fails inputs told name left steady before now come Failed begun rises surely =
     (rises refl, λ files at still. is-absent (bytes_of files name) (λ bytes is. surely files bytes still at is refl))
-begin-fails inputs told name left steady before now TooLong begun rises surely =
+begin-fails inputs told name left steady before now come TooLong begun rises surely =
     λ files at. is-long (bytes_of files name) transcript_limit left (subst (λ o. Begins o name transcript_limit (Err TooLong) left) at begun)
-begin-fails inputs told name left steady before now NoLoad begun rises surely = tt
+begin-fails inputs told name left steady before now come NoLoad begun rises surely = tt
 
 never-long : (files : List StoredFile) (name done : List ℕ) (left after : Option (List ℕ)) (piece : List ℕ) → HandedSoFar (Some files) name done left → HandsOut left after (Err TooLong) piece → ⊥
 never-long files name done left after piece so_far hands = subst (λ o. HandsOut o after (Err TooLong) piece) so_far.1 hands
 
 -- a piece of it isn't handed out
-pub reading-fails : (inputs : Inputs) (told : Option (List StoredFile)) (name : List ℕ) (left after : Option (List ℕ)) (come : ℕ) (piece : List ℕ) (read : ReadSoFar) (steady still : Bool) (before middle now : ℕ) (why : LoadErr) → IsReading inputs told name left come read
+pub reading-fails : (inputs : Inputs) (told : Option (List StoredFile)) (name : List ℕ) (left after : Option (List ℕ)) (come : ℕ) (piece : List ℕ) (read : ReadSoFar) (steady still : Bool) (before middle now at_end : ℕ) (why : LoadErr) → IsReading inputs told name left come read
     → HandsOut left after (Err why) piece → before ≤ middle → (failing why ≡ Err Failed → HasRisen middle now)
     → still ≡ steady → (still ≡ true → failing why ≢ Err Failed)
-    → IsTextRead inputs told steady before now name (Err why)
-reading-fails inputs told name left after come piece read steady still before middle now Failed r hands kept rises same surely =
+    → IsTextRead inputs told steady before now at_end name (Err why)
+reading-fails inputs told name left after come piece read steady still before middle now at_end Failed r hands kept rises same surely =
     (rises-before before middle now kept (rises refl), λ files at is. absurd (surely (same ∙ is) refl))
-reading-fails inputs told name left after come piece read steady still before middle now TooLong r hands kept rises same surely =
+reading-fails inputs told name left after come piece read steady still before middle now at_end TooLong r hands kept rises same surely =
     λ files at. absurd (never-long files name r.bytes left after piece (subst (λ o. HandedSoFar o name r.bytes left) at r.handed) hands)
-reading-fails inputs told name left after come piece read steady still before middle now NoLoad r hands kept rises same surely = tt
+reading-fails inputs told name left after come piece read steady still before middle now at_end NoLoad r hands kept rises same surely = tt
+
+-- ---- whatever the folder tells
+
+no-bytes : (bytes : List ℕ) → length bytes ≡ 0 → bytes ≡ []
+no-bytes [] e = refl
+no-bytes (c ∷ bytes) e = absurd (omega (arith, e))
+
+nothing-taken : (n : ℕ) (left : List ℕ) → take (suc n) left ≡ [] → left ≡ []
+nothing-taken n [] e = refl
+nothing-taken n (c ∷ left) e = cc
+
+-- where a piece of no bytes came the file has ended
+pub has-ended : (left after : Option (List ℕ)) (piece : List ℕ) (u : Unit {0}) → HandsOut left after (Ok u) piece → length piece ≡ 0 → after ≡ Some []
+has-ended None after piece u hands none = hands.0 (no-bytes piece none)
+has-ended (Some left) after piece u hands none =
+    let empty : left ≡ [] = nothing-taken 65535 left (sym hands.0 ∙ no-bytes piece none) in
+    hands.1 ∙ ap (λ (bytes : List ℕ). Some (drop piece_size bytes)) empty

@@ -32,16 +32,16 @@ use Rattle.commands.proofs.SaysLemmas.{rises-before}
 -- ---- the reading
 
 -- the end where it was not loaded
-pub unloaded-ends : (names : VerifyNames) (before after : Outside) (status : ℕ) (found : Option Record) (inputs : Inputs) (why : LoadErr) (told : Option (List StoredFile)) (steady : Bool) (faults : ℕ) →
+pub unloaded-ends : (names : VerifyNames) (before after : Outside) (status : ℕ) (found : Option Record) (inputs : Inputs) (why : LoadErr) (told : Option (List StoredFile)) (steady : Bool) (faults come : ℕ) →
     AreInputsOf names.inputs before inputs → told ≡ before.files → steady ≡ before.steady → before.faults ≤ faults →
-    IsTextRead inputs told steady faults after.faults names.transcript (Err why) →
+    IsTextRead inputs told steady faults after.faults come names.transcript (Err why) →
     ExplainsLoad names.transcript why before.held after.held before.cuts after.cuts status →
     found ≡ None → after.files ≡ before.files → VerifyEnds names before after status found
-unloaded-ends names before after status found inputs Failed told steady faults are is same kept h e none files =
+unloaded-ends names before after status found inputs Failed told steady faults come are is same kept h e none files =
     NotLoaded inputs are (Unloaded e.0 (rises-before before.faults faults after.faults kept h.0) (λ own at still. h.1 own (is ∙ at) (same ∙ still)) e.1) none files
-unloaded-ends names before after status found inputs TooLong told steady faults are is same kept h e none files =
+unloaded-ends names before after status found inputs TooLong told steady faults come are is same kept h e none files =
     NotLoaded inputs are (LongText e.0 (λ own at. h own (is ∙ at)) e.1) none files
-unloaded-ends names before after status found inputs NoLoad told steady faults are is same kept h e none files =
+unloaded-ends names before after status found inputs NoLoad told steady faults come are is same kept h e none files =
     VerifyStarved (record { status_is = e.0; found_is = none; line = e.1; files = files })
 
 -- ---- the check

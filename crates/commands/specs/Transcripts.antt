@@ -27,16 +27,16 @@ use Rattle.commands.specs.Verified.{fault_line}
 -- The result of reading the transcript of this name. On success the reader has read some bytes; where the files are modelled,
 -- they are the file's and within the transcript limit. On failure the fault count rose and a steady folder doesn't have the file,
 -- or the file is too long, or memory ran out.
-abbrev pub IsTextRead : Inputs → Option (List StoredFile) → Bool → ℕ → ℕ → List ℕ → Result ReadSoFar LoadErr → Type 0
-IsTextRead inputs told steady before now name (Ok read) =
-    (bytes : List ℕ) × HasRead inputs.scenario inputs.book bytes read ×
+abbrev pub IsTextRead : Inputs → Option (List StoredFile) → Bool → ℕ → ℕ → ℕ → List ℕ → Result ReadSoFar LoadErr → Type 0
+IsTextRead inputs told steady before now come name (Ok read) =
+    (bytes : List ℕ) × HasRead inputs.scenario inputs.book bytes read × (length bytes ≡ come) ×
     ((files : List StoredFile) → told ≡ Some files → (bytes_of files name ≡ Some bytes) × (length bytes ≤ transcript_limit))
-IsTextRead inputs told steady before now name (Err Failed) =
+IsTextRead inputs told steady before now come name (Err Failed) =
     HasRisen before now × ((files : List StoredFile) → told ≡ Some files → steady ≡ true → bytes_of files name ≡ None)
-IsTextRead inputs told steady before now name (Err TooLong) =
+IsTextRead inputs told steady before now come name (Err TooLong) =
     (files : List StoredFile) → told ≡ Some files →
     (bytes : List ℕ) × (bytes_of files name ≡ Some bytes) × (transcript_limit < length bytes)
-IsTextRead inputs told steady before now name (Err NoLoad) = ⊤
+IsTextRead inputs told steady before now come name (Err NoLoad) = ⊤
 
 -- The status and the line for a transcript that was not loaded.
 abbrev pub ExplainsLoad : List ℕ → LoadErr → Option (List ℕ) → Option (List ℕ) → ℕ → ℕ → ℕ → Type 0

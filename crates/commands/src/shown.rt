@@ -2,12 +2,14 @@
 //!
 //! `verify`, `export` and `import` begin with `shown_by`. `resume` uses `read_text` and the messages.
 
-ghost use Rattle.std.specs.Prelude.{◌≡◌, ◌≢◌, ◌≤◌, [], ℕ, IfErr, IfOk, List, None, Ok, Err, OnOk};
+ghost use Rattle.std.specs.Prelude.{◌≡◌, ◌≢◌, ◌⊎◌, ◌<◌, ◌≤◌, ◌+◌, [], ℕ, IfErr, IfOk, List, None, Some, Ok, Err, OnOk};
+ghost use Rattle.outside_io.specs.Pieces.{piece_size};
 ghost use Rattle.pack_defs.specs.Scenario.{IsWithinLimits};
 ghost use Rattle.auction_core.specs.Setup.{IsOfAuction};
 ghost use Rattle.transcript_text.specs.Pieces.{HasRead};
 ghost use Rattle.commands.specs.Ends.{IsShown, VerifyEnds};
 ghost use Rattle.commands.specs.Faults.{AreFaultsCounted};
+ghost use Rattle.commands.specs.Inputs.{transcript_limit};
 ghost use Rattle.commands.specs.Outside.{outside};
 ghost use Rattle.commands.specs.Transcripts.{ExplainsDenied, ExplainsLoad, IsFileRead, IsTextRead, IsVerdict, not_read};
 ghost use Rattle.commands.specs.Verified.{record_by, verified};
@@ -64,12 +66,16 @@ pub(crate) fn read_text<F: Folder>(
     name: &str,
 ) -> Result<TranscriptReader, LoadErr>
     requires { IsWithinLimits inputs.now.scenario }
-    ensures read { IsTextRead inputs.now
-        (F.told folder.old).files (F.told folder.old).steady (F.told folder.old).faults (F.told folder.new).faults name.now result }
+    ensures read { IsTextRead inputs.now (F.told folder.old).files (F.told folder.old).steady
+        (F.told folder.old).faults (F.told folder.new).faults (F.come folder.new) name.now result }
     ensures files { (F.told folder.new).files ≡ (F.told folder.old).files }
     ensures steady { (F.told folder.new).steady ≡ (F.told folder.old).steady }
     ensures counted { (F.told folder.old).faults ≤ (F.told folder.new).faults }
     ensures uncounted { result ≢ Err LoadErr.Failed → (F.told folder.new).faults ≡ (F.told folder.old).faults }
+    // Whatever the folder tells: the file was read to its end, and is too long by its length or at a piece near the limit.
+    ensures ended { OnOk result (F.left folder.new ≡ Some []) }
+    ensures within { OnOk result (F.come folder.new ≤ transcript_limit) }
+    ensures long { result ≡ Err LoadErr.TooLong → (F.come folder.new ≡ 0) ⊎ (transcript_limit < F.come folder.new + piece_size) }
 {
     let mut reader = TranscriptReader::new(alloc);
     let mut piece = Vec::new(alloc);

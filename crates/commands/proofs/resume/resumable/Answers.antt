@@ -7,12 +7,12 @@ use Rattle.commands.proofs.resume.resumable.Goals as goal
 pub returns-in-Err-read_text-clause-ends : goal.returns-in-Err-read_text-clause-ends
 returns-in-Err-read_text-clause-ends g c =
     rw c.without_record-in-Err-read_text.ensures.status
-    (prefix-unloaded (resume_seen c.args.files.now) _ _ _ _ c.in-Ok.inputs c.in-Err-read_text.why _ _ _ c.in-Ok.ensures.told c.in-Ok.ensures.files c.in-Ok.ensures.steady c.in-Ok.ensures.counted.kept
+    (prefix-unloaded (resume_seen c.args.files.now) _ _ _ _ c.in-Ok.inputs c.in-Err-read_text.why _ _ _ (g.F.Folder.come c.read_text.new.folder) c.in-Ok.ensures.told c.in-Ok.ensures.files c.in-Ok.ensures.steady c.in-Ok.ensures.counted.kept
     c.in-Err-read_text.ensures.read c.say_unloaded.ensures c.without_record-in-Err-read_text.ensures.none (c.in-Err-read_text.ensures.files ∙ c.in-Ok.ensures.files))
 
 pub returns-in-Ok-begun-clause-resumable : goal.returns-in-Ok-begun-clause-resumable
 returns-in-Ok-begun-clause-resumable g c =
-    let (text, read, is) = c.in-Ok-read_text.ensures.read in
+    let (text, read, so_many, is) = c.in-Ok-read_text.ensures.read in
     let (kept, sound, behind) = c.in-Ok-begun.ensures text read in
     record {
       accepted = c.in-Ok.ensures.told;
@@ -26,7 +26,7 @@ returns-in-Ok-begun-clause-resumable g c =
 
 pub returns-in-Err-begun-clause-ends : goal.returns-in-Err-begun-clause-ends
 returns-in-Err-begun-clause-ends g c =
-    let (text, read, is) = c.in-Ok-read_text.ensures.read in
+    let (text, read, so_many, is) = c.in-Ok-read_text.ensures.read in
     rw c.without_record-in-Err-begun.ensures.status
     (not-begun (resume_seen c.args.files.now) _ _ _ _ c.in-Ok.inputs text c.in-Err-begun.why c.in-Ok.ensures.told c.keeps_named_numbers.ensures
     (λ files at. is files (c.in-Ok.ensures.files ∙ at))

@@ -7,12 +7,12 @@ use Rattle.commands.proofs.shown.shown_by.Goals as goal
 pub returns-in-Err-read_text-clause-ends : goal.returns-in-Err-read_text-clause-ends
 returns-in-Err-read_text-clause-ends g c =
     rw c.without_record-in-Err-read_text.ensures.status
-    (unloaded-ends (verify_seen c.args.files.now) _ _ _ _ c.in-Ok.inputs c.in-Err-read_text.why _ _ _ c.in-Ok.ensures.told c.in-Ok.ensures.files c.in-Ok.ensures.steady c.in-Ok.ensures.counted.kept
+    (unloaded-ends (verify_seen c.args.files.now) _ _ _ _ c.in-Ok.inputs c.in-Err-read_text.why _ _ _ (g.F.Folder.come c.read_text.new.folder) c.in-Ok.ensures.told c.in-Ok.ensures.files c.in-Ok.ensures.steady c.in-Ok.ensures.counted.kept
     c.in-Err-read_text.ensures.read c.say_unloaded.ensures c.without_record-in-Err-read_text.ensures.none (c.in-Err-read_text.ensures.files ∙ c.in-Ok.ensures.files))
 
 pub returns-in-Ok-record_of-clause-shown : goal.returns-in-Ok-record_of-clause-shown
 returns-in-Ok-record_of-clause-shown g c =
-    let (text, read, is) = c.in-Ok-read_text.ensures.read in
+    let (text, read, so_many, is) = c.in-Ok-read_text.ensures.read in
     let (sound, own) = c.in-Ok-record_of.ensures text read in
     record {
       accepted = c.in-Ok.ensures.told;
@@ -25,7 +25,7 @@ returns-in-Ok-record_of-clause-shown g c =
 
 pub returns-in-Err-record_of-clause-ends : goal.returns-in-Err-record_of-clause-ends
 returns-in-Err-record_of-clause-ends g c =
-    let (text, read, is) = c.in-Ok-read_text.ensures.read in
+    let (text, read, so_many, is) = c.in-Ok-read_text.ensures.read in
     rw c.without_record-in-Err-record_of.ensures.status
     (denied-ends (verify_seen c.args.files.now) _ _ _ _ c.in-Ok.inputs text c.in-Err-record_of.why c.in-Ok.ensures.told c.keeps_named_numbers.ensures
     (λ files at. is files (c.in-Ok.ensures.files ∙ at))
